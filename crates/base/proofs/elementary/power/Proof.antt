@@ -1,0 +1,42 @@
+use borrow.Author.Needs.{needs}
+use mathlib.Core.Path.{_≡_, sym, ap, _∙_}
+use Prim.Native.Nat.{ℕ, _^_}
+use lib.Ieee.{toUnsigned}
+use Rattle.base.specs.Double.{fraction}
+use Rattle.base.specs.Number.{absOf}
+use Rattle.base.specs.Elementary.{powerOf}
+use Rattle.base.proofs.Picks.{cond-true, cond-false}
+use Rattle.base.proofs.elementary.power.Statement.{statement}
+use Rattle.base.proofs.elementary.power.Tie as tie
+
+abs64-requires : tie.Need-abs64-requires
+abs64-requires c κs = search needs
+
+to-u64-requires : tie.Need-to-u64-requires
+to-u64-requires c κs = search needs
+
+is-negative-requires : tie.Need-is-negative-requires
+is-negative-requires c κs = search needs
+
+power-down-requires : tie.Need-power-down-requires
+power-down-requires c κs = search needs
+
+power-up-requires : tie.Need-power-up-requires
+power-up-requires c κs = search needs
+
+returns : tie.Need-returns
+unfolding powerOf
+returns c =
+    let w = c .before .before .before in
+    let k : w .to-u64 .result ≡ toUnsigned 64 (absOf (w .before .before .args .n)) = w .to-u64 .ensures ∙ ap (toUnsigned 64) (w .before .abs64 .ensures) in
+    c .power-down .ensures ∙ ap (λ (u : ℕ). fraction 1 (2 ^ u)) k ∙ sym (cond-true _ _ (sym (c .before .before .is-negative .ensures) ∙ c .before .if1 .taken))
+
+returns-2 : tie.Need-returns-2
+unfolding powerOf
+returns-2 c =
+    let w = c .before .before .before in
+    let k : w .to-u64 .result ≡ toUnsigned 64 (absOf (w .before .before .args .n)) = w .to-u64 .ensures ∙ ap (toUnsigned 64) (w .before .abs64 .ensures) in
+    c .power-up .ensures ∙ ap (λ (u : ℕ). fraction (2 ^ u) 1) k ∙ sym (cond-false _ _ (sym (c .before .before .is-negative .ensures) ∙ c .before .if1 .left))
+
+pub power-spec : {M : Type 1} → statement M
+power-spec = tie.close (tie.spec abs64-requires to-u64-requires is-negative-requires power-down-requires power-up-requires returns returns-2)

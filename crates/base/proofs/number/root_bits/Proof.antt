@@ -1,0 +1,51 @@
+use borrow.Author.Needs.{needs}
+use mathlib.Core.Path.{sym, subst}
+use native.Mathlib.Omega.{arith}
+use Rattle.base.proofs.Sorts.{Rooted, lead, no-wrap, subnormal-root, normal-root}
+use Rattle.base.proofs.number.root_bits.Statement.{statement}
+use Rattle.base.proofs.number.root_bits.Tie as tie
+
+cast-shift : tie.Need-cast-shift
+cast-shift c = omega (arith, lead (c .before .args .b) (c .before .pre .0) (c .if1 .taken) .1)
+
+sub-shift : tie.Need-sub-shift
+sub-shift c = lead (c .before .args .b) (c .before .pre .0) (c .if1 .taken) .0
+
+shl-scaled-root : tie.Need-shl-scaled-root
+shl-scaled-root c = omega (arith, lead (c .before .args .b) (c .before .pre .0) (c .if1 .taken) .1)
+
+sub-scaled-root : tie.Need-sub-scaled-root
+sub-scaled-root c = omega (arith, lead (c .before .args .b) (c .before .pre .0) (c .if1 .taken) .1)
+
+scaled-root-requires : tie.Need-scaled-root-requires
+scaled-root-requires c κs = omega (arith, no-wrap (c .before .args .b) (c .before .pre .0) (c .if1 .taken), lead (c .before .args .b) (c .before .pre .0) (c .if1 .taken) .1, lead (c .before .args .b) (c .before .pre .0) (c .if1 .taken) .2, lead (c .before .args .b) (c .before .pre .0) (c .if1 .taken) .3)
+
+add-scaled-root : tie.Need-add-scaled-root
+add-scaled-root c = search needs
+
+add-scaled-root-2 : tie.Need-add-scaled-root-2
+add-scaled-root-2 c = search needs
+
+scaled-root-requires-2 : tie.Need-scaled-root-requires-2
+scaled-root-requires-2 c κs = search needs
+
+returns : tie.Need-returns
+returns c = subst (Rooted (c .before .before .args .b)) (sym (c .scaled-root .ensures)) (subnormal-root (c .before .before .args .b) (c .before .before .pre .0) (c .before .if1 .taken))
+
+returns-2 : tie.Need-returns-2
+returns-2 c = subst (Rooted (c .before .before .args .b)) (sym (c .scaled-root2 .ensures)) (normal-root (c .before .before .args .b) (c .before .if1 .left) (c .before .before .pre .1))
+
+pub root-bits-spec : {M : Type 1} → statement M
+root-bits-spec =
+    tie.close
+    (tie.spec
+    cast-shift
+    sub-shift
+    shl-scaled-root
+    sub-scaled-root
+    scaled-root-requires
+    add-scaled-root
+    add-scaled-root-2
+    scaled-root-requires-2
+    returns
+    returns-2)

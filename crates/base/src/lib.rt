@@ -1,0 +1,5 @@
+// Arithmetic and files: what the maps and the worksheet stand on.
+pub mod angle;
+pub mod constants;
+pub mod elementary;
+pub mod number;

@@ -1,0 +1,294 @@
+// What Rattle's operators and casts leave out: sizes, the lesser and the greater, conversions and
+// the square root.
+ghost use mathlib.Core.Path.{_≡_};
+ghost use mathlib.Core.Bool.{Bool, cond};
+ghost use Prim.Native.Nat.{_+_, _-_, _*_, _/_, _%_, _^_, _≤_, _<_};
+ghost use lib.Ieee.{binary32, binary64, ofBits, ofInt, toSigned, toUnsigned};
+ghost use lib.Ieee.Nearest.{closest};
+ghost use Rattle.base.specs.Number.{negative, absOf, minOf, maxOf, narrowOf, closestRoot, sqrtOf};
+
+// Whether x has a sign, as -0 has; a NaN has none.
+pub fn is_negative(x: f64) -> bool
+    ensures { λ r. ⌜ r ≡ negative x ⌝ }
+{
+    if x != x {
+        return false;
+    }
+    f64::to_bits(x) >= 0x8000_0000_0000_0000
+}
+
+// |x|, which takes -0 to +0.
+pub fn abs64(x: f64) -> f64
+    ensures { λ r. ⌜ r ≡ absOf x ⌝ }
+{
+    if is_negative(x) { -x } else { x }
+}
+
+// |x|, which takes -0 to +0.
+pub fn abs32(x: f32) -> f32
+    ensures { λ r. ⌜ r ≡ absOf x ⌝ }
+{
+    if is_negative(widen(x)) { -x } else { x }
+}
+
+// The lesser of two, the other one where one is a NaN, and the left of equals.
+pub fn min(a: f32, b: f32) -> f32
+    ensures { λ r. ⌜ r ≡ minOf a b ⌝ }
+{
+    if a != a {
+        b
+    } else if b < a {
+        b
+    } else {
+        a
+    }
+}
+
+// The greater of two, the other one where one is a NaN, and the left of equals.
+pub fn max(a: f32, b: f32) -> f32
+    ensures { λ r. ⌜ r ≡ maxOf a b ⌝ }
+{
+    if a != a {
+        b
+    } else if a < b {
+        b
+    } else {
+        a
+    }
+}
+
+// x as an `f64`, which holds every `f32`; a NaN gives a NaN.
+pub fn widen(x: f32) -> f64
+    ensures { λ r. ⌜ r ≡ x ⌝ }
+{
+    std::num::f32_to_f64_with_nan(x)
+}
+
+// The `f32` nearest to n, as Rust's `as` has it.
+pub fn from_i32(n: i32) -> f32
+    ensures { λ r. ⌜ r ≡ ofInt binary32 n ⌝ }
+{
+    std::num::nearest_i32_to_f32(n)
+}
+
+// x without its fraction, as Rust's `as i32` has it: the nearest end of the range where x is
+// outside, and 0 for a NaN.
+pub fn to_i32(x: f32) -> i32
+    ensures { λ r. ⌜ r ≡ toSigned 31 x ⌝ }
+{
+    if x < 2147483648.0 {
+        if x >= -2147483648.0 {
+            std::num::truncating_f32_to_i64(x) as i32
+        } else {
+            -2147483648
+        }
+    } else if x != x {
+        0
+    } else {
+        2147483647
+    }
+}
+
+// x without its fraction, as Rust's `as u64` has it.
+pub fn to_u64(x: f64) -> u64
+    ensures { λ r. ⌜ r ≡ toUnsigned 64 x ⌝ }
+{
+    if x < 18446744073709551616.0 {
+        if x > -1.0 {
+            std::num::truncating_f64_to_u64(x)
+        } else {
+            0
+        }
+    } else if x != x {
+        0
+    } else {
+        0xffff_ffff_ffff_ffff
+    }
+}
+
+// m / 2^n to the nearest whole number, a tie to the even one.
+fn half_even(m: u64, n: u64) -> u64
+    requires { ⌜ (0 < n) × (n < 64) ⌝ }
+    ensures { λ r. ⌜ r ≡ closest m (2 ^ n) ⌝ }
+{
+    let q = m >> n;
+    let rest = m - (q << n);
+    let half = 1 << (n - 1);
+    if rest < half {
+        q
+    } else if rest == half {
+        q + q % 2
+    } else {
+        q + 1
+    }
+}
+
+// The bits of the `f32` nearest to the `f64` whose bits, without the sign, are b, for either sign.
+fn magnitude(b: u64) -> u64
+    requires { ⌜ b ≤ 2047 * 2 ^ 52 ⌝ }
+    ensures { λ r. ⌜ (r ≤ 255 * 2 ^ 23) × ((s : Bool) → ofBits binary32 (cond s (2 ^ 31) 0 + r) ≡ narrowOf (ofBits binary64 (cond s (2 ^ 63) 0 + b))) ⌝ }
+{
+    let exponent = b / 0x10_0000_0000_0000;
+    let digits = b % 0x10_0000_0000_0000 + 0x10_0000_0000_0000;
+    if exponent <= 872 {
+        0
+    } else if exponent < 897 {
+        half_even(digits, 926 - exponent)
+    } else if exponent < 1151 {
+        (exponent - 897) * 0x80_0000 + half_even(digits, 29)
+    } else {
+        0x7f80_0000
+    }
+}
+
+// The `f32` nearest to x, a tie going to the one whose last digit is even.
+pub fn narrow(x: f64) -> f32
+    ensures { λ r. ⌜ r ≡ narrowOf x ⌝ }
+{
+    if x != x {
+        return 0.0 / 0.0;
+    }
+    let b = f64::to_bits(x);
+    if b < 0x8000_0000_0000_0000 {
+        f32::from_bits(magnitude(b) as u32)
+    } else {
+        f32::from_bits((0x8000_0000 + magnitude(b - 0x8000_0000_0000_0000)) as u32)
+    }
+}
+
+// √(a * 2^52) to the nearest whole number, a binary digit a turn.
+fn nearest_root(a: u64) -> u64
+    requires { ⌜ a < 2 ^ 54 ⌝ }
+    ensures { λ r. ⌜ r ≡ closestRoot (a * 2 ^ 52) 1 ⌝ }
+{
+    // the root of the digits read so far is q, with `rest` left over; `digits` are those to come
+    let mut digits = a;
+    let mut q: u64 = 0;
+    let mut rest: u64 = 0;
+    let mut i: u64 = 0;
+    while i < 53 {
+        let next = rest * 4 + digits / 0x10_0000_0000_0000;
+        let step = q * 4 + 1;
+        digits = digits % 0x10_0000_0000_0000 * 4;
+        if step <= next {
+            rest = next - step;
+            q = q * 2 + 1;
+        } else {
+            rest = next;
+            q = q * 2;
+        }
+        i += 1;
+    }
+    if rest <= q { q } else { q + 1 }
+}
+
+// A guess at √a * 2^26, where i are the bits of a as an `f64`. Nothing is proved of how near it is.
+fn guess(i: u64) -> u64
+    requires { ⌜ i < 2047 * 2 ^ 52 ⌝ }
+    ensures { λ r. ⌜ r < 2 ^ 53 ⌝ }
+{
+    let x = f64::from_bits(i);
+    let half = x * 0.5;
+    let y0 = f64::from_bits(0x5fe6_eb50_c7b5_37a9 - i / 2);
+    let y1 = y0 * (1.5 - half * y0 * y0);
+    let y2 = y1 * (1.5 - half * y1 * y1);
+    let y3 = y2 * (1.5 - half * y2 * y2);
+    let y4 = y3 * (1.5 - half * y3 * y3);
+    let s = x * y4 * 67108864.0 - 3.0;
+    if s > -1.0 {
+        if s < 18446744073709551616.0 {
+            let g = std::num::truncating_f64_to_u64(s);
+            if g < 0x20_0000_0000_0000 {
+                return g;
+            }
+        }
+    }
+    0
+}
+
+// √(a * 2^52) to the nearest whole number, from a guess g a little below it: the square of g is
+// taken off exactly, in two parts, and what is left says how many to add. A guess that is above the
+// root, or far below, is not used.
+fn refined(a: u64, g: u64) -> u64
+    requires { ⌜ (a < 2 ^ 54) × (g < 2 ^ 53) ⌝ }
+    ensures { λ r. ⌜ r ≡ closestRoot (a * 2 ^ 52) 1 ⌝ }
+{
+    let h = g / 0x800_0000;
+    let l = g % 0x800_0000;
+    let square = h * h * 4;
+    if a < square {
+        return nearest_root(a);
+    }
+    let high = a - square;
+    if high >= 0x100_0000_0000 {
+        return nearest_root(a);
+    }
+    let low = l * l;
+    let cross = h * l + low / 0x1000_0000;
+    if high * 0x100_0000 < cross {
+        return nearest_root(a);
+    }
+    let over = high * 0x100_0000 - cross;
+    if over >= 0x4000_0000 {
+        return nearest_root(a);
+    }
+    if over * 0x1000_0000 < low % 0x1000_0000 {
+        return nearest_root(a);
+    }
+    let mut q = g;
+    let mut rest = over * 0x1000_0000 - low % 0x1000_0000;
+    while q * 2 < rest {
+        rest = rest - (q * 2 + 1);
+        q = q + 1;
+    }
+    if rest <= q { q } else { q + 1 }
+}
+
+// The bits of √(m * 2^(f - 2095)), where m has 53 digits.
+fn scaled_root(m: u64, f: u64) -> u64
+    requires { ⌜ (2 ^ 52 ≤ m) × (m < 2 ^ 53) × (f < 3072) ⌝ }
+    ensures { λ r. ⌜ r ≡ (f + f % 2) / 2 * 2 ^ 52 + closestRoot (m * (2 - f % 2) * 2 ^ 52) 1 ⌝ }
+{
+    let odd = f % 2;
+    (f + odd) / 2 * 0x10_0000_0000_0000
+        + refined(
+            m * (2 - odd),
+            guess(0x4330_0000_0000_0000 - odd * 0x10_0000_0000_0000 + m),
+        )
+}
+
+// The bits of the root of the positive number whose bits are b.
+fn root_bits(b: u64) -> u64
+    requires { ⌜ (0 < b) × (b < 2047 * 2 ^ 52) ⌝ }
+    ensures { λ r. ⌜ (r < 2047 * 2 ^ 52) × (ofBits binary64 r ≡ sqrtOf binary64 (ofBits binary64 b)) ⌝ }
+{
+    if b < 0x10_0000_0000_0000 {
+        let shift = u64::leading_zeros(b) as u64 - 11;
+        scaled_root(b << shift, 1021 - shift)
+    } else {
+        scaled_root(
+            b % 0x10_0000_0000_0000 + 0x10_0000_0000_0000,
+            b / 0x10_0000_0000_0000 + 1020,
+        )
+    }
+}
+
+// √x to the nearest `f64`; a NaN for any x below zero but -0, whose root is -0.
+pub fn sqrt64(x: f64) -> f64
+    ensures { λ r. ⌜ r ≡ sqrtOf binary64 x ⌝ }
+{
+    if x != x {
+        return x;
+    }
+    let b = f64::to_bits(x);
+    if b % 0x8000_0000_0000_0000 == 0 {
+        return x;
+    }
+    if b > 0x8000_0000_0000_0000 {
+        return 0.0 / 0.0;
+    }
+    if b == 0x7ff0_0000_0000_0000 {
+        return x;
+    }
+    f64::from_bits(root_bits(b))
+}
