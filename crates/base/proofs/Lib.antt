@@ -6,6 +6,8 @@ pub mod Narrowing
 pub mod Patterns
 pub mod Roots
 pub mod Rooted
+pub mod NearestRoot
+pub mod DoubleRounding
 pub mod Sorts
 pub mod Picks
 pub mod Signs

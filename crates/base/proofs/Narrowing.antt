@@ -19,7 +19,7 @@ use Rattle.base.proofs.Fields.{decode, field-val, subnormal-val, infini
 use Rattle.base.proofs.Rounding.{shifts, inf-bits, round-bits, round-inf}
 use Rattle.base.proofs.Halves.{nearest-below}
 
-narrow-val : (x : Float) (s : Bool) (a c : ℕ) → 0 < c → HasValue x s a c → narrowOf x ≡ round binary32 s a c
+pub narrow-val : (x : Float) (s : Bool) (a c : ℕ) → 0 < c → HasValue x s a c → narrowOf x ≡ round binary32 s a c
 unfolding narrowOf
 narrow-val nan s a c C h = absurd h
 narrow-val (inf t) s a c C h = absurd h

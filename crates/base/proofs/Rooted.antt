@@ -15,7 +15,7 @@ use Rattle.base.specs.Number.{root, closestRoot, rounded, sqrtOf}
 use Rattle.base.proofs.Rounding.{shifts, tail, prec-tail, size-gt, just, Kept, units-bits}
 use Rattle.base.proofs.Roots.{root-whole, root-ge, root-lt, closest-root-le, closest-root-ge, closest-root-scale}
 
-four : (k : ℕ) → 4 ^ k ≡ 2 ^ k * 2 ^ k
+pub four : (k : ℕ) → 4 ^ k ≡ 2 ^ k * 2 ^ k
 four zero = refl
 four (suc k) = pow-suc 4 k ∙ ap (λ (x : ℕ). x * 4) (four k) ∙ mul-mul-mul-comm (2 ^ k) (2 ^ k) 2 2 ∙ ap (λ (x : ℕ). x * x) (sym (pow-suc 2 k))
 
@@ -35,7 +35,7 @@ module _ (p a k : ℕ) (lo : 2 ^ p * 2 ^ p ≤ a) (hi : a < 2 ^ suc p * 2 ^ suc 
       just (size r) p k (size-le r (suc p + k) h) (size-gt r (p + k) l)
 
 module _ (f : Format) (n c a k : ℕ) (C : 0 < c) (h : n * 4 ^ low f ≡ a * 4 ^ k * c) (lo : 2 ^ tail f * 2 ^ tail f ≤ a) (hi : a < 2 ^ suc (tail f) * 2 ^ suc (tail f)) where
-  rounded-units : rounded f n c ≡ units f false (closestRoot a 1) k
+  pub rounded-units : rounded f n c ≡ units f false (closestRoot a 1) k
   unfolding rounded
   rounded-units =
       let w = n * 4 ^ low f in

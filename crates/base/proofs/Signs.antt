@@ -8,7 +8,7 @@ use borrow.Author.Tests.{ltb-false, ltb-true, eqb-true, eqb-false}
 use lib.Dec.{T, leb, ltb, eqb, lt→ltb}
 use lib.IntN.{ℤ, pos, negsuc, negℤ}
 use lib.Signed.{mag}
-use lib.Ieee.{Float, nan, inf, fin, binary64, up, down, odd, lt, le, eq, ne, div, isNan, fits, ofFields, ofBits, toBits, toUnsigned, toSigned}
+use lib.Ieee.{Float, nan, inf, fin, binary64, up, down, odd, lt, le, eq, ne, isNan, fits, ofFields, ofBits, toBits, toUnsigned, toSigned}
 use lib.Ieee.Casts.{toSigned-in}
 use mir.Syntax.{w32, w64}
 use mir.Val.{SFits, toZ, ofZ}
@@ -54,10 +54,6 @@ nan-test x = go (ne x x) refl
     go : (b : Bool) → ne x x ≡ b → isNan x ≡ b
     go true e = ap isNan (is-nan x e)
     go false e = is-false (isNan x) (no-nan x e)
-
-pub no-number : div binary64 (ofBits binary64 0) (ofBits binary64 0) ≡ nan
-unfolding div ofBits
-no-number = refl
 
 -- ---- a float as a `u64`
 pub unsigned-nan : (x : Float) → x ≡ nan → 0 ≡ toUnsigned 64 x

@@ -1,9 +1,12 @@
 -- Sizes, the lesser and the greater, narrowing and the square root, over the values of `lib.Ieee`. Assumes nothing.
 use mathlib.Core.Path.{_≡_}
 use mathlib.Core.Bool.{Bool, true, false, cond}
-use Prim.Native.Nat.{ℕ, zero, suc, _+_, _-_, _*_, _/_, _^_, compare}
-use lib.Dec.{leb}
-use lib.Ieee.{Float, nan, inf, fin, Format, binary32, prec, low, up, down, size, nearest, round, units, neg, lt, isNan}
+use Prim.Native.Nat.{ℕ, zero, suc, _+_, _-_, _*_, _/_, _^_, _<_, compare}
+use lib.Dec.{T, leb, ltb}
+use lib.IntN.{ℤ, pos, negsuc}
+use lib.Ieee.{Float, nan, inf, fin, Format, binary32, prec, low, up, down, size, nearest, round, units, neg, lt, le, isNan, fits}
+use lib.Ieee.Scale.{finite}
+use lib.Ieee.Positive.{num, den, positive}
 
 -- ---- signs
 
@@ -35,6 +38,12 @@ unfoldable pub narrowOf : Float → Float
 narrowOf nan = nan
 narrowOf (inf s) = inf s
 narrowOf (fin s m e) = round binary32 s (m * up e) (down e)
+
+-- ---- the signed number of 32 bits
+
+-- w, or w - 2 ^ 32: `negsuc k` is -(k + 1)
+unfoldable pub signedOf : ℕ → ℤ
+signedOf w = cond (ltb w (2 ^ 31)) (pos w) (negsuc (2 ^ 32 - suc w))
 
 -- ---- the square root, by whole numbers: there is no real number here
 
@@ -70,3 +79,15 @@ sqrtOf f (inf false) = inf false
 sqrtOf f (fin s zero e) = fin s zero e
 sqrtOf f (fin true (suc m) e) = nan
 sqrtOf f (fin false (suc m) e) = rounded f (suc m * up e) (down e)
+
+-- ---- what the root is, said without the steps that find it
+
+-- r is the number of the format f that is nearest to √x, for an x above zero: every other number y of f is farther from √x.
+-- There is no real number here. A y below r is farther if the middle (y + r) / 2 is below √x, and a y above r if the middle is above √x.
+-- Both sides are squared and the denominators multiplied out: y + r is (num y * den r + num r * den y) / (den y * den r), and x is num x / den x.
+-- √x is never the middle itself, so no rule for ties is used. A y below zero is left out: it is farther than 0, which is not left out.
+pub record NearestRoot (f : Format) (x r : Float) : Type 0 where
+  pub held : T (fits f r)
+  pub above-zero : T (positive r)
+  pub below : (y : Float) → T (fits f y) → T (le (fin false 0 (pos 0)) y) → T (lt y r) → (num y * den r + num r * den y) ^ 2 * den x < 4 * num x * (den y * den r) ^ 2
+  pub above : (y : Float) → T (fits f y) → T (finite y) → T (lt r y) → 4 * num x * (den y * den r) ^ 2 < (num y * den r + num r * den y) ^ 2 * den x

@@ -3,9 +3,9 @@
 ghost use mathlib.Core.Path.{_≡_};
 ghost use mathlib.Core.Bool.{Bool, cond};
 ghost use Prim.Native.Nat.{_+_, _-_, _*_, _/_, _%_, _^_, _≤_, _<_};
-ghost use lib.Ieee.{binary32, binary64, ofBits, ofInt, toSigned, toUnsigned};
+ghost use lib.Ieee.{binary32, binary64, ofBits, toBits, ofInt, toSigned, toUnsigned};
 ghost use lib.Ieee.Nearest.{closest};
-ghost use Rattle.base.specs.Number.{negative, absOf, minOf, maxOf, narrowOf, closestRoot, sqrtOf};
+ghost use Rattle.base.specs.Number.{negative, absOf, minOf, maxOf, narrowOf, signedOf, closestRoot, sqrtOf};
 
 // Whether x has a sign, as -0 has; a NaN has none.
 pub fn is_negative(x: f64) -> bool
@@ -62,6 +62,59 @@ pub fn widen(x: f32) -> f64
     ensures { λ r. ⌜ r ≡ x ⌝ }
 {
     std::num::f32_to_f64_with_nan(x)
+}
+
+// The `f32` whose bits are w; a NaN's pattern gives a NaN.
+pub fn float32(w: u32) -> f32
+    ensures { λ r. ⌜ r ≡ ofBits binary32 w ⌝ }
+{
+    if w % 0x8000_0000 > 0x7f80_0000 {
+        0.0 / 0.0
+    } else {
+        f32::from_bits(w)
+    }
+}
+
+// The `f64` whose bits are w; a NaN's pattern gives a NaN.
+pub fn float64(w: u64) -> f64
+    ensures { λ r. ⌜ r ≡ ofBits binary64 w ⌝ }
+{
+    if w % 0x8000_0000_0000_0000 > 0x7ff0_0000_0000_0000 {
+        0.0 / 0.0
+    } else {
+        f64::from_bits(w)
+    }
+}
+
+// The bits of x; any NaN is 7fc00000.
+pub fn bits32(x: f32) -> u32
+    ensures { λ r. ⌜ r ≡ toBits binary32 x ⌝ }
+{
+    if x != x {
+        return 0x7fc0_0000;
+    }
+    f32::to_bits(x)
+}
+
+// The bits of x; any NaN is 7ff8000000000000.
+pub fn bits64(x: f64) -> u64
+    ensures { λ r. ⌜ r ≡ toBits binary64 x ⌝ }
+{
+    if x != x {
+        return 0x7ff8_0000_0000_0000;
+    }
+    f64::to_bits(x)
+}
+
+// The `i32` whose bits are w.
+pub fn signed(w: u32) -> i32
+    ensures { λ r. ⌜ r ≡ signedOf w ⌝ }
+{
+    if w < 0x8000_0000 {
+        w as i32
+    } else {
+        -1 - ((0xffff_ffff - w) as i32)
+    }
 }
 
 // The `f32` nearest to n, as Rust's `as` has it.
@@ -291,4 +344,12 @@ pub fn sqrt64(x: f64) -> f64
         return x;
     }
     f64::from_bits(root_bits(b))
+}
+
+// √x to the nearest `f32`. The `f64` nearest to √x has more than twice the digits, so that rounding
+// it once more gives the `f32` nearest to √x itself.
+pub fn sqrt32(x: f32) -> f32
+    ensures { λ r. ⌜ r ≡ sqrtOf binary32 x ⌝ }
+{
+    narrow(sqrt64(widen(x)))
 }

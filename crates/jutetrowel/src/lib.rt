@@ -55,6 +55,13 @@ pub extern "C" fn jt_sqrt64(x: f64) -> f64
 }
 
 #[no_mangle]
+pub extern "C" fn jt_sqrt32(x: f32) -> f32
+    ensures { λ r. ⌜ r ≡ sqrtOf binary32 x ⌝ }
+{
+    base::number::sqrt32(x)
+}
+
+#[no_mangle]
 pub extern "C" fn jt_to_i32(x: f32) -> i32
     ensures { λ r. ⌜ r ≡ toSigned 31 x ⌝ }
 {

@@ -8,8 +8,7 @@ use lib.Dec.{T}
 use lib.Ieee.{Float, inf, binary64, fits, div, neg, ofBits, toBits}
 use lib.Ieee.Bits.{ofBits-toBits, toBits-lt}
 use Rattle.base.specs.Elementary.{lnOf}
-use Rattle.base.proofs.Patterns.{is-nan, no-nan, magnitude-le}
-use Rattle.base.proofs.Signs.{no-number}
+use Rattle.base.proofs.Patterns.{is-nan, no-nan, magnitude-le, no-number}
 use Rattle.base.proofs.Logs.{ln-nan, ln-plus-zero, ln-minus-zero, ln-infinity, ln-below-zero}
 use Rattle.base.proofs.elementary.ln64.Statement.{statement}
 use Rattle.base.proofs.elementary.ln64.Tie as tie
@@ -55,7 +54,7 @@ returns-3 c =
     let b = toBits binary64 (s .args .x) in
     let w = wide s in
     let e : 2 ^ 63 + (b - 2 ^ 63) ≡ b = omega arith in
-    no-number
+    no-number binary64
     ∙ sym (ln-below-zero (b - 2 ^ 63) (omega arith) (omega (arith, capped (c .before .before))))
     ∙ ap lnOf (ap (ofBits binary64) e ∙ read-back s)
 

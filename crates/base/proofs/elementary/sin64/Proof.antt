@@ -8,8 +8,8 @@ use Rattle.base.specs.Double.{_⊕_, _⊖_, _⊗_, _⊘_, fraction}
 use Rattle.base.specs.Number.{negative, absOf, withSign}
 use Rattle.base.specs.Elementary.{nearOf, quarterOf, powerOf}
 use Rattle.base.specs.Elementary.{sinOf, sinAt, turnsOf, reducedOf}
+use Rattle.base.proofs.Patterns.{no-number}
 use Rattle.base.proofs.Picks.{cond-true, cond-false}
-use Rattle.base.proofs.Signs.{no-number}
 use Rattle.base.proofs.elementary.sin64.Statement.{statement}
 use Rattle.base.proofs.elementary.sin64.Tie as tie
 
@@ -42,7 +42,7 @@ returns c =
 
 returns-2 : tie.Need-returns-2
 unfolding sinOf fraction round ofBits
-returns-2 c = no-number ∙ sym (cond-false _ _ (ap (λ (a : Float). le a (fraction 1000 1)) (sym (c .before .abs64 .ensures)) ∙ c .if1 .left))
+returns-2 c = no-number binary64 ∙ sym (cond-false _ _ (ap (λ (a : Float). le a (fraction 1000 1)) (sym (c .before .abs64 .ensures)) ∙ c .if1 .left))
 
 pub sin64-spec : {M : Type 1} → statement M
 sin64-spec = tie.close (tie.spec abs64-requires turns-requires quarter-requires reduced-requires sin-at-requires returns returns-2)

@@ -9,7 +9,6 @@ use Rattle.base.specs.Number.{negative, absOf, withSign}
 use Rattle.base.specs.Elementary.{nearOf, quarterOf, powerOf}
 use Rattle.base.specs.Elementary.{turnsOf}
 use Rattle.base.proofs.Picks.{cond-true, cond-false}
-use Rattle.base.proofs.Signs.{no-number}
 use Rattle.base.proofs.elementary.turns.Statement.{statement}
 use Rattle.base.proofs.elementary.turns.Tie as tie
 

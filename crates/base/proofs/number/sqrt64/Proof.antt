@@ -7,7 +7,7 @@ use lib.Dec.{T}
 use lib.Ieee.{Float, nan, binary64, fits, div, ofBits, toBits}
 use lib.Ieee.Bits.{ofBits-toBits, toBits-lt}
 use Rattle.base.specs.Number.{sqrtOf}
-use Rattle.base.proofs.Patterns.{is-nan, no-nan, magnitude-le, no-nan-bits}
+use Rattle.base.proofs.Patterns.{is-nan, no-nan, magnitude-le, no-nan-bits, no-number}
 use Rattle.base.proofs.Sorts.{fixed, plus-zero, minus-zero, infinity, nan-root, below-zero}
 use Rattle.base.proofs.number.sqrt64.Statement.{statement}
 use Rattle.base.proofs.number.sqrt64.Tie as tie
@@ -31,10 +31,6 @@ zero-root c (inr p) h =
     let e : toBits binary64 (c .args .x) ≡ 2 ^ 63 = omega arith in
     fixed (c .args .x) (2 ^ 63) (sym (read-back c) ∙ ap (ofBits binary64) e) minus-zero
 
-no-number : div binary64 (ofBits binary64 0) (ofBits binary64 0) ≡ nan
-unfolding div ofBits
-no-number = refl
-
 returns : tie.Need-returns
 returns c = nan-root (c .before .args .x) (is-nan (c .before .args .x) (c .if1 .taken))
 
@@ -50,7 +46,7 @@ returns-3 c =
     let b = toBits binary64 x in
     let w = wide (c .before .before .before) in
     let e : 2 ^ 63 + (b - 2 ^ 63) ≡ b = omega arith in
-    no-number
+    no-number binary64
     ∙ sym (below-zero (b - 2 ^ 63) (omega arith) (omega (arith, capped (c .before .before))))
     ∙ ap (sqrtOf binary64) (ap (ofBits binary64) e ∙ read-back (c .before .before .before))
 

@@ -1,0 +1,197 @@
+//! Reads the Rust that the port is compared with, puts document 01's steps
+//! in place of the library's functions and writes the result to OUT_DIR.
+//! Nothing of that Rust is kept in this repository.
+
+use std::path::{Path, PathBuf};
+use std::{env, fs, process};
+
+const FILES: [&str; 5] = [
+    "constants.rs",
+    "coefficients.rs",
+    "magnetic.rs",
+    "geometry.rs",
+    "ionosphere.rs",
+];
+
+/// Method calls that become a step. `sqrt` and `abs` stay the hardware's,
+/// which document 01 asks for as they are.
+const RENAMES: [(&str, &str); 8] = [
+    (".sin()", ".step_sin()"),
+    (".cos()", ".step_cos()"),
+    (".acos()", ".step_acos()"),
+    (".atan()", ".step_atan()"),
+    (".exp()", ".step_exp()"),
+    (".ln()", ".step_ln()"),
+    (".min(", ".step_min("),
+    (".max(", ".step_max("),
+];
+
+/// Names that must not be left as a method or a path: the library decides
+/// what they give.
+const FORBIDDEN: [&str; 28] = [
+    "sin", "cos", "tan", "asin", "acos", "atan", "atan2", "sin_cos", "sinh", "cosh", "tanh", "exp",
+    "exp2", "exp_m1", "ln", "ln_1p", "log", "log2", "log10", "powf", "powi", "hypot", "cbrt",
+    "mul_add", "min", "max", "minimum", "maximum",
+];
+
+fn main() {
+    println!("cargo::rustc-check-cfg=cfg(linked)");
+    prepare_sources();
+    link_port();
+}
+
+fn fail(message: String) -> ! {
+    println!("cargo::error={message}");
+    process::exit(1);
+}
+
+fn prepare_sources() {
+    let from = source_folder();
+    let to = PathBuf::from(env::var_os("OUT_DIR").expect("cargo sets OUT_DIR"));
+    let mut places = [0; RENAMES.len()];
+    for file in FILES {
+        let text = rename(&read(&from.join(file)), &mut places);
+        refuse_leftovers(file, &text);
+        let written = fs::write(to.join(file), make_visible(file, &text));
+        written.unwrap_or_else(|e| fail(format!("cannot write {file} to OUT_DIR: {e}")));
+    }
+    refuse_missing(&places);
+}
+
+fn source_folder() -> PathBuf {
+    println!("cargo::rerun-if-env-changed=HFCAST_SRC");
+    match env::var_os("HFCAST_SRC") {
+        Some(folder) => Path::new(&folder).join("src/voacap"),
+        None => fail(String::from(
+            "HFCAST_SRC is not set: it names the folder that holds src/voacap/ of hfcast-engine",
+        )),
+    }
+}
+
+fn read(path: &Path) -> String {
+    println!("cargo::rerun-if-changed={}", path.display());
+    fs::read_to_string(path)
+        .unwrap_or_else(|e| fail(format!("HFCAST_SRC: cannot read {}: {e}", path.display())))
+}
+
+fn rename(text: &str, places: &mut [usize; RENAMES.len()]) -> String {
+    let mut text = text.to_owned();
+    for ((old, new), count) in RENAMES.iter().zip(places) {
+        *count += text.matches(old).count();
+        text = text.replace(old, new);
+    }
+    text
+}
+
+/// A rename without any place would mean that the sources have changed and
+/// a step went missing unseen.
+fn refuse_missing(places: &[usize; RENAMES.len()]) {
+    for ((old, _), count) in RENAMES.iter().zip(places) {
+        if *count == 0 {
+            fail(format!("no {old} in any of {FILES:?}"));
+        }
+    }
+}
+
+fn refuse_leftovers(file: &str, text: &str) {
+    for name in FORBIDDEN {
+        for form in [format!(".{name}"), format!("::{name}")] {
+            if has_word(text, &form) {
+                fail(format!("{file}: {form} is left and is no step"));
+            }
+        }
+    }
+}
+
+/// A longer name is another one, and `1..ln` is a range.
+fn has_word(text: &str, form: &str) -> bool {
+    text.match_indices(form).any(|(at, _)| {
+        let longer = |c: char| c.is_alphanumeric() || c == '_';
+        !text[..at].ends_with('.') && !text[at + form.len()..].starts_with(longer)
+    })
+}
+
+/// What a line of column 4 belongs to.
+#[derive(Clone, Copy, PartialEq)]
+enum Block {
+    Other,
+    Struct,
+    Methods,
+}
+
+/// Opens what is private, so that each part can be called by itself. Lines
+/// stay where they are, for the compiler's messages.
+fn make_visible(file: &str, text: &str) -> String {
+    let mut block = Block::Other;
+    let mut out = String::new();
+    for line in text.lines() {
+        if !is_inner(file, line) {
+            block = block_after(line, block);
+            out.push_str(&opened(line, block));
+        }
+        out.push('\n');
+    }
+    out
+}
+
+/// Inner attributes and inner doc comments cannot stand in an included file.
+fn is_inner(file: &str, line: &str) -> bool {
+    if line.starts_with("#![") && !line.ends_with(']') {
+        fail(format!("{file}: an inner attribute over several lines"));
+    }
+    line.starts_with("#![") || line.starts_with("//!")
+}
+
+fn block_after(line: &str, block: Block) -> Block {
+    let opens = line.ends_with('{');
+    if line.starts_with('}') {
+        Block::Other
+    } else if opens && (line.starts_with("struct ") || line.starts_with("pub struct ")) {
+        Block::Struct
+    } else if opens && line.starts_with("impl") && !line.contains(" for ") {
+        Block::Methods
+    } else {
+        block
+    }
+}
+
+fn opened(line: &str, block: Block) -> String {
+    let items = ["fn ", "struct ", "enum ", "const ", "static ", "type "];
+    if items.iter().any(|item| line.starts_with(item)) {
+        return format!("pub {line}");
+    }
+    match line.strip_prefix("    ") {
+        Some(rest) if block == Block::Struct && is_private_field(rest) => format!("    pub {rest}"),
+        Some(rest) if block == Block::Methods && rest.starts_with("fn ") => {
+            format!("    pub {rest}")
+        }
+        _ => line.to_owned(),
+    }
+}
+
+fn is_private_field(rest: &str) -> bool {
+    let name = rest.split(':').next().unwrap_or("");
+    rest.contains(':')
+        && name.starts_with(|c: char| c.is_ascii_lowercase() || c == '_')
+        && name.chars().all(|c| c.is_ascii_alphanumeric() || c == '_')
+}
+
+/// Links the port's static library if its folder is given. Without it the
+/// commands that compare say what they miss.
+fn link_port() {
+    println!("cargo::rerun-if-env-changed=JUTETROWEL_LIB");
+    let Some(folder) = env::var_os("JUTETROWEL_LIB") else {
+        return;
+    };
+    let library = Path::new(&folder).join("libjutetrowel.a");
+    if !library.is_file() {
+        fail(format!("JUTETROWEL_LIB: no {}", library.display()));
+    }
+    println!("cargo::rerun-if-changed={}", library.display());
+    println!(
+        "cargo::rustc-link-search=native={}",
+        Path::new(&folder).display()
+    );
+    println!("cargo::rustc-link-lib=static=jutetrowel");
+    println!("cargo::rustc-cfg=linked");
+}

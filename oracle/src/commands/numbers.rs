@@ -1,0 +1,68 @@
+//! `numbers FILE`: the vectors of the arithmetic, in rows of function
+//! number, argument and answer, three little-endian u64 each.
+
+use crate::bits::Answer;
+use crate::functions::{Function, FUNCTIONS};
+use crate::generator::Generator;
+use crate::ranges::inside;
+use crate::specials::specials;
+use crate::voacap::con::{MagneticPole, D2R, PI, PI2, PIO2, R2D, RZ};
+use std::collections::HashSet;
+use std::fs;
+
+const SEED: u64 = 0x6a75_7465;
+const CONSTANT: u64 = 40;
+
+pub fn run(file: &str) -> Result<(), String> {
+    let mut bytes = Vec::new();
+    for function in &FUNCTIONS {
+        let words = arguments(function);
+        println!(
+            "{:>2} {:<12} {:>5} rows",
+            function.number,
+            function.name,
+            words.len()
+        );
+        for word in words {
+            push_row(&mut bytes, [function.number, word, (function.rust)(word)]);
+        }
+    }
+    let constants = constants();
+    println!("{CONSTANT} {:<12} {:>5} rows", "constant", constants.len());
+    for (index, constant) in (0..).zip(constants) {
+        push_row(&mut bytes, [CONSTANT, index, constant.to_word()]);
+    }
+    println!("{} rows, {} bytes", bytes.len() / 24, bytes.len());
+    fs::write(file, bytes).map_err(|e| format!("cannot write {file}: {e}"))
+}
+
+fn push_row(bytes: &mut Vec<u8>, row: [u64; 3]) {
+    bytes.extend(row.iter().flat_map(|word| word.to_le_bytes()));
+}
+
+/// The seed depends on the number, so that a further function leaves the
+/// rows of the others as they are.
+fn arguments(function: &Function) -> Vec<u64> {
+    let mut random = Generator::new(SEED + function.number);
+    let mut words = specials(function);
+    words.extend(random.spread(function.kind));
+    let more = inside_count(function.stem());
+    words.extend((0..more).map(|_| inside(function, &mut random)));
+    let mut seen = HashSet::new();
+    words.retain(|word| seen.insert(*word));
+    words
+}
+
+/// Few of the spread arguments fall into the range of these.
+fn inside_count(stem: &str) -> usize {
+    match stem {
+        "sin" | "cos" | "acos" | "exp" | "narrow" => 2100,
+        "atan" | "ln" | "to_i32" | "to_u64" => 1000,
+        _ => 400,
+    }
+}
+
+fn constants() -> [f32; 8] {
+    let pole = MagneticPole::default();
+    [D2R, R2D, PI, PI2, PIO2, RZ, pole.lat_deg, pole.lon_deg]
+}

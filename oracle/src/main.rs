@@ -1,0 +1,51 @@
+//! The Rust that the port is compared with, run on document 01's steps: it
+//! makes vectors, compares in bulk and times both sides.
+
+mod bits;
+mod commands;
+mod functions;
+mod generator;
+#[cfg(linked)]
+mod port;
+mod ranges;
+mod reference;
+mod specials;
+mod steps;
+mod voacap;
+
+use commands::{bulk_numbers, numbers, self_check, time_numbers};
+use std::env;
+use std::process::ExitCode;
+
+#[cfg(not(linked))]
+const NOT_LINKED: &str = "this needs the port: build with JUTETROWEL_LIB set to the folder \
+                          that holds libjutetrowel.a";
+
+const USAGE: &str = "usage:
+  oracle numbers FILE                      write the vectors of the arithmetic
+  oracle bulk-numbers COUNT SEED [NAME]    compare the port's functions with the Rust's
+  oracle time-numbers                      time the port's functions and the Rust's
+  oracle self-check                        hold the steps against the library's functions";
+
+fn main() -> ExitCode {
+    let words: Vec<String> = env::args().skip(1).collect();
+    let words: Vec<&str> = words.iter().map(String::as_str).collect();
+    match command(&words) {
+        Ok(()) => ExitCode::SUCCESS,
+        Err(message) => {
+            eprintln!("{message}");
+            ExitCode::FAILURE
+        }
+    }
+}
+
+fn command(words: &[&str]) -> Result<(), String> {
+    match words {
+        ["numbers", file] => numbers::run(file),
+        ["bulk-numbers", count, seed] => bulk_numbers::run(count, seed, None),
+        ["bulk-numbers", count, seed, name] => bulk_numbers::run(count, seed, Some(name)),
+        ["time-numbers"] => time_numbers::run(),
+        ["self-check"] => self_check::run(),
+        _ => Err(String::from(USAGE)),
+    }
+}

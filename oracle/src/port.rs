@@ -1,0 +1,35 @@
+//! The port's exported functions, from its static library.
+
+macro_rules! exports {
+    ($($symbol:literal $name:ident($($argument:ident: $type:ty),+) -> $answer:ty;)+) => {
+        extern "C" {
+            $(#[link_name = $symbol] pub fn $name($($argument: $type),+) -> $answer;)+
+        }
+    };
+}
+
+exports! {
+    "jt_abs32" abs32(v: f32) -> f32;
+    "jt_abs64" abs64(v: f64) -> f64;
+    "jt_min" min(a: f32, b: f32) -> f32;
+    "jt_max" max(a: f32, b: f32) -> f32;
+    "jt_widen" widen(v: f32) -> f64;
+    "jt_narrow" narrow(v: f64) -> f32;
+    "jt_sqrt64" sqrt64(v: f64) -> f64;
+    "jt_sqrt32" sqrt32(v: f32) -> f32;
+    "jt_to_i32" to_i32(v: f32) -> i32;
+    "jt_from_i32" from_i32(v: i32) -> f32;
+    "jt_to_u64" to_u64(v: f64) -> u64;
+    "jt_sin64" sin64(v: f64) -> f64;
+    "jt_cos64" cos64(v: f64) -> f64;
+    "jt_atan64" atan64(v: f64) -> f64;
+    "jt_acos64" acos64(v: f64) -> f64;
+    "jt_exp64" exp64(v: f64) -> f64;
+    "jt_ln64" ln64(v: f64) -> f64;
+    "jt_sin32" sin32(v: f32) -> f32;
+    "jt_cos32" cos32(v: f32) -> f32;
+    "jt_atan32" atan32(v: f32) -> f32;
+    "jt_acos32" acos32(v: f32) -> f32;
+    "jt_exp32" exp32(v: f32) -> f32;
+    "jt_ln32" ln32(v: f32) -> f32;
+}
