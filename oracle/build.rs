@@ -35,7 +35,7 @@ const FORBIDDEN: [&str; 28] = [
 ];
 
 fn main() {
-    println!("cargo::rustc-check-cfg=cfg(linked)");
+    println!("cargo::rustc-check-cfg=cfg(linked, linked_files)");
     prepare_sources();
     link_port();
 }
@@ -177,9 +177,11 @@ fn is_private_field(rest: &str) -> bool {
 }
 
 /// Links the port's static library if its folder is given. Without it the
-/// commands that compare say what they miss.
+/// commands that compare say what they miss. The file functions are asked
+/// for separately, since a library may be older than they are.
 fn link_port() {
     println!("cargo::rerun-if-env-changed=JUTETROWEL_LIB");
+    println!("cargo::rerun-if-env-changed=JUTETROWEL_FILES");
     let Some(folder) = env::var_os("JUTETROWEL_LIB") else {
         return;
     };
@@ -194,4 +196,7 @@ fn link_port() {
     );
     println!("cargo::rustc-link-lib=static=jutetrowel");
     println!("cargo::rustc-cfg=linked");
+    if env::var_os("JUTETROWEL_FILES").is_some() {
+        println!("cargo::rustc-cfg=linked_files");
+    }
 }

@@ -1,6 +1,27 @@
 //! One module for each command.
 
+pub mod bulk_files;
 pub mod bulk_numbers;
+pub mod data;
+pub mod files;
 pub mod numbers;
 pub mod self_check;
 pub mod time_numbers;
+
+use std::fs;
+use std::path::Path;
+
+/// Writes a file of `folder`, which is made if it is not there.
+fn write(folder: &str, name: &str, bytes: &[u8]) -> Result<(), String> {
+    fs::create_dir_all(folder).map_err(|e| format!("cannot make {folder}: {e}"))?;
+    let path = Path::new(folder).join(name);
+    fs::write(&path, bytes).map_err(|e| format!("cannot write {}: {e}", path.display()))?;
+    println!("{name:<12} {:>7} bytes", bytes.len());
+    Ok(())
+}
+
+#[cfg(linked)]
+fn whole(word: &str) -> Result<u64, String> {
+    word.parse()
+        .map_err(|_| format!("{word} is not a whole number"))
+}

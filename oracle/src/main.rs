@@ -3,17 +3,22 @@
 
 mod bits;
 mod commands;
+mod damage;
+mod data_files;
 mod functions;
 mod generator;
+mod index_check;
+mod month_file;
 #[cfg(linked)]
 mod port;
 mod ranges;
 mod reference;
+mod reference_files;
 mod specials;
 mod steps;
 mod voacap;
 
-use commands::{bulk_numbers, numbers, self_check, time_numbers};
+use commands::{bulk_files, bulk_numbers, data, files, numbers, self_check, time_numbers};
 use std::env;
 use std::process::ExitCode;
 
@@ -21,10 +26,17 @@ use std::process::ExitCode;
 const NOT_LINKED: &str = "this needs the port: build with JUTETROWEL_LIB set to the folder \
                           that holds libjutetrowel.a";
 
+#[cfg(not(linked_files))]
+const NO_FILES: &str = "this needs the port with its file functions: build with JUTETROWEL_LIB \
+                        set to the folder that holds libjutetrowel.a, and JUTETROWEL_FILES set";
+
 const USAGE: &str = "usage:
   oracle numbers FILE                      write the vectors of the arithmetic
   oracle bulk-numbers COUNT SEED [NAME]    compare the port's functions with the Rust's
   oracle time-numbers                      time the port's functions and the Rust's
+  oracle data DIR                          write data files made from seeds
+  oracle files DIR                         write the vectors of the file functions
+  oracle bulk-files COUNT SEED             compare the port's file functions with the Rust's
   oracle self-check                        hold the steps against the library's functions";
 
 fn main() -> ExitCode {
@@ -45,6 +57,9 @@ fn command(words: &[&str]) -> Result<(), String> {
         ["bulk-numbers", count, seed] => bulk_numbers::run(count, seed, None),
         ["bulk-numbers", count, seed, name] => bulk_numbers::run(count, seed, Some(name)),
         ["time-numbers"] => time_numbers::run(),
+        ["data", folder] => data::run(folder),
+        ["files", folder] => files::run(folder),
+        ["bulk-files", count, seed] => bulk_files::run(count, seed),
         ["self-check"] => self_check::run(),
         _ => Err(String::from(USAGE)),
     }

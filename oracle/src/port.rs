@@ -33,3 +33,17 @@ exports! {
     "jt_exp32" exp32(v: f32) -> f32;
     "jt_ln32" ln32(v: f32) -> f32;
 }
+
+// A slice is lent as its start and its number of elements.
+#[cfg(linked_files)]
+exports! {
+    "jt_month_file_check" month_file_check(file: *const u8, length: usize) -> u64;
+    "jt_index_check" index_check(file: *const u8, length: usize) -> u64;
+    "jt_cofion" cofion(
+        record: *const u8, record_length: usize, file: *const u8, length: usize,
+        ssn: f32, out: *mut f32, out_length: usize
+    ) -> u32;
+    "jt_hmym" hmym(
+        file: *const u8, length: usize, ssn: f32, out: *mut f32, out_length: usize
+    ) -> u32;
+}

@@ -5,6 +5,7 @@ use mathlib.Core.Bool.{Bool, true, false, not, cond}
 use Prim.Native.Nat.{ℕ, zero, suc, _+_, _-_, _*_, _/_, _%_, _^_, _≤_, _<_}
 use native.Mathlib.Nat.{le-trans, le-of-eq, eq-or-lt-of-le, lt-of-lt-of-le, lt-irrefl, zero-add, add-comm, mul-assoc, mul-one, mod-lt, div-eq-of-lt, mod-eq-of-lt}
 use native.Mathlib.Omega.{arith}
+use native.Mathlib.Decide.{decLt}
 use lib.Dec.{T, leb, eqb, lit≤, lit<, eqb→eq, not-T, le→leb}
 use lib.Arith.{lt→nleb}
 use lib.Pow.{pow-add, pow-pos, pow-mono, shl-lt}
@@ -88,3 +89,10 @@ module _ (b : ℕ) (h : b ≤ 2047 * 2 ^ 52) where
           by-value s (m * 2 ^ (x - 1)) _ (field-val s x (b % 2 ^ 52) (omega arith) (omega arith))
           (round-inf binary32 s (m * 2 ^ (x - 1)) (2 ^ 1074) m 29 (x - 897) (pow-pos 1074) (shifts m (x - 1) 149 29 (x - 897) 1074 (omega arith)) (omega arith, inr (omega arith)) (omega arith) (omega arith)
           ∙ inf-bits binary32 s)
+
+-- ---- either sign
+pub either-sign : (b r : ℕ) → b < 2 ^ 64 → Narrows (b % 2 ^ 63) r → ofBits binary32 (b / 2 ^ 63 * 2 ^ 31 + r) ≡ narrowOf (ofBits binary64 b)
+either-sign b r h n = elim (decLt b (2 ^ 63)) [
+  | yes l ↦ ap (ofBits binary32) (omega arith) ∙ n false ∙ ap (λ (x : ℕ). narrowOf (ofBits binary64 x)) (omega arith)
+  | no l ↦ ap (ofBits binary32) (omega arith) ∙ n true ∙ ap (λ (x : ℕ). narrowOf (ofBits binary64 x)) (omega arith)
+]

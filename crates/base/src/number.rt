@@ -21,14 +21,20 @@ pub fn is_negative(x: f64) -> bool
 pub fn abs64(x: f64) -> f64
     ensures { λ r. ⌜ r ≡ absOf x ⌝ }
 {
-    if is_negative(x) { -x } else { x }
+    if x != x {
+        return x;
+    }
+    f64::from_bits(f64::to_bits(x) % 0x8000_0000_0000_0000)
 }
 
 // |x|, which takes -0 to +0.
 pub fn abs32(x: f32) -> f32
     ensures { λ r. ⌜ r ≡ absOf x ⌝ }
 {
-    if is_negative(widen(x)) { -x } else { x }
+    if x != x {
+        return x;
+    }
+    f32::from_bits(f32::to_bits(x) % 0x8000_0000)
 }
 
 // The lesser of two, the other one where one is a NaN, and the left of equals.
@@ -159,21 +165,15 @@ pub fn to_u64(x: f64) -> u64
     }
 }
 
-// m / 2^n to the nearest whole number, a tie to the even one.
+// m / 2^n to the nearest whole number, a tie to the even one: half a unit less one is added, and one
+// more where the quotient is odd.
 fn half_even(m: u64, n: u64) -> u64
-    requires { ⌜ (0 < n) × (n < 64) ⌝ }
+    requires { ⌜ (0 < n) × (n < 64) × (m < 2 ^ 63) ⌝ }
     ensures { λ r. ⌜ r ≡ closest m (2 ^ n) ⌝ }
 {
-    let q = m >> n;
-    let rest = m - (q << n);
-    let half = 1 << (n - 1);
-    if rest < half {
-        q
-    } else if rest == half {
-        q + q % 2
-    } else {
-        q + 1
-    }
+    let odd = (m >> n) % 2;
+    let half: u64 = 1 << (n - 1);
+    (m + (half - 1) + odd) >> n
 }
 
 // The bits of the `f32` nearest to the `f64` whose bits, without the sign, are b, for either sign.
@@ -202,11 +202,8 @@ pub fn narrow(x: f64) -> f32
         return 0.0 / 0.0;
     }
     let b = f64::to_bits(x);
-    if b < 0x8000_0000_0000_0000 {
-        f32::from_bits(magnitude(b) as u32)
-    } else {
-        f32::from_bits((0x8000_0000 + magnitude(b - 0x8000_0000_0000_0000)) as u32)
-    }
+    let sign = b / 0x8000_0000_0000_0000;
+    f32::from_bits((sign * 0x8000_0000 + magnitude(b % 0x8000_0000_0000_0000)) as u32)
 }
 
 // √(a * 2^52) to the nearest whole number, a binary digit a turn.

@@ -1,13 +1,14 @@
 // Replays the answers of the Rust side in data/numbers.bin through the crate `base`, and prints for
 // each function how many were compared and how many differ. A row is three little-endian words of
-// 64 bits: the function's number, the argument and the answer, as oracle/ writes them.
+// 64 bits: the function's number, the argument and the answer, as oracle/ writes them. A row of
+// function 0 holds the name of the function that follows.
 use base::angle::Degrees;
 use base::angle::Radians;
 use base::constants;
 use base::elementary;
 use base::number;
 use libc::STDOUT_FILENO;
-ghost use Prim.Native.Nat.{_+_, _<_, _^_};
+ghost use Prim.Native.Nat.{_+_, _<_, _≤_, _^_};
 ghost use lib.ListN.{length};
 
 fn wide(x: u8) -> u64
@@ -124,49 +125,26 @@ fn is_right(f: u64, w: u64, wanted: u64) -> bool {
     }
 }
 
-fn print_name(f: u64) {
-    let fd = STDOUT_FILENO;
-    match f {
-        1 => io::write_all(fd, b"abs32"),
-        2 => io::write_all(fd, b"abs64"),
-        3 => io::write_all(fd, b"min"),
-        4 => io::write_all(fd, b"max"),
-        5 => io::write_all(fd, b"widen"),
-        6 => io::write_all(fd, b"narrow"),
-        7 => io::write_all(fd, b"sqrt64"),
-        8 => io::write_all(fd, b"sqrt32"),
-        9 => io::write_all(fd, b"to_i32"),
-        10 => io::write_all(fd, b"from_i32"),
-        11 => io::write_all(fd, b"to_u64"),
-        12 => io::write_all(fd, b"is_negative"),
-        20 => io::write_all(fd, b"sin64"),
-        21 => io::write_all(fd, b"cos64"),
-        22 => io::write_all(fd, b"atan64"),
-        23 => io::write_all(fd, b"acos64"),
-        24 => io::write_all(fd, b"exp64"),
-        25 => io::write_all(fd, b"ln64"),
-        30 => io::write_all(fd, b"sin32"),
-        31 => io::write_all(fd, b"cos32"),
-        32 => io::write_all(fd, b"atan32"),
-        33 => io::write_all(fd, b"acos32"),
-        34 => io::write_all(fd, b"exp32"),
-        35 => io::write_all(fd, b"ln32"),
-        40 => io::write_all(fd, b"constants"),
-        41 => io::write_all(fd, b"to_radians"),
-        42 => io::write_all(fd, b"to_degrees"),
-        _ => io::write_all(fd, b"unknown"),
-    }
-    ;
-}
-
-// How many rows of a function were compared, and how many differ.
+// How many rows were compared, and how many differ.
 struct Tally {
-    function: u64,
     compared: u64,
     differ: u64,
 }
 
-fn print_counts(t: Tally) {
+fn counted(t: Tally, right: bool) -> Tally {
+    let differ = if right {
+        t.differ
+    } else {
+        std::num::wrapping_add_u64(t.differ, 1)
+    };
+    Tally {
+        compared: std::num::wrapping_add_u64(t.compared, 1),
+        differ,
+    }
+}
+
+// The end of a function's line.
+fn print_tally(t: Tally) {
     let fd = STDOUT_FILENO;
     io::write_all(fd, b" ");
     io::print_decimal(fd, t.compared);
@@ -175,67 +153,66 @@ fn print_counts(t: Tally) {
     io::write_all(fd, b" differ\n");
 }
 
-fn print_tally(t: Tally) {
-    if t.compared > 0 {
-        print_name(t.function);
-        print_counts(t);
+// Where the name ends that starts at a row's byte 8.
+fn name_end(row: &[u8]) -> usize
+    ensures { λ r. ⌜ r ≤ length (now (row .entry)) ⌝ }
+{
+    let mut i: usize = 0;
+    while i < row.len() {
+        if 8 <= i {
+            if row[i] == 0 {
+                return i;
+            }
+        }
+        i += 1;
     }
+    i
 }
 
-fn counted(t: Tally, same: bool) -> Tally {
-    let differ = if same {
-        t.differ
-    } else {
-        std::num::wrapping_add_u64(t.differ, 1)
-    };
-    Tally {
-        function: t.function,
-        compared: std::num::wrapping_add_u64(t.compared, 1),
-        differ,
-    }
-}
-
-// The tally that a row of the function f is counted in; the one before is printed where f is new.
-fn tally_for(t: Tally, f: u64) -> Tally {
-    if t.function == f {
-        return t;
-    }
-    print_tally(t);
-    Tally {
-        function: f,
-        compared: 0,
-        differ: 0,
+fn print_name(row: &[u8]) {
+    let end = name_end(row);
+    if 8 <= end {
+        io::write_all(STDOUT_FILENO, &row[8..end]);
     }
 }
 
 fn replay(fd: i32) {
     let mut part = Tally {
-        function: 0,
         compared: 0,
         differ: 0,
     };
     let mut all = Tally {
-        function: 0,
         compared: 0,
         differ: 0,
     };
     let mut left: u64 = 1000000;
     while left > 0 {
+        left -= 1;
         let mut row = [0u8; 24];
         let got = io::read_full(fd, &mut row);
         if got < 24 {
             left = 0;
         } else {
             let f = word(&row, 0);
-            let same = is_right(f, word(&row, 8), word(&row, 16));
-            part = counted(tally_for(part, f), same);
-            all = counted(all, same);
-            left -= 1;
+            if f == 0 {
+                if part.compared > 0 {
+                    print_tally(part);
+                }
+                print_name(&row);
+                part = Tally {
+                    compared: 0,
+                    differ: 0,
+                };
+            } else {
+                let right = is_right(f, word(&row, 8), word(&row, 16));
+                part = counted(part, right);
+                all = counted(all, right);
+            }
         }
     }
     print_tally(part);
     io::write_all(STDOUT_FILENO, b"all");
-    print_counts(all);
+    print_tally(all);
 }
 
 fn main() {

@@ -11,6 +11,7 @@ pub use linked::run;
 
 #[cfg(linked)]
 mod linked {
+    use crate::commands::whole;
     use crate::functions::{Function, FUNCTIONS};
     use crate::generator::Generator;
     use crate::ranges::inside;
@@ -32,11 +33,6 @@ mod linked {
             (_, 0) => Ok(()),
             _ => Err(format!("{differing} answers differ")),
         }
-    }
-
-    fn whole(word: &str) -> Result<u64, String> {
-        word.parse()
-            .map_err(|_| format!("{word} is not a whole number"))
     }
 
     /// Prints one line and gives the number of answers that differ. NaNs are

@@ -1,5 +1,6 @@
 //! `numbers FILE`: the vectors of the arithmetic, in rows of function
-//! number, argument and answer, three little-endian u64 each.
+//! number, argument and answer, three little-endian u64 each. A row of
+//! function 0 stands before each function's and holds its name.
 
 use crate::bits::Answer;
 use crate::functions::{Function, FUNCTIONS};
@@ -23,12 +24,14 @@ pub fn run(file: &str) -> Result<(), String> {
             function.name,
             words.len()
         );
+        push_heading(&mut bytes, function.name);
         for word in words {
             push_row(&mut bytes, [function.number, word, (function.rust)(word)]);
         }
     }
     let constants = constants();
-    println!("{CONSTANT} {:<12} {:>5} rows", "constant", constants.len());
+    println!("{CONSTANT} {:<12} {:>5} rows", "constants", constants.len());
+    push_heading(&mut bytes, "constants");
     for (index, constant) in (0..).zip(constants) {
         push_row(&mut bytes, [CONSTANT, index, constant.to_word()]);
     }
@@ -38,6 +41,13 @@ pub fn run(file: &str) -> Result<(), String> {
 
 fn push_row(bytes: &mut Vec<u8>, row: [u64; 3]) {
     bytes.extend(row.iter().flat_map(|word| word.to_le_bytes()));
+}
+
+/// The name's bytes, filled up with zeros.
+fn push_heading(bytes: &mut Vec<u8>, name: &str) {
+    let mut row = [0; 24];
+    row[8..8 + name.len()].copy_from_slice(name.as_bytes());
+    bytes.extend(row);
 }
 
 /// The seed depends on the number, so that a further function leaves the

@@ -1,20 +1,25 @@
-use borrow.Author.Needs.{needs}
-use mathlib.Core.Path.{sym, _∙_}
-use Rattle.base.specs.Number.{absOf}
-use Rattle.base.proofs.Picks.{cond-true, cond-false}
+-- `abs64` drops the sign's bit (`abs-bits`).
+use mathlib.Core.Path.{sym, subst}
+use lib.Dec.{T}
+use lib.Ieee.{binary64, fits}
+use Rattle.base.proofs.Patterns.{is-nan, no-nan, abs-nan, abs-bits, abs-no-nan}
 use Rattle.base.proofs.number.abs64.Statement.{statement}
 use Rattle.base.proofs.number.abs64.Tie as tie
 
-is-negative-requires : tie.Need-is-negative-requires
-is-negative-requires c κs = search needs
+held : (c : tie.Start) → T (fits binary64 (c .args .x))
+held c = subst T (sym (c .good .0 .1)) tt
 
 returns : tie.Need-returns
-unfolding absOf
-returns c = sym (cond-true _ _ (sym (c .before .is-negative .ensures) ∙ c .if1 .taken))
+returns c = abs-nan (c .before .args .x) (is-nan (c .before .args .x) (c .if1 .taken))
+
+float-to-bits-result : tie.Need-float-to-bits-result
+float-to-bits-result c = no-nan (c .before .args .x) (c .if1 .left)
+
+float-from-bits-result : tie.Need-float-from-bits-result
+float-from-bits-result c = abs-no-nan binary64 (c .before .args .x) (held (c .before)) (no-nan (c .before .args .x) (c .if1 .left))
 
 returns-2 : tie.Need-returns-2
-unfolding absOf
-returns-2 c = sym (cond-false _ _ (sym (c .before .is-negative .ensures) ∙ c .if1 .left))
+returns-2 c = abs-bits binary64 (c .before .args .x) (held (c .before)) (no-nan (c .before .args .x) (c .if1 .left))
 
 pub abs64-spec : {M : Type 1} → statement M
-abs64-spec = tie.close (tie.spec is-negative-requires returns returns-2)
+abs64-spec = tie.close (tie.spec returns float-to-bits-result float-from-bits-result returns-2)

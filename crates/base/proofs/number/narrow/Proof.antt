@@ -1,72 +1,57 @@
+-- `narrow` is `narrowOf`: the sign's bit is carried over, and `magnitude` rounds the size for either sign.
 use borrow.Author.Needs.{needs}
-use mathlib.Core.Path.{_≡_, refl, sym, ap, _∙_, subst}
-use mathlib.Core.Bool.{Bool, true, false, cond}
-use Prim.Native.Nat.{ℕ, _+_, _-_, _*_, _%_, _^_, _≤_, _<_}
-use native.Mathlib.Nat.{zero-add}
+use mathlib.Core.Path.{_≡_, sym, ap, _∙_, subst}
+use Prim.Native.Nat.{ℕ, _+_, _*_, _/_, _%_, _^_, _≤_, _<_}
 use native.Mathlib.Omega.{arith}
 use lib.Dec.{T}
-use lib.Ieee.{Float, nan, binary32, binary64, fits, div, ofBits, toBits}
+use lib.Ieee.{Float, nan, binary32, binary64, fits, ofBits, toBits}
 use lib.Ieee.Bits.{ofBits-toBits, toBits-lt}
 use Rattle.base.specs.Number.{narrowOf}
-use Rattle.base.proofs.Patterns.{is-nan, no-nan, magnitude-le, no-nan-bits}
-use Rattle.base.proofs.Narrowing.{Narrows}
+use Rattle.base.proofs.Narrowing.{either-sign}
+use Rattle.base.proofs.Patterns.{is-nan, no-nan, magnitude-le, no-nan-bits, no-number}
 use Rattle.base.proofs.number.narrow.Statement.{statement}
 use Rattle.base.proofs.number.narrow.Tie as tie
 
--- what owning an `f64` tells
 held : (c : tie.Start) → T (fits binary64 (c .args .x))
 held c = subst T (sym (c .good .0 .1)) tt
 
--- of the bits, without the sign and with it
 capped : (c : tie.Else1) → toBits binary64 (c .before .args .x) % 2 ^ 63 ≤ 2047 * 2 ^ 52
 capped c = magnitude-le binary64 (c .before .args .x) (held (c .before)) (no-nan (c .before .args .x) (c .if1 .left))
 
 wide : (c : tie.Start) → toBits binary64 (c .args .x) < 2 ^ 64
 wide c = toBits-lt binary64 (c .args .x) (held c)
 
-nan-case : (x : Float) → x ≡ nan → div binary32 (ofBits binary32 0) (ofBits binary32 0) ≡ narrowOf x
-unfolding div ofBits narrowOf
+nan-case : (x : Float) → x ≡ nan → nan ≡ narrowOf x
+unfolding narrowOf
 nan-case x e = ap narrowOf (sym e)
 
 returns : tie.Need-returns
-returns c = nan-case (c .before .args .x) (is-nan (c .before .args .x) (c .if1 .taken))
+returns c = no-number binary32 ∙ nan-case (c .before .args .x) (is-nan (c .before .args .x) (c .if1 .taken))
 
 float-to-bits-b : tie.Need-float-to-bits-b
 float-to-bits-b c = no-nan (c .before .args .x) (c .if1 .left)
 
+mul-result : tie.Need-mul-result
+mul-result c = omega (arith, wide (c .before))
+
 magnitude-requires : tie.Need-magnitude-requires
-magnitude-requires c κs = omega (arith, capped (c .before))
-
-cast-result : tie.Need-cast-result
-cast-result c = search needs
-
-float-from-bits-result : tie.Need-float-from-bits-result
-float-from-bits-result c = no-nan-bits binary32 (c .magnitude .result) (omega arith)
-
-magnitude-requires-2 : tie.Need-magnitude-requires-2
-magnitude-requires-2 c κs = omega (arith, capped (c .before), wide (c .before .before))
+magnitude-requires c κs = omega (arith, capped c)
 
 add-result : tie.Need-add-result
-add-result c = search needs
+add-result c = omega (arith, wide (c .before .before), c .magnitude .ensures .0)
 
-cast-result-2 : tie.Need-cast-result-2
-cast-result-2 c = search needs
+cast-result : tie.Need-cast-result
+cast-result c = omega (arith, wide (c .before .before), c .magnitude .ensures .0)
 
-float-from-bits-result-2 : tie.Need-float-from-bits-result-2
-float-from-bits-result-2 c = no-nan-bits binary32 (2 ^ 31 + c .magnitude2 .result) (omega arith)
+float-from-bits-result : tie.Need-float-from-bits-result
+float-from-bits-result c =
+    no-nan-bits binary32 (toBits binary64 (c .before .before .args .x) / 2 ^ 63 * 2 ^ 31 + c .magnitude .result) (omega (arith, wide (c .before .before), c .magnitude .ensures .0))
 
 returns-2 : tie.Need-returns-2
 returns-2 c =
-    let x = c .before .before .before .args .x in
-    let r = c .magnitude .result in
-    ap (ofBits binary32) (sym (zero-add r)) ∙ c .magnitude .ensures .1 false ∙ ap (λ (n : ℕ). narrowOf (ofBits binary64 n)) (zero-add (toBits binary64 x)) ∙ ap narrowOf (ofBits-toBits binary64 x (held (c .before .before .before)))
-
-returns-3 : tie.Need-returns-3
-returns-3 c =
-    let x = c .before .before .before .args .x in
-    c .magnitude2 .ensures .1 true
-    ∙ ap (λ (n : ℕ). narrowOf (ofBits binary64 n)) (omega arith)
-    ∙ ap narrowOf (ofBits-toBits binary64 x (held (c .before .before .before)))
+    let x = c .before .before .args .x in
+    either-sign (toBits binary64 x) (c .magnitude .result) (wide (c .before .before)) (c .magnitude .ensures .1)
+    ∙ ap narrowOf (ofBits-toBits binary64 x (held (c .before .before)))
 
 pub narrow-spec : {M : Type 1} → statement M
 narrow-spec =
@@ -74,12 +59,9 @@ narrow-spec =
     (tie.spec
     returns
     float-to-bits-b
+    mul-result
     magnitude-requires
+    add-result
     cast-result
     float-from-bits-result
-    magnitude-requires-2
-    add-result
-    cast-result-2
-    float-from-bits-result-2
-    returns-2
-    returns-3)
+    returns-2)

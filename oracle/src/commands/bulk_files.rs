@@ -1,0 +1,217 @@
+//! `bulk-files COUNT SEED`: the port's file functions beside the Rust over
+//! random files, good, damaged and wild.
+
+#[cfg(not(linked_files))]
+pub fn run(_count: &str, _seed: &str) -> Result<(), String> {
+    Err(String::from(crate::NO_FILES))
+}
+
+#[cfg(linked_files)]
+pub use linked::run;
+
+#[cfg(linked_files)]
+mod linked {
+    use crate::bits::{Answer, Kind};
+    use crate::commands::whole;
+    use crate::damage::Damage;
+    use crate::data_files::{calm, ladders::near_good, wild, Pair};
+    use crate::generator::Generator;
+    use crate::index_check::{self, IndexTable};
+    use crate::port;
+    use crate::reference_files::{blends, put, walk};
+    use crate::voacap::coefficients::parse_month_file;
+
+    /// What an untouched buffer holds: no NaN, and no likely coefficient.
+    const UNTOUCHED: u32 = 0x5a5a_5a5a;
+
+    pub fn run(count: &str, seed: &str) -> Result<(), String> {
+        let count = whole(count)?;
+        let seed = whole(seed)?;
+        let names = ["month_file_check", "index_check", "cofion", "hmym"];
+        let mut tallies = names.map(Tally::new);
+        for case in 0..count {
+            // A seed of its own, so that a case can be found again.
+            let mut random = Generator::new(seed.wrapping_mul(1 << 32) ^ case);
+            compare(&mut random, &mut tallies, case);
+        }
+        let differing: u64 = tallies.iter().map(Tally::print).sum();
+        match differing {
+            0 => Ok(()),
+            _ => Err(format!("{differing} answers differ")),
+        }
+    }
+
+    struct Tally {
+        name: &'static str,
+        compared: u64,
+        differing: u64,
+        first: Option<String>,
+    }
+
+    impl Tally {
+        fn new(name: &'static str) -> Self {
+            Self {
+                name,
+                compared: 0,
+                differing: 0,
+                first: None,
+            }
+        }
+
+        fn note(&mut self, case: u64, difference: Option<String>) {
+            self.compared += 1;
+            if let Some(text) = difference {
+                self.differing += 1;
+                self.first.get_or_insert(format!("case {case}: {text}"));
+            }
+        }
+
+        /// Prints one line and gives the number of answers that differ.
+        fn print(&self) -> u64 {
+            println!(
+                "{:<16} {:>12} compared {:>12} differ",
+                self.name, self.compared, self.differing
+            );
+            if let Some(first) = &self.first {
+                println!("    first in {first}");
+            }
+            self.differing
+        }
+    }
+
+    /// The other three are defined for files only that the walk accepts.
+    fn compare(random: &mut Generator, tallies: &mut [Tally; 4], case: u64) {
+        let pair = files(random);
+        let [check, index, cofion, hmym] = tallies;
+        let wanted = walk(&pair.month);
+        check.note(case, refusal(port_check(&pair.month), wanted));
+        if wanted != (0, 0) {
+            return;
+        }
+        index.note(case, refusal(port_index(&pair.month), index_answer(&pair)));
+        put(&pair.daw, &pair.month, 1);
+        let ssn = sunspots(random);
+        let wanted = blends(1, ssn);
+        let note = |difference: Option<String>| difference.map(|text| format!("{ssn:e}: {text}"));
+        let difference = blend(random, &wanted.0, |out| port_cofion(&pair, ssn, out));
+        cofion.note(case, note(difference));
+        let difference = blend(random, &wanted.1, |out| port_hmym(&pair, ssn, out));
+        hmym.note(case, note(difference));
+    }
+
+    /// Calm or wild, with a table that passes or nearly does; half of them
+    /// damaged.
+    fn files(random: &mut Generator) -> Pair {
+        let ikim = near_good(random);
+        let mut pair = match random.below(5) {
+            0 | 1 => calm(random, &ikim, 1),
+            2 => wild(random, &ikim, 1, 500),
+            3 => wild(random, &ikim, 1, 8),
+            _ => wild(random, &ikim, 1, 1),
+        };
+        if random.below(2) == 0 {
+            pair.month = Damage::any(random).done_to(&pair.month);
+        }
+        // Bytes after the record are ignored.
+        let further = random.below(8) as usize;
+        pair.daw.resize(pair.daw.len() + further, 0xaa);
+        pair
+    }
+
+    /// In range, whole or not, and any bits.
+    fn sunspots(random: &mut Generator) -> f32 {
+        match random.below(4) {
+            0 => random.below(301) as f32,
+            1 => f32::from_bits(random.any(Kind::F32) as u32),
+            _ => random.uniform(0.0, 300.0) as f32,
+        }
+    }
+
+    fn index_answer(pair: &Pair) -> (u32, u32) {
+        let raw = parse_month_file(&pair.month, "month").expect("a good file");
+        let table: IndexTable = raw.ikim;
+        index_check::answer(&table)
+    }
+
+    fn refusal(ours: u64, theirs: (u32, u32)) -> Option<String> {
+        let ours = ((ours >> 32) as u32, ours as u32);
+        let text = |(number, place): (u32, u32)| format!("{number} at {place}");
+        (ours != theirs).then(|| format!("port {}, Rust {}", text(ours), text(theirs)))
+    }
+
+    /// A buffer of the right length gets every value; another one, in one
+    /// case of eight, is left as it was.
+    fn blend(
+        random: &mut Generator,
+        wanted: &[f32],
+        port: impl FnOnce(&mut [f32]) -> u32,
+    ) -> Option<String> {
+        let fits = random.below(8) != 0;
+        let length = match (fits, random.below(3)) {
+            (true, _) => wanted.len(),
+            (false, 0) => wanted.len() - 1,
+            (false, 1) => wanted.len() + 1,
+            _ => random.below(wanted.len() as u64) as usize,
+        };
+        let untouched = vec![f32::from_bits(UNTOUCHED); length];
+        let mut out = untouched.clone();
+        let answer = port(&mut out);
+        if answer != u32::from(fits) {
+            return Some(format!("answer {answer} for a buffer of {length}"));
+        }
+        difference(&out, if fits { wanted } else { &untouched })
+    }
+
+    /// The first place at which the words differ; NaNs are one word.
+    fn difference(ours: &[f32], theirs: &[f32]) -> Option<String> {
+        let pairs = ours.iter().map(|v| v.to_word()).zip(theirs.iter());
+        let mut words = (0..).zip(pairs.map(|(ours, theirs)| (ours, theirs.to_word())));
+        words
+            .find(|(_, (ours, theirs))| ours != theirs)
+            .map(|(i, (ours, theirs))| {
+                let i: usize = i;
+                format!("element {i}: port {ours:08x}, Rust {theirs:08x}")
+            })
+    }
+
+    fn port_check(file: &[u8]) -> u64 {
+        // SAFETY: start and length of one slice, which is only read.
+        unsafe { port::month_file_check(file.as_ptr(), file.len()) }
+    }
+
+    /// The whole month file is lent, as to the other functions.
+    fn port_index(file: &[u8]) -> u64 {
+        // SAFETY: start and length of one slice, which is only read.
+        unsafe { port::index_check(file.as_ptr(), file.len()) }
+    }
+
+    fn port_cofion(pair: &Pair, ssn: f32, out: &mut [f32]) -> u32 {
+        let Pair { daw, month } = pair;
+        // SAFETY: start and length of three slices, `out` lent for writing.
+        unsafe {
+            port::cofion(
+                daw.as_ptr(),
+                daw.len(),
+                month.as_ptr(),
+                month.len(),
+                ssn,
+                out.as_mut_ptr(),
+                out.len(),
+            )
+        }
+    }
+
+    fn port_hmym(pair: &Pair, ssn: f32, out: &mut [f32]) -> u32 {
+        let month = &pair.month;
+        // SAFETY: start and length of two slices, `out` lent for writing.
+        unsafe {
+            port::hmym(
+                month.as_ptr(),
+                month.len(),
+                ssn,
+                out.as_mut_ptr(),
+                out.len(),
+            )
+        }
+    }
+}
