@@ -6,7 +6,7 @@ pub type IndexTable = [[i32; 10]; 6];
 
 pub const ROWS: [i32; 6] = [55, 61, 55, 76, 49, 22];
 pub const HARMONICS: [i32; 6] = [2, 3, 2, 6, 4, 4];
-pub const REFUSED: u32 = 11;
+const REFUSED: u32 = 11;
 
 /// The refusal's number and place, both 0 for a table that passes.
 pub fn answer(table: &IndexTable) -> (u32, u32) {

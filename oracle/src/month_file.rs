@@ -3,7 +3,7 @@
 
 use crate::voacap::coefficients::RawMonthFile;
 
-pub const RECORDS: [u32; 9] = [240, 11184, 5328, 3528, 3168, 1920, 7128, 4400, 1584];
+const RECORDS: [u32; 9] = [240, 11184, 5328, 3528, 3168, 1920, 7128, 4400, 1584];
 /// How many of the 20 tables each record holds.
 const TABLES: [usize; 9] = [1, 2, 3, 1, 2, 6, 2, 2, 1];
 pub const BYTES: usize = 38_552;

@@ -14,3 +14,9 @@ pub mod Signs
 pub mod Twos
 pub mod Logs
 pub mod Terms
+pub mod Order
+pub mod Monotone
+pub mod RootsOrder
+pub mod Intervals
+pub mod Reduction
+pub mod Bounds

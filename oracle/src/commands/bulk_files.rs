@@ -16,7 +16,7 @@ mod linked {
     use crate::damage::Damage;
     use crate::data_files::{calm, ladders::near_good, wild, Pair};
     use crate::generator::Generator;
-    use crate::index_check::{self, IndexTable};
+    use crate::index_check;
     use crate::port;
     use crate::reference_files::{blends, put, walk};
     use crate::voacap::coefficients::parse_month_file;
@@ -92,11 +92,11 @@ mod linked {
         put(&pair.daw, &pair.month, 1);
         let ssn = sunspots(random);
         let wanted = blends(1, ssn);
-        let note = |difference: Option<String>| difference.map(|text| format!("{ssn:e}: {text}"));
+        let at = |difference: Option<String>| difference.map(|text| format!("at {ssn:e}, {text}"));
         let difference = blend(random, &wanted.0, |out| port_cofion(&pair, ssn, out));
-        cofion.note(case, note(difference));
+        cofion.note(case, at(difference));
         let difference = blend(random, &wanted.1, |out| port_hmym(&pair, ssn, out));
-        hmym.note(case, note(difference));
+        hmym.note(case, at(difference));
     }
 
     /// Calm or wild, with a table that passes or nearly does; half of them
@@ -129,14 +129,13 @@ mod linked {
 
     fn index_answer(pair: &Pair) -> (u32, u32) {
         let raw = parse_month_file(&pair.month, "month").expect("a good file");
-        let table: IndexTable = raw.ikim;
-        index_check::answer(&table)
+        index_check::answer(&raw.ikim)
     }
 
-    fn refusal(ours: u64, theirs: (u32, u32)) -> Option<String> {
+    fn refusal(ours: u64, wanted: (u32, u32)) -> Option<String> {
         let ours = ((ours >> 32) as u32, ours as u32);
         let text = |(number, place): (u32, u32)| format!("{number} at {place}");
-        (ours != theirs).then(|| format!("port {}, Rust {}", text(ours), text(theirs)))
+        (ours != wanted).then(|| format!("port {}, wanted {}", text(ours), text(wanted)))
     }
 
     /// A buffer of the right length gets every value; another one, in one
@@ -163,15 +162,14 @@ mod linked {
     }
 
     /// The first place at which the words differ; NaNs are one word.
-    fn difference(ours: &[f32], theirs: &[f32]) -> Option<String> {
-        let pairs = ours.iter().map(|v| v.to_word()).zip(theirs.iter());
-        let mut words = (0..).zip(pairs.map(|(ours, theirs)| (ours, theirs.to_word())));
-        words
-            .find(|(_, (ours, theirs))| ours != theirs)
-            .map(|(i, (ours, theirs))| {
-                let i: usize = i;
-                format!("element {i}: port {ours:08x}, Rust {theirs:08x}")
-            })
+    fn difference(ours: &[f32], wanted: &[f32]) -> Option<String> {
+        let words = |values: &[f32]| -> Vec<u64> { values.iter().map(|v| v.to_word()).collect() };
+        let (ours, wanted) = (words(ours), words(wanted));
+        let i = (0..ours.len()).find(|i| ours[*i] != wanted[*i])?;
+        Some(format!(
+            "element {i}: port {:08x}, wanted {:08x}",
+            ours[i], wanted[i]
+        ))
     }
 
     fn port_check(file: &[u8]) -> u64 {

@@ -61,7 +61,7 @@ mod linked {
 
     /// Any bits and bits inside the function's range in turn.
     fn argument(function: &Function, random: &mut Generator, i: u64) -> u64 {
-        if i % 2 == 0 {
+        if i.is_multiple_of(2) {
             random.any(function.kind)
         } else {
             inside(function, random)

@@ -116,8 +116,9 @@ fn plane<const I: usize, const J: usize>(
         rows[2][0] += shape.poles;
     }
     // cos(longitude) and sin(longitude) follow the powers of the sine; with
-    // the time they make the cosine of the local hour.
-    let east = ladder[0] as usize + 1;
+    // the time they make the cosine of the local hour. A table that is to be
+    // refused may hold any word.
+    let east = ladder[0].max(0) as usize + 1;
     if east + 1 < J {
         rows[east][2] += shape.day;
         rows[east + 1][1] -= shape.day;
