@@ -1,20 +1,18 @@
 -- What `narrow::magnitude` computes, case by case of the exponent's field. Assumes nothing.
-use mathlib.Core.Path.{_≡_, refl, sym, ap, _∙_, subst}
+use mathlib.Core.Path.{_≡_, refl, sym, ap, _∙_}
 use mathlib.Core.Logic.{_⊎_, inl, inr}
-use mathlib.Core.Bool.{Bool, true, false, not, cond}
+use mathlib.Core.Bool.{Bool, true, false, cond}
 use Prim.Native.Nat.{ℕ, zero, suc, _+_, _-_, _*_, _/_, _%_, _^_, _≤_, _<_}
-use native.Mathlib.Nat.{le-trans, le-of-eq, eq-or-lt-of-le, lt-of-lt-of-le, lt-irrefl, zero-add, add-comm, mul-assoc, mul-one, mod-lt, div-eq-of-lt, mod-eq-of-lt}
+use native.Mathlib.Nat.{eq-or-lt-of-le, lt-of-lt-of-le, zero-add, mul-assoc, mul-one, div-eq-of-lt, mod-eq-of-lt}
 use native.Mathlib.Omega.{arith}
 use native.Mathlib.Decide.{decLt}
-use lib.Dec.{T, leb, eqb, lit≤, lit<, eqb→eq, not-T, le→leb}
-use lib.Arith.{lt→nleb}
-use lib.Pow.{pow-add, pow-pos, pow-mono, shl-lt}
+use lib.Dec.{lit≤}
+use lib.Pow.{pow-pos, pow-mono, shl-lt}
 use lib.Ieee.{Float, nan, inf, fin, binary32, binary64, up, down, round, ofFields, ofBits}
 use lib.Ieee.Fits.{down-pos}
-use lib.Ieee.Exact.{HasValue, odd-sign}
+use lib.Ieee.Exact.{HasValue}
 use lib.Ieee.Scale.{round-same}
 use lib.Ieee.Nearest.{closest}
-use lib.Ieee.Bits.{is-true, is-false, cond-no}
 use Rattle.base.specs.Number.{narrowOf}
 use Rattle.base.proofs.Fields.{decode, field-val, subnormal-val, infinite}
 use Rattle.base.proofs.Rounding.{shifts, inf-bits, round-bits, round-inf}

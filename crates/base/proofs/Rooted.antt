@@ -1,19 +1,18 @@
 -- The bit pattern of a rounded root, from whole numbers that a program can hold. Assumes nothing.
 use mathlib.Core.Path.{_≡_, refl, sym, ap, _∙_, subst}
-use mathlib.Core.Logic.{_⊎_, inl, inr}
-use mathlib.Core.Bool.{Bool, true, false, cond, true≢false}
+use mathlib.Core.Logic.{inr}
+use mathlib.Core.Bool.{true, false, true≢false}
 use Prim.Native.Nat.{ℕ, zero, suc, _+_, _-_, _*_, _/_, _%_, _^_, _≤_, _<_}
-use native.Mathlib.Nat.{le-trans, le-of-eq, lt-of-lt-of-le, lt-of-le-of-lt, lt-irrefl, zero-add, zero-mul, mul-one, mul-comm, mul-assoc, mul-right-comm, mul-mul-mul-comm, mul-le-mul-right, mul-le-mul-left, mul-lt-mul-of-pos-right, mul-pos, mul-div-cancel, pow-suc, sub-le, mod-lt}
+use native.Mathlib.Nat.{le-trans, le-of-eq, lt-of-lt-of-le, lt-of-le-of-lt, lt-irrefl, zero-add, zero-mul, mul-one, mul-comm, mul-assoc, mul-right-comm, mul-mul-mul-comm, mul-le-mul-right, mul-le-mul-left, mul-lt-mul-of-pos-right, mul-pos, mul-div-cancel, pow-suc, sub-le}
 use native.Mathlib.Omega.{arith}
-use lib.Dec.{lit≤, lit<}
-use lib.Pow.{pow-add, pow-pos, pow-mono, pow-lt}
+use lib.Pow.{pow-add, pow-pos, pow-lt}
 use lib.Ieee.{Float, nan, inf, fin, Format, binary64, prec, emax, low, hid, up, down, size, units, ofBits}
 use lib.Ieee.Digits.{size-le}
 use lib.Ieee.Fits.{down-pos}
 use lib.Ieee.Exact.{HasValue}
 use Rattle.base.specs.Number.{root, closestRoot, rounded, sqrtOf}
-use Rattle.base.proofs.Rounding.{shifts, tail, prec-tail, size-gt, just, Kept, units-bits}
-use Rattle.base.proofs.Roots.{root-whole, root-ge, root-lt, closest-root-le, closest-root-ge, closest-root-scale}
+use Rattle.base.proofs.Rounding.{shifts, tail, prec-tail, size-gt, just, units-bits}
+use Rattle.base.proofs.Roots.{root-ge, root-lt, closest-root-le, closest-root-ge, closest-root-scale}
 
 pub four : (k : ℕ) → 4 ^ k ≡ 2 ^ k * 2 ^ k
 four zero = refl

@@ -7,7 +7,6 @@ use native.Mathlib.Omega.{arith}
 use borrow.Author.Tests.{ltb-false, ltb-true, eqb-true, eqb-false}
 use lib.Dec.{T, leb, ltb, eqb, lt→ltb}
 use lib.IntN.{ℤ, pos, negsuc, negℤ}
-use lib.Signed.{mag}
 use lib.Ieee.{Float, nan, inf, fin, binary64, up, down, odd, lt, le, eq, ne, isNan, fits, ofFields, ofBits, toBits, toUnsigned, toSigned}
 use lib.Ieee.Casts.{toSigned-in}
 use mir.Syntax.{w32, w64}

@@ -1,17 +1,17 @@
 -- Powers of two as bit patterns, from the least to the greatest and beyond. Assumes nothing.
-use mathlib.Core.Path.{_≡_, refl, sym, ap, _∙_, subst}
+use mathlib.Core.Path.{_≡_, refl, sym, ap, _∙_}
 use mathlib.Core.Logic.{_⊎_, inl, inr}
-use mathlib.Core.Bool.{Bool, true, false, cond}
-use Prim.Native.Nat.{ℕ, zero, suc, _+_, _-_, _*_, _/_, _%_, _^_, _≤_, _<_, compare}
-use native.Mathlib.Nat.{le-refl, le-of-eq, le-trans, lt-of-lt-of-le, mul-one, mul-assoc, zero-add, div-one, mod-one, div-eq-of-lt, mod-eq-of-lt, eq-or-lt-of-le}
+use mathlib.Core.Bool.{false}
+use Prim.Native.Nat.{ℕ, _+_, _-_, _*_, _/_, _%_, _^_, _≤_, _<_}
+use native.Mathlib.Nat.{mul-one, mul-assoc, zero-add, div-one, div-eq-of-lt, mod-eq-of-lt, eq-or-lt-of-le}
 use native.Mathlib.Omega.{arith}
 use lib.Dec.{lit≤, lit<}
 use lib.Pow.{pow-add, pow-pos, pow-mono, pow-lt}
-use lib.Ieee.{Float, inf, binary64, round, ofBits}
+use lib.Ieee.{inf, binary64, ofBits}
 use lib.Ieee.Nearest.{closest}
 use Rattle.base.specs.Double.{fraction}
 use Rattle.base.proofs.Rounding.{round-bits, round-inf}
-use Rattle.base.proofs.Halves.{nearest-below, nearest-at}
+use Rattle.base.proofs.Halves.{nearest-below}
 
 join : (a b c d : ℕ) → a + b ≡ c + d → 2 ^ a * 2 ^ b ≡ 2 ^ c * 2 ^ d
 join a b c d e = sym (pow-add 2 a b) ∙ ap (λ (x : ℕ). 2 ^ x) e ∙ pow-add 2 c d

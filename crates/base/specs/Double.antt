@@ -1,6 +1,6 @@
 -- The operations of binary64 as signs, each rounded once, and fractions. Assumes nothing.
-use mathlib.Core.Bool.{Bool, true, false}
-use Prim.Native.Nat.{ℕ, _^_}
+use mathlib.Core.Bool.{false}
+use Prim.Native.Nat.{ℕ}
 use lib.Ieee.{Float, binary64, round, add, sub, mul, div}
 
 infixl 60 _⊕_ _⊖_

@@ -1,5 +1,5 @@
 -- Document 01, Elementary steps: worked in f64, every operation rounded once, in the order written. Assumes nothing.
-use mathlib.Core.Bool.{Bool, true, false, cond}
+use mathlib.Core.Bool.{true, false, cond}
 use mathlib.Core.List.{List, [], _∷_, map}
 use Prim.Native.Nat.{ℕ, zero, suc, _+_, _-_, _*_, _%_, _^_}
 use lib.IntN.{ℤ, pos, _+ℤ_}

@@ -1,5 +1,4 @@
 -- Sizes, the lesser and the greater, narrowing and the square root, over the values of `lib.Ieee`. Assumes nothing.
-use mathlib.Core.Path.{_≡_}
 use mathlib.Core.Bool.{Bool, true, false, cond}
 use Prim.Native.Nat.{ℕ, zero, suc, _+_, _-_, _*_, _/_, _^_, _<_, compare}
 use lib.Dec.{T, leb, ltb}

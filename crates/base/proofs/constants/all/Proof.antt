@@ -1,10 +1,10 @@
 -- Each constant of the source is the float nearest to its decimal, by computation over the whole list.
 use borrow.Author.Needs.{needs}
-use mathlib.Core.Path.{_≡_, refl, ap, _∙_}
-use mathlib.Core.List.{List, [], _∷_}
+use mathlib.Core.Path.{ap, _∙_}
+use mathlib.Core.List.{[], _∷_}
 use lib.Ieee.{Float, round, ofBits}
 use Rattle.base.specs.Single.{decimal}
-use Rattle.base.specs.Constants.{D2R, R2D, PI, PI2, PIO2, RZ, poleLat, poleLon}
+use Rattle.base.specs.Constants.{D2R, R2D, PI, PI2, PIO2, RZ, poleLat}
 use Rattle.base.proofs.constants.all.Statement.{statement}
 use Rattle.base.proofs.constants.all.Tie as tie
 

@@ -1,26 +1,14 @@
+-- `acos64` is `acosOf`: the range's test decides, then the callees' definitions compose.
 use borrow.Author.Needs.{needs}
-use mathlib.Core.Path.{_≡_, refl, sym, ap, _∙_}
-use mathlib.Core.Bool.{Bool, true, false, cond}
-use Prim.Native.Nat.{ℕ, zero, suc, _-_, _%_}
-use lib.Ieee.{Float, binary64, neg, lt, le, round, ofBits, toUnsigned}
-use Rattle.base.specs.Number.{sqrtOf}
-use Rattle.base.specs.Double.{_⊕_, _⊖_, _⊗_, _⊘_, fraction}
-use Rattle.base.specs.Number.{negative, absOf, withSign}
-use Rattle.base.specs.Elementary.{nearOf, quarterOf, powerOf}
+use mathlib.Core.Path.{sym, ap, _∙_}
+use Prim.Native.Nat.{_-_}
+use lib.Ieee.{Float, binary64, le, round, ofBits}
+use Rattle.base.specs.Double.{_⊗_, fraction}
 use Rattle.base.specs.Elementary.{atanOf, acosOf}
 use Rattle.base.proofs.Patterns.{no-number}
 use Rattle.base.proofs.Picks.{cond-true, cond-false}
 use Rattle.base.proofs.elementary.acos64.Statement.{statement}
 use Rattle.base.proofs.elementary.acos64.Tie as tie
-
-abs64-requires : tie.Need-abs64-requires
-abs64-requires c κs = search needs
-
-sqrt64-requires : tie.Need-sqrt64-requires
-sqrt64-requires c κs = search needs
-
-atan64-requires : tie.Need-atan64-requires
-atan64-requires c κs = search needs
 
 returns : tie.Need-returns
 unfolding acosOf fraction round ofBits
@@ -33,4 +21,4 @@ unfolding acosOf fraction round ofBits
 returns-2 c = no-number binary64 ∙ sym (cond-false _ _ (ap (λ (a : Float). le a (fraction 1 1)) (sym (c .before .abs64 .ensures)) ∙ c .if1 .left))
 
 pub acos64-spec : {M : Type 1} → statement M
-acos64-spec = tie.close (tie.spec abs64-requires sqrt64-requires atan64-requires returns returns-2)
+acos64-spec = tie.close (tie.spec (λ c κs. search needs) (λ c κs. search needs) (λ c κs. search needs) returns returns-2)

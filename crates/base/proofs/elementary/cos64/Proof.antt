@@ -1,32 +1,17 @@
+-- `cos64` is `cosOf`: the range's test decides, then the callees' definitions compose.
 use borrow.Author.Needs.{needs}
-use mathlib.Core.Path.{_≡_, refl, sym, ap, _∙_}
-use mathlib.Core.Bool.{Bool, true, false, cond}
-use Prim.Native.Nat.{ℕ, zero, suc, _-_, _%_}
-use lib.Ieee.{Float, binary64, neg, lt, le, round, ofBits, toUnsigned}
-use Rattle.base.specs.Number.{sqrtOf}
-use Rattle.base.specs.Double.{_⊕_, _⊖_, _⊗_, _⊘_, fraction}
-use Rattle.base.specs.Number.{negative, absOf, withSign}
-use Rattle.base.specs.Elementary.{nearOf, quarterOf, powerOf}
+use mathlib.Core.Path.{_≡_, sym, ap, _∙_}
+use mathlib.Core.Bool.{true}
+use Prim.Native.Nat.{_-_}
+use lib.Ieee.{Float, binary64, le, round, ofBits}
+use Rattle.base.specs.Double.{fraction}
+use Rattle.base.specs.Number.{absOf}
+use Rattle.base.specs.Elementary.{quarterOf}
 use Rattle.base.specs.Elementary.{cosOf, cosAt, turnsOf, reducedOf}
 use Rattle.base.proofs.Patterns.{no-number}
 use Rattle.base.proofs.Picks.{cond-true, cond-false}
 use Rattle.base.proofs.elementary.cos64.Statement.{statement}
 use Rattle.base.proofs.elementary.cos64.Tie as tie
-
-abs64-requires : tie.Need-abs64-requires
-abs64-requires c κs = search needs
-
-turns-requires : tie.Need-turns-requires
-turns-requires c κs = search needs
-
-quarter-requires : tie.Need-quarter-requires
-quarter-requires c κs = search needs
-
-reduced-requires : tie.Need-reduced-requires
-reduced-requires c κs = search needs
-
-cos-at-requires : tie.Need-cos-at-requires
-cos-at-requires c κs = search needs
 
 returns : tie.Need-returns
 unfolding cosOf fraction round ofBits
@@ -45,4 +30,4 @@ unfolding cosOf fraction round ofBits
 returns-2 c = no-number binary64 ∙ sym (cond-false _ _ (ap (λ (a : Float). le a (fraction 1000 1)) (sym (c .before .abs64 .ensures)) ∙ c .if1 .left))
 
 pub cos64-spec : {M : Type 1} → statement M
-cos64-spec = tie.close (tie.spec abs64-requires turns-requires quarter-requires reduced-requires cos-at-requires returns returns-2)
+cos64-spec = tie.close (tie.spec (λ c κs. search needs) (λ c κs. search needs) (λ c κs. search needs) (λ c κs. search needs) (λ c κs. search needs) returns returns-2)

@@ -1,10 +1,10 @@
 -- `exp_within` takes whole powers of two out, and sums the series of what is left.
 use borrow.Author.Needs.{needs}
-use mathlib.Core.Path.{_≡_, ap, _∙_}
+use mathlib.Core.Path.{ap, _∙_}
 use mathlib.Core.List.{List}
 use lib.Ieee.{Float, round, ofBits}
 use Rattle.base.specs.Double.{_⊖_, _⊗_, fraction}
-use Rattle.base.specs.Elementary.{nearOf, powerOf, horner, ln2, expTerms, expWithin}
+use Rattle.base.specs.Elementary.{powerOf, horner, ln2, expTerms, expWithin}
 use Rattle.base.proofs.Terms.{exp-tied}
 use Rattle.base.proofs.elementary.exp_within.Statement.{statement}
 use Rattle.base.proofs.elementary.exp_within.Tie as tie

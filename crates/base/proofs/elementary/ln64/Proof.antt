@@ -1,3 +1,4 @@
+-- `ln64` is `lnOf`: NaN, the zeros, what is below zero and the infinity by their patterns, the rest by `ln_bits`.
 use mathlib.Core.Path.{_≡_, refl, sym, ap, _∙_, subst}
 use mathlib.Core.Logic.{_⊎_, inl, inr}
 use mathlib.Core.Bool.{true}
@@ -5,7 +6,7 @@ use Prim.Native.Nat.{ℕ, _+_, _-_, _*_, _%_, _^_, _≤_, _<_}
 use native.Mathlib.Nat.{eq-zero-or-pos}
 use native.Mathlib.Omega.{arith}
 use lib.Dec.{T}
-use lib.Ieee.{Float, inf, binary64, fits, div, neg, ofBits, toBits}
+use lib.Ieee.{inf, binary64, fits, div, neg, ofBits, toBits}
 use lib.Ieee.Bits.{ofBits-toBits, toBits-lt}
 use Rattle.base.specs.Elementary.{lnOf}
 use Rattle.base.proofs.Patterns.{is-nan, no-nan, magnitude-le, no-number}

@@ -1,3 +1,4 @@
+-- `ln_bits` is `lnOf` of its pattern: a subnormal's digits are shifted up first (`subnormal-ln`), a normal number's are read off (`normal-ln`).
 use borrow.Author.Needs.{needs}
 use mathlib.Core.Path.{_∙_}
 use native.Mathlib.Omega.{arith}
@@ -21,15 +22,6 @@ sub-ln-scaled c = omega (arith, lead (c .before .args .b) (c .before .pre .0) (c
 ln-scaled-requires : tie.Need-ln-scaled-requires
 ln-scaled-requires c κs = omega (arith, no-wrap (c .before .args .b) (c .before .pre .0) (c .if1 .taken), lead (c .before .args .b) (c .before .pre .0) (c .if1 .taken) .2, lead (c .before .args .b) (c .before .pre .0) (c .if1 .taken) .3)
 
-add-ln-scaled : tie.Need-add-ln-scaled
-add-ln-scaled c = search needs
-
-add-ln-scaled-2 : tie.Need-add-ln-scaled-2
-add-ln-scaled-2 c = search needs
-
-ln-scaled-requires-2 : tie.Need-ln-scaled-requires-2
-ln-scaled-requires-2 c κs = search needs
-
 returns : tie.Need-returns
 returns c = c .ln-scaled .ensures ∙ subnormal-ln (c .before .before .args .b) (c .before .before .pre .0) (c .before .if1 .taken)
 
@@ -37,4 +29,4 @@ returns-2 : tie.Need-returns-2
 returns-2 c = c .ln-scaled2 .ensures ∙ normal-ln (c .before .before .args .b) (c .before .if1 .left) (c .before .before .pre .1)
 
 pub ln-bits-spec : {M : Type 1} → statement M
-ln-bits-spec = tie.close (tie.spec cast-shift sub-shift shl-ln-scaled sub-ln-scaled ln-scaled-requires add-ln-scaled add-ln-scaled-2 ln-scaled-requires-2 returns returns-2)
+ln-bits-spec = tie.close (tie.spec cast-shift sub-shift shl-ln-scaled sub-ln-scaled ln-scaled-requires (λ c. search needs) (λ c. search needs) (λ c κs. search needs) returns returns-2)

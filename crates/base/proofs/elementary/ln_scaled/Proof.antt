@@ -1,26 +1,17 @@
+-- `ln_scaled` is `lnSum` of the exponent and of the digits, whose pattern m + 2 ^ 52 * 1022 is that of m / 2 ^ 52.
 use borrow.Author.Needs.{needs}
-use mathlib.Core.Path.{_≡_, ap, _∙_}
+use mathlib.Core.Path.{ap, _∙_}
 use Prim.Native.Nat.{_+_, _*_, _^_}
 use native.Mathlib.Omega.{arith}
 use lib.Ieee.{Float, binary64, minus, ofInt, ofBits}
-use Rattle.base.specs.Double.{fraction}
 use Rattle.base.specs.Elementary.{lnSum}
 use Rattle.base.proofs.Patterns.{no-nan-bits}
 use Rattle.base.proofs.Twos.{digits-bits}
 use Rattle.base.proofs.elementary.ln_scaled.Statement.{statement}
 use Rattle.base.proofs.elementary.ln_scaled.Tie as tie
 
-exponent-requires : tie.Need-exponent-requires
-exponent-requires c κs = search needs
-
-add-ln-sum : tie.Need-add-ln-sum
-add-ln-sum c = search needs
-
 float-from-bits-ln-sum : tie.Need-float-from-bits-ln-sum
 float-from-bits-ln-sum c = no-nan-bits binary64 (c .before .args .m + 1022 * 2 ^ 52) (omega arith)
-
-ln-sum-requires : tie.Need-ln-sum-requires
-ln-sum-requires c κs = search needs
 
 returns : tie.Need-returns
 returns c =
@@ -30,4 +21,4 @@ returns c =
     ∙ ap (lnSum (ofInt binary64 (minus (s .args .f) 1075))) (digits-bits (s .args .m) (s .pre .0) (s .pre .1))
 
 pub ln-scaled-spec : {M : Type 1} → statement M
-ln-scaled-spec = tie.close (tie.spec exponent-requires add-ln-sum float-from-bits-ln-sum ln-sum-requires returns)
+ln-scaled-spec = tie.close (tie.spec (λ c κs. search needs) (λ c. search needs) float-from-bits-ln-sum (λ c κs. search needs) returns)

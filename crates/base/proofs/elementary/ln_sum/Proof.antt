@@ -1,3 +1,4 @@
+-- `ln_sum` is `lnSum`, the series by its definition.
 use borrow.Author.Needs.{needs}
 use mathlib.Core.Path.{ap}
 use lib.Ieee.{Float, round, ofBits}
@@ -6,12 +7,9 @@ use Rattle.base.specs.Elementary.{ln2, lnSum}
 use Rattle.base.proofs.elementary.ln_sum.Statement.{statement}
 use Rattle.base.proofs.elementary.ln_sum.Tie as tie
 
-ln-series-requires : tie.Need-ln-series-requires
-ln-series-requires c κs = search needs
-
 returns : tie.Need-returns
 unfolding lnSum ln2 fraction round ofBits
 returns c = ap (λ (s : Float). c .before .args .k ⊗ ln2 ⊕ s) (c .ln-series .ensures)
 
 pub ln-sum-spec : {M : Type 1} → statement M
-ln-sum-spec = tie.close (tie.spec ln-series-requires returns)
+ln-sum-spec = tie.close (tie.spec (λ c κs. search needs) returns)

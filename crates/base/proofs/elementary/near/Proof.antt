@@ -1,3 +1,4 @@
+-- `near` is the two sums, whose literal is 6755399441055744.
 use mathlib.Core.Path.{refl}
 use lib.Ieee.{round, ofBits}
 use Rattle.base.specs.Double.{fraction}

@@ -1,3 +1,4 @@
+-- `power` is `powerOf`, by the sign.
 use borrow.Author.Needs.{needs}
 use mathlib.Core.Path.{_≡_, sym, ap, _∙_}
 use Prim.Native.Nat.{ℕ, _^_}
@@ -8,21 +9,6 @@ use Rattle.base.specs.Elementary.{powerOf}
 use Rattle.base.proofs.Picks.{cond-true, cond-false}
 use Rattle.base.proofs.elementary.power.Statement.{statement}
 use Rattle.base.proofs.elementary.power.Tie as tie
-
-abs64-requires : tie.Need-abs64-requires
-abs64-requires c κs = search needs
-
-to-u64-requires : tie.Need-to-u64-requires
-to-u64-requires c κs = search needs
-
-is-negative-requires : tie.Need-is-negative-requires
-is-negative-requires c κs = search needs
-
-power-down-requires : tie.Need-power-down-requires
-power-down-requires c κs = search needs
-
-power-up-requires : tie.Need-power-up-requires
-power-up-requires c κs = search needs
 
 returns : tie.Need-returns
 unfolding powerOf
@@ -39,4 +25,4 @@ returns-2 c =
     c .power-up .ensures ∙ ap (λ (u : ℕ). fraction (2 ^ u) 1) k ∙ sym (cond-false _ _ (sym (c .before .before .is-negative .ensures) ∙ c .before .if1 .left))
 
 pub power-spec : {M : Type 1} → statement M
-power-spec = tie.close (tie.spec abs64-requires to-u64-requires is-negative-requires power-down-requires power-up-requires returns returns-2)
+power-spec = tie.close (tie.spec (λ c κs. search needs) (λ c κs. search needs) (λ c κs. search needs) (λ c κs. search needs) (λ c κs. search needs) returns returns-2)

@@ -1,31 +1,19 @@
+-- `power_down` is 1 / 2 ^ k: by the exponent's field, then by one digit below the normal numbers, then 0.
 use borrow.Author.Needs.{needs}
-use mathlib.Core.Path.{_≡_, sym, ap, _∙_, subst}
-use Prim.Native.Nat.{ℕ, _+_, _-_, _*_, _%_, _^_, _≤_, _<_}
+use mathlib.Core.Path.{_≡_, ap, _∙_}
+use Prim.Native.Nat.{ℕ, _-_, _*_, _%_, _^_, _≤_, _<_}
 use native.Mathlib.Nat.{one-mul, mod-eq-of-lt, lt-of-lt-of-le}
 use native.Mathlib.Omega.{arith}
-use lib.Dec.{T, lit≤}
+use lib.Dec.{lit≤}
 use lib.Pow.{pow-lt}
 use lib.Ieee.{binary64, ofBits}
-use Rattle.base.specs.Double.{fraction}
 use Rattle.base.proofs.Patterns.{no-nan-bits}
 use Rattle.base.proofs.Twos.{down-bits, down-low, down-zero}
 use Rattle.base.proofs.elementary.power_down.Statement.{statement}
 use Rattle.base.proofs.elementary.power_down.Tie as tie
 
-sub-result : tie.Need-sub-result
-sub-result c = search needs
-
-mul-result : tie.Need-mul-result
-mul-result c = search needs
-
 float-from-bits-result : tie.Need-float-from-bits-result
 float-from-bits-result c = no-nan-bits binary64 ((1023 - c .before .args .k) * 2 ^ 52) (omega arith)
-
-sub-result-2 : tie.Need-sub-result-2
-sub-result-2 c = search needs
-
-shl-result : tie.Need-shl-result
-shl-result c = search needs
 
 small : (k : ℕ) → 1023 ≤ k → 2 ^ (1074 - k) < 2 ^ 52
 small k h = pow-lt {i = 1074 - k} {j = 52} (omega arith)
@@ -49,4 +37,4 @@ returns-3 : tie.Need-returns-3
 returns-3 c = down-zero (c .before .before .args .k) (c .if2 .left)
 
 pub power-down-spec : {M : Type 1} → statement M
-power-down-spec = tie.close (tie.spec sub-result mul-result float-from-bits-result sub-result-2 shl-result float-from-bits-result-2 returns returns-2 returns-3)
+power-down-spec = tie.close (tie.spec (λ c. search needs) (λ c. search needs) float-from-bits-result (λ c. search needs) (λ c. search needs) float-from-bits-result-2 returns returns-2 returns-3)

@@ -1,3 +1,4 @@
+-- `power_up` is 2 ^ k: by the exponent's field, and the infinity from 2 ^ 1024 on.
 use borrow.Author.Needs.{needs}
 use mathlib.Core.Path.{refl, _∙_, _≡_}
 use Prim.Native.Nat.{_+_, _*_, _^_}
@@ -8,12 +9,6 @@ use Rattle.base.proofs.Patterns.{no-nan-bits}
 use Rattle.base.proofs.Twos.{up-bits, up-inf}
 use Rattle.base.proofs.elementary.power_up.Statement.{statement}
 use Rattle.base.proofs.elementary.power_up.Tie as tie
-
-add-result : tie.Need-add-result
-add-result c = search needs
-
-mul-result : tie.Need-mul-result
-mul-result c = search needs
 
 float-from-bits-result : tie.Need-float-from-bits-result
 float-from-bits-result c = no-nan-bits binary64 ((c .before .args .k + 1023) * 2 ^ 52) (omega arith)
@@ -29,4 +24,4 @@ returns-2 : tie.Need-returns-2
 returns-2 c = endless ∙ up-inf (c .before .args .k) (c .if1 .left)
 
 pub power-up-spec : {M : Type 1} → statement M
-power-up-spec = tie.close (tie.spec add-result mul-result float-from-bits-result returns returns-2)
+power-up-spec = tie.close (tie.spec (λ c. search needs) (λ c. search needs) float-from-bits-result returns returns-2)

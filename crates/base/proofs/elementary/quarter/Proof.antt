@@ -1,28 +1,13 @@
+-- `quarter` is `quarterOf`, by the sign.
 use borrow.Author.Needs.{needs}
-use mathlib.Core.Path.{_≡_, refl, sym, ap, _∙_}
-use mathlib.Core.Bool.{Bool, true, false, cond}
-use Prim.Native.Nat.{ℕ, zero, suc, _-_, _%_}
-use lib.Ieee.{Float, binary64, neg, lt, le, round, ofBits, toUnsigned}
-use Rattle.base.specs.Number.{sqrtOf}
-use Rattle.base.specs.Double.{_⊕_, _⊖_, _⊗_, _⊘_, fraction}
-use Rattle.base.specs.Number.{negative, absOf, withSign}
-use Rattle.base.specs.Elementary.{nearOf, quarterOf, powerOf}
-use Rattle.base.specs.Elementary.{turnsOf}
+use mathlib.Core.Path.{_≡_, sym, ap, _∙_}
+use Prim.Native.Nat.{ℕ, _-_, _%_}
+use lib.Ieee.{toUnsigned}
+use Rattle.base.specs.Number.{absOf}
+use Rattle.base.specs.Elementary.{quarterOf}
 use Rattle.base.proofs.Picks.{cond-true, cond-false}
 use Rattle.base.proofs.elementary.quarter.Statement.{statement}
 use Rattle.base.proofs.elementary.quarter.Tie as tie
-
-abs64-requires : tie.Need-abs64-requires
-abs64-requires c κs = search needs
-
-to-u64-requires : tie.Need-to-u64-requires
-to-u64-requires c κs = search needs
-
-is-negative-requires : tie.Need-is-negative-requires
-is-negative-requires c κs = search needs
-
-sub-result : tie.Need-sub-result
-sub-result c = search needs
 
 returns : tie.Need-returns
 unfolding quarterOf
@@ -37,4 +22,4 @@ returns-2 c =
     ap (λ (u : ℕ). u % 4) k ∙ sym (cond-false _ _ (sym (c .before .is-negative .ensures) ∙ c .if1 .left))
 
 pub quarter-spec : {M : Type 1} → statement M
-quarter-spec = tie.close (tie.spec abs64-requires to-u64-requires is-negative-requires sub-result returns returns-2)
+quarter-spec = tie.close (tie.spec (λ c κs. search needs) (λ c κs. search needs) (λ c κs. search needs) (λ c. search needs) returns returns-2)

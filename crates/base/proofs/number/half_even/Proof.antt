@@ -1,7 +1,7 @@
 -- `half_even` is `closest`, without a branch (`half-up`).
 use borrow.Author.Needs.{needs}
 use native.Mathlib.Omega.{arith}
-use Prim.Native.Nat.{ℕ, _^_}
+use Prim.Native.Nat.{_^_}
 use Rattle.base.proofs.Halves.{halfOf, half-small, half-pos, half-twice, half-up}
 use Rattle.base.proofs.number.half_even.Statement.{statement}
 use Rattle.base.proofs.number.half_even.Tie as tie

@@ -1,3 +1,4 @@
+-- `is_negative` is the sign's bit, which only a NaN's value does not have.
 use mathlib.Core.Path.{sym, subst}
 use lib.Dec.{T}
 use Rattle.base.proofs.Patterns.{is-nan, no-nan}

@@ -1,3 +1,4 @@
+-- `magnitude` is the narrowed pattern, case by case of the exponent's field (`Narrowing`).
 use borrow.Author.Needs.{needs}
 use mathlib.Core.Path.{sym, subst}
 use Prim.Native.Nat.{ℕ, _+_, _-_, _*_, _/_, _%_, _^_, _≤_}
@@ -9,21 +10,6 @@ use Rattle.base.proofs.Rounding.{closest-le}
 use Rattle.base.proofs.Narrowing.{Narrows, zero-case, low-case, mid-case, inf-case}
 use Rattle.base.proofs.number.magnitude.Statement.{statement}
 use Rattle.base.proofs.number.magnitude.Tie as tie
-
-add-digits : tie.Need-add-digits
-add-digits c = search needs
-
-sub-half-even : tie.Need-sub-half-even
-sub-half-even c = search needs
-
-half-even-requires : tie.Need-half-even-requires
-half-even-requires c κs = search needs
-
-mul-result : tie.Need-mul-result
-mul-result c = search needs
-
-half-even-requires-2 : tie.Need-half-even-requires-2
-half-even-requires-2 c κs = search needs
 
 small : (c : tie.After-half-even2) → c .half-even2 .result ≤ 2 ^ 24
 small c =
@@ -59,11 +45,11 @@ pub magnitude-spec : {M : Type 1} → statement M
 magnitude-spec =
     tie.close
     (tie.spec
-    add-digits
-    sub-half-even
-    half-even-requires
-    mul-result
-    half-even-requires-2
+    (λ c. search needs)
+    (λ c. search needs)
+    (λ c κs. search needs)
+    (λ c. search needs)
+    (λ c κs. search needs)
     add-result
     returns
     returns-2

@@ -1,5 +1,5 @@
-use mathlib.Core.Path.{_≡_, sym, _∙_}
-use lib.Ieee.{ne, isNan}
+-- `max` is `maxOf`, test by test.
+use mathlib.Core.Path.{sym, _∙_}
 use Rattle.base.specs.Number.{maxOf}
 use Rattle.base.proofs.Picks.{cond-true, cond-false}
 use Rattle.base.proofs.Signs.{nan-test}

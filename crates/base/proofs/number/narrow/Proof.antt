@@ -1,10 +1,9 @@
 -- `narrow` is `narrowOf`: the sign's bit is carried over, and `magnitude` rounds the size for either sign.
-use borrow.Author.Needs.{needs}
 use mathlib.Core.Path.{_≡_, sym, ap, _∙_, subst}
-use Prim.Native.Nat.{ℕ, _+_, _*_, _/_, _%_, _^_, _≤_, _<_}
+use Prim.Native.Nat.{_+_, _*_, _/_, _%_, _^_, _≤_, _<_}
 use native.Mathlib.Omega.{arith}
 use lib.Dec.{T}
-use lib.Ieee.{Float, nan, binary32, binary64, fits, ofBits, toBits}
+use lib.Ieee.{Float, nan, binary32, binary64, fits, toBits}
 use lib.Ieee.Bits.{ofBits-toBits, toBits-lt}
 use Rattle.base.specs.Number.{narrowOf}
 use Rattle.base.proofs.Narrowing.{either-sign}

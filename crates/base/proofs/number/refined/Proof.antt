@@ -1,6 +1,7 @@
+-- `refined` is the nearest root whatever the guess: the guess's square is taken off exactly, in two parts, and the loop adds one while there is room; where a part does not fit, `nearest_root` is asked.
 use borrow.Author.Needs.{needs}
 use mathlib.Core.Path.{_≡_}
-use Prim.Native.Nat.{ℕ, _+_, _*_, _^_, _<_}
+use Prim.Native.Nat.{_+_, _*_, _^_, _<_}
 use native.Mathlib.Omega.{arith}
 use Rattle.base.proofs.Roots.{sizes, taken-off, advance, whole-lt, down, up}
 use Rattle.base.proofs.number.refined.Statement.{statement}
@@ -18,18 +19,6 @@ mul-square c = omega (arith, sizes (c .args .g) (c .pre .1) .0)
 mul-square-2 : tie.Need-mul-square-2 Inv-loop μ-loop
 mul-square-2 c = omega (arith, sizes (c .args .g) (c .pre .1) .0)
 
-nearest-root-requires : tie.Need-nearest-root-requires Inv-loop μ-loop
-nearest-root-requires c κs = search needs
-
-returns : tie.Need-returns Inv-loop μ-loop
-returns c = search needs
-
-nearest-root-requires-2 : tie.Need-nearest-root-requires-2 Inv-loop μ-loop
-nearest-root-requires-2 c κs = search needs
-
-returns-2 : tie.Need-returns-2 Inv-loop μ-loop
-returns-2 c = search needs
-
 mul-low : tie.Need-mul-low Inv-loop μ-loop
 mul-low c = omega (arith, sizes (c .before .before .args .g) (c .before .before .pre .1) .2)
 
@@ -42,38 +31,14 @@ add-cross c = omega (arith, sizes (c .before .before .args .g) (c .before .befor
 mul-if3 : tie.Need-mul-if3 Inv-loop μ-loop
 mul-if3 c = omega arith
 
-nearest-root-requires-3 : tie.Need-nearest-root-requires-3 Inv-loop μ-loop
-nearest-root-requires-3 c κs = search needs
-
-returns-3 : tie.Need-returns-3 Inv-loop μ-loop
-returns-3 c = search needs
-
 mul-over : tie.Need-mul-over Inv-loop μ-loop
 mul-over c = omega arith
-
-sub-over : tie.Need-sub-over Inv-loop μ-loop
-sub-over c = search needs
-
-nearest-root-requires-4 : tie.Need-nearest-root-requires-4 Inv-loop μ-loop
-nearest-root-requires-4 c κs = search needs
-
-returns-4 : tie.Need-returns-4 Inv-loop μ-loop
-returns-4 c = search needs
 
 mul-if5 : tie.Need-mul-if5 Inv-loop μ-loop
 mul-if5 c = omega arith
 
-nearest-root-requires-5 : tie.Need-nearest-root-requires-5 Inv-loop μ-loop
-nearest-root-requires-5 c κs = search needs
-
-returns-5 : tie.Need-returns-5 Inv-loop μ-loop
-returns-5 c = search needs
-
 mul-rest : tie.Need-mul-rest Inv-loop μ-loop
 mul-rest c = omega arith
-
-sub-rest : tie.Need-sub-rest Inv-loop μ-loop
-sub-rest c = search needs
 
 loop-holds : tie.Need-loop-holds Inv-loop μ-loop
 loop-holds c =
@@ -94,14 +59,8 @@ mul-rest-2 c = omega (arith, root-lt (c .before))
 add-rest : tie.Need-add-rest Inv-loop μ-loop
 add-rest c = omega (arith, root-lt (c .before))
 
-sub-rest-2 : tie.Need-sub-rest-2 Inv-loop μ-loop
-sub-rest-2 c = search needs
-
 add-q : tie.Need-add-q Inv-loop μ-loop
 add-q c = omega (arith, root-lt (c .before))
-
-loop-less : tie.Need-loop-less Inv-loop μ-loop
-loop-less c = search needs
 
 loop-again : tie.Need-loop-again Inv-loop μ-loop
 loop-again c =
@@ -129,32 +88,32 @@ refined-spec =
     μ-loop
     mul-square
     mul-square-2
-    nearest-root-requires
-    returns
-    nearest-root-requires-2
-    returns-2
+    (λ c κs. search needs)
+    (λ c. search needs)
+    (λ c κs. search needs)
+    (λ c. search needs)
     mul-low
     mul-cross
     add-cross
     mul-if3
-    nearest-root-requires-3
-    returns-3
+    (λ c κs. search needs)
+    (λ c. search needs)
     mul-over
-    sub-over
-    nearest-root-requires-4
-    returns-4
+    (λ c. search needs)
+    (λ c κs. search needs)
+    (λ c. search needs)
     mul-if5
-    nearest-root-requires-5
-    returns-5
+    (λ c κs. search needs)
+    (λ c. search needs)
     mul-rest
-    sub-rest
+    (λ c. search needs)
     loop-holds
     mul-loop
     mul-rest-2
     add-rest
-    sub-rest-2
+    (λ c. search needs)
     add-q
-    loop-less
+    (λ c. search needs)
     loop-again
     add-result
     returns-6

@@ -1,3 +1,4 @@
+-- `root_bits` is the pattern of `sqrtOf`: a subnormal's digits are shifted up first (`subnormal-root`), a normal number's are read off (`normal-root`).
 use borrow.Author.Needs.{needs}
 use mathlib.Core.Path.{sym, subst}
 use native.Mathlib.Omega.{arith}
@@ -20,15 +21,6 @@ sub-scaled-root c = omega (arith, lead (c .before .args .b) (c .before .pre .0) 
 scaled-root-requires : tie.Need-scaled-root-requires
 scaled-root-requires c κs = omega (arith, no-wrap (c .before .args .b) (c .before .pre .0) (c .if1 .taken), lead (c .before .args .b) (c .before .pre .0) (c .if1 .taken) .1, lead (c .before .args .b) (c .before .pre .0) (c .if1 .taken) .2, lead (c .before .args .b) (c .before .pre .0) (c .if1 .taken) .3)
 
-add-scaled-root : tie.Need-add-scaled-root
-add-scaled-root c = search needs
-
-add-scaled-root-2 : tie.Need-add-scaled-root-2
-add-scaled-root-2 c = search needs
-
-scaled-root-requires-2 : tie.Need-scaled-root-requires-2
-scaled-root-requires-2 c κs = search needs
-
 returns : tie.Need-returns
 returns c = subst (Rooted (c .before .before .args .b)) (sym (c .scaled-root .ensures)) (subnormal-root (c .before .before .args .b) (c .before .before .pre .0) (c .before .if1 .taken))
 
@@ -44,8 +36,8 @@ root-bits-spec =
     shl-scaled-root
     sub-scaled-root
     scaled-root-requires
-    add-scaled-root
-    add-scaled-root-2
-    scaled-root-requires-2
+    (λ c. search needs)
+    (λ c. search needs)
+    (λ c κs. search needs)
     returns
     returns-2)

@@ -1,3 +1,4 @@
+-- `scaled_root` is the exponent's half and the digits' root, by `refined`.
 use borrow.Author.Needs.{needs}
 use mathlib.Core.Path.{sym, subst}
 use Prim.Native.Nat.{ℕ, _%_, _^_, _≤_}
@@ -6,29 +7,8 @@ use Rattle.base.proofs.Rooted.{at-most, root-small}
 use Rattle.base.proofs.number.scaled_root.Statement.{statement}
 use Rattle.base.proofs.number.scaled_root.Tie as tie
 
-add-result : tie.Need-add-result
-add-result c = search needs
-
-mul-result : tie.Need-mul-result
-mul-result c = search needs
-
-sub-refined : tie.Need-sub-refined
-sub-refined c = search needs
-
 mul-refined : tie.Need-mul-refined
 mul-refined c = omega (arith, at-most (c .args .m) (c .args .f % 2))
-
-mul-guess : tie.Need-mul-guess
-mul-guess c = search needs
-
-sub-guess : tie.Need-sub-guess
-sub-guess c = search needs
-
-add-guess : tie.Need-add-guess
-add-guess c = search needs
-
-guess-requires : tie.Need-guess-requires
-guess-requires c κs = search needs
 
 refined-requires : tie.Need-refined-requires
 refined-requires c κs = omega (arith, at-most (c .before .args .m) (c .before .args .f % 2))
@@ -39,21 +19,18 @@ add-result-2 c =
     let r : c .refined .result ≤ 2 ^ 53 = subst (λ (x : ℕ). x ≤ 2 ^ 53) (sym (c .refined .ensures)) (root-small (s .args .m) (s .args .f % 2) (s .pre .1)) in
     omega arith
 
-returns : tie.Need-returns
-returns c = search needs
-
 pub scaled-root-spec : {M : Type 1} → statement M
 scaled-root-spec =
     tie.close
     (tie.spec
-    add-result
-    mul-result
-    sub-refined
+    (λ c. search needs)
+    (λ c. search needs)
+    (λ c. search needs)
     mul-refined
-    mul-guess
-    sub-guess
-    add-guess
-    guess-requires
+    (λ c. search needs)
+    (λ c. search needs)
+    (λ c. search needs)
+    (λ c κs. search needs)
     refined-requires
     add-result-2
-    returns)
+    (λ c. search needs))

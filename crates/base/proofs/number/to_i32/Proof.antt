@@ -1,9 +1,7 @@
 -- `to_i32` is `toSigned 31`: in the range std's conversion gives it, and outside an end of the range does.
-use borrow.Author.Needs.{needs}
 use mathlib.Core.Path.{_≡_, sym, ap, _∙_, subst}
-use lib.Dec.{T}
 use lib.IntN.{ℤ}
-use lib.Ieee.{Float, lt, le, fin, ofBits, neg, toSigned}
+use lib.Ieee.{ofBits, neg, toSigned}
 use mir.Syntax.{w32, w64}
 use mir.Val.{SFits, toZ, ofZ}
 use mir.Facts.{toZ-ofZ}

@@ -1,7 +1,9 @@
-// Replays the answers of the Rust side in data/numbers.bin through the crate `base`, and prints for
-// each function how many were compared and how many differ. A row is three little-endian words of
+// The arithmetic: the answers of data/numbers.bin, function by function. A row is three little-endian words of
 // 64 bits: the function's number, the argument and the answer, as oracle/ writes them. A row of
 // function 0 holds the name of the function that follows.
+use crate::tally;
+use crate::tally::counted;
+use crate::tally::none;
 use base::angle::Degrees;
 use base::angle::Radians;
 use base::constants;
@@ -125,34 +127,6 @@ fn is_right(f: u64, w: u64, wanted: u64) -> bool {
     }
 }
 
-// How many rows were compared, and how many differ.
-struct Tally {
-    compared: u64,
-    differ: u64,
-}
-
-fn counted(t: Tally, right: bool) -> Tally {
-    let differ = if right {
-        t.differ
-    } else {
-        std::num::wrapping_add_u64(t.differ, 1)
-    };
-    Tally {
-        compared: std::num::wrapping_add_u64(t.compared, 1),
-        differ,
-    }
-}
-
-// The end of a function's line.
-fn print_tally(t: Tally) {
-    let fd = STDOUT_FILENO;
-    io::write_all(fd, b" ");
-    io::print_decimal(fd, t.compared);
-    io::write_all(fd, b" compared, ");
-    io::print_decimal(fd, t.differ);
-    io::write_all(fd, b" differ\n");
-}
-
 // Where the name ends that starts at a row's byte 8.
 fn name_end(row: &[u8]) -> usize
     ensures { λ r. ⌜ r ≤ length (now (row .entry)) ⌝ }
@@ -176,15 +150,10 @@ fn print_name(row: &[u8]) {
     }
 }
 
-fn replay(fd: i32) {
-    let mut part = Tally {
-        compared: 0,
-        differ: 0,
-    };
-    let mut all = Tally {
-        compared: 0,
-        differ: 0,
-    };
+// The rows of a file, with a line for each function and one for all.
+fn rows(fd: i32) {
+    let mut part = none();
+    let mut all = none();
     let mut left: u64 = 1000000;
     while left > 0 {
         left -= 1;
@@ -196,13 +165,10 @@ fn replay(fd: i32) {
             let f = word(&row, 0);
             if f == 0 {
                 if part.compared > 0 {
-                    print_tally(part);
+                    tally::print(part);
                 }
                 print_name(&row);
-                part = Tally {
-                    compared: 0,
-                    differ: 0,
-                };
+                part = none();
             } else {
                 let right = is_right(f, word(&row, 8), word(&row, 16));
                 part = counted(part, right);
@@ -210,18 +176,18 @@ fn replay(fd: i32) {
             }
         }
     }
-    print_tally(part);
-    io::write_all(STDOUT_FILENO, b"all");
-    print_tally(all);
+    tally::print(part);
+    io::write_all(STDOUT_FILENO, b"numbers");
+    tally::print(all);
 }
 
-fn main() {
+pub fn replay() {
     let path = b"numbers.bin";
     let fd = os::open_read(path);
     if fd < 0 {
         os::fail(path);
         return;
     }
-    replay(fd);
+    rows(fd);
     libc::close(fd);
 }

@@ -2,8 +2,8 @@
 use borrow.Author.Needs.{needs}
 use Prim.Native.Nat.{_≤_, _-_}
 use lib.ListN.{length}
-use Rattle.vectors_numbers.proofs.name_end.Statement.{statement}
-use Rattle.vectors_numbers.proofs.name_end.Tie as tie
+use Rattle.vectors.proofs.numbers.name_end.Statement.{statement}
+use Rattle.vectors.proofs.numbers.name_end.Tie as tie
 
 abbrev Inv-loop : tie.InvT-loop
 Inv-loop row i₀ i = i ≤ length row
