@@ -33,9 +33,11 @@ impl MagneticPole {
     }
 }
 
-// Every constant of this module in its order, the pole last: what the comparison with the Rust
-// reads.
-pub fn all() -> [f32; 8]
+// The constants of this module in their order, the pole last.
+pub type Constants = [f32; 8];
+
+// All of them: what the comparison with the Rust reads.
+pub fn all() -> Constants
     ensures { λ r. ⌜ r ≡ constants ⌝ }
 {
     let pole = MagneticPole::built_in();
