@@ -13,6 +13,9 @@ const FILES: [&str; 5] = [
     "ionosphere.rs",
 ];
 
+/// The files that are written a second time, with their branches counted.
+const COUNTED: [&str; 2] = ["geometry.rs", "magnetic.rs"];
+
 /// Method calls that become a step. `sqrt` and `abs` stay the hardware's,
 /// which document 01 asks for as they are.
 const RENAMES: [(&str, &str); 8] = [
@@ -35,7 +38,7 @@ const FORBIDDEN: [&str; 28] = [
 ];
 
 fn main() {
-    println!("cargo::rustc-check-cfg=cfg(linked, linked_files)");
+    println!("cargo::rustc-check-cfg=cfg(linked, linked_files, linked_routes)");
     prepare_sources();
     link_port();
 }
@@ -49,13 +52,19 @@ fn prepare_sources() {
     let from = source_folder();
     let to = PathBuf::from(env::var_os("OUT_DIR").expect("cargo sets OUT_DIR"));
     let mut places = [0; RENAMES.len()];
+    let mut branches = Vec::new();
     for file in FILES {
         let text = rename(&read(&from.join(file)), &mut places);
         refuse_leftovers(file, &text);
-        let written = fs::write(to.join(file), make_visible(file, &text));
-        written.unwrap_or_else(|e| fail(format!("cannot write {file} to OUT_DIR: {e}")));
+        let text = make_visible(file, &text);
+        if COUNTED.contains(&file) {
+            let counted = counted(file, &text, &mut branches);
+            write(&to.join(format!("counted_{file}")), &counted);
+        }
+        write(&to.join(file), &text);
     }
     refuse_missing(&places);
+    write(&to.join("branches.rs"), &branch_table(&branches));
 }
 
 fn source_folder() -> PathBuf {
@@ -72,6 +81,10 @@ fn read(path: &Path) -> String {
     println!("cargo::rerun-if-changed={}", path.display());
     fs::read_to_string(path)
         .unwrap_or_else(|e| fail(format!("HFCAST_SRC: cannot read {}: {e}", path.display())))
+}
+
+fn write(path: &Path, text: &str) {
+    fs::write(path, text).unwrap_or_else(|e| fail(format!("cannot write {}: {e}", path.display())));
 }
 
 fn rename(text: &str, places: &mut [usize; RENAMES.len()]) -> String {
@@ -176,12 +189,74 @@ fn is_private_field(rest: &str) -> bool {
         && name.chars().all(|c| c.is_ascii_alphanumeric() || c == '_')
 }
 
+/// Notes each condition of an `if` as it is decided. The blocks after `if` and
+/// `else` are its two outcomes, and the missing `else` is seen too. Lines stay
+/// where they are.
+fn counted(file: &str, text: &str, branches: &mut Vec<String>) -> String {
+    let mut out = String::new();
+    for (number, line) in (1..).zip(text.lines()) {
+        if line.trim_start().starts_with("//") {
+            out.push_str(line);
+        } else {
+            refuse_uncounted(file, number, line);
+            out.push_str(&noted(file, number, line, branches));
+        }
+        out.push('\n');
+    }
+    out
+}
+
+/// Branches of another form than `if` would go by unseen.
+fn refuse_uncounted(file: &str, number: u32, line: &str) {
+    for form in ["match ", "while ", "if let ", " || "] {
+        if line.contains(form) {
+            fail(format!("{file}:{number}: {form:?} is not counted"));
+        }
+    }
+}
+
+/// The parts of an `&&` are noted one by one.
+fn noted(file: &str, number: u32, line: &str, branches: &mut Vec<String>) -> String {
+    let Some((before, rest)) = split_at_if(line) else {
+        return line.to_owned();
+    };
+    let Some(length) = rest.find(" {") else {
+        fail(format!("{file}:{number}: a condition over several lines"));
+    };
+    let (condition, after) = rest.split_at(length);
+    let mut parts = Vec::new();
+    for part in condition.split(" && ") {
+        parts.push(format!("crate::branches::note({}, {part})", branches.len()));
+        branches.push(format!("({file:?}, {number}, {part:?})"));
+    }
+    let after = noted(file, number, after, branches);
+    format!("{before}{}{after}", parts.join(" && "))
+}
+
+/// The line up to and with its first `if`, and the rest.
+fn split_at_if(line: &str) -> Option<(&str, &str)> {
+    let longer = |c: char| c.is_alphanumeric() || c == '_';
+    let mut places = line.match_indices("if ");
+    let (at, word) = places.find(|(at, _)| !line[..*at].ends_with(longer))?;
+    Some(line.split_at(at + word.len()))
+}
+
+/// File, line and text of each condition that is noted, by its number.
+fn branch_table(branches: &[String]) -> String {
+    format!(
+        "pub const BRANCHES: [(&str, u32, &str); {}] = [\n{}\n];\n",
+        branches.len(),
+        branches.join(",\n")
+    )
+}
+
 /// Links the port's static library if its folder is given. Without it the
-/// commands that compare say what they miss. The file functions are asked
+/// commands that compare say what they miss. Later parts of the port are asked
 /// for separately, since a library may be older than they are.
 fn link_port() {
     println!("cargo::rerun-if-env-changed=JUTETROWEL_LIB");
     println!("cargo::rerun-if-env-changed=JUTETROWEL_FILES");
+    println!("cargo::rerun-if-env-changed=JUTETROWEL_ROUTES");
     let Some(folder) = env::var_os("JUTETROWEL_LIB") else {
         return;
     };
@@ -198,5 +273,8 @@ fn link_port() {
     println!("cargo::rustc-cfg=linked");
     if env::var_os("JUTETROWEL_FILES").is_some() {
         println!("cargo::rustc-cfg=linked_files");
+    }
+    if env::var_os("JUTETROWEL_ROUTES").is_some() {
+        println!("cargo::rustc-cfg=linked_routes");
     }
 }

@@ -34,6 +34,18 @@ pub mod ionosphere {
     source!("ionosphere.rs");
 }
 
+/// The same source with its branches counted.
+#[allow(dead_code, clippy::all)]
+pub mod counted_magnetic {
+    source!("counted_magnetic.rs");
+}
+
+/// The same source with its branches counted.
+#[allow(dead_code, clippy::all)]
+pub mod counted_geometry {
+    source!("counted_geometry.rs");
+}
+
 #[allow(dead_code)]
 pub mod data;
 #[allow(dead_code)]
