@@ -2,9 +2,13 @@
 
 pub mod bulk_files;
 pub mod bulk_numbers;
+pub mod bulk_routes;
+#[cfg(any(linked_files, linked_routes))]
+mod compare;
 pub mod data;
 pub mod files;
 pub mod numbers;
+pub mod routes;
 pub mod self_check;
 pub mod time_numbers;
 

@@ -2,6 +2,7 @@
 //! makes vectors, compares in bulk and times both sides.
 
 mod bits;
+mod branches;
 mod commands;
 mod damage;
 mod data_files;
@@ -14,11 +15,14 @@ mod port;
 mod ranges;
 mod reference;
 mod reference_files;
+mod reference_routes;
+mod route_kinds;
 mod specials;
 mod steps;
 mod voacap;
 
-use commands::{bulk_files, bulk_numbers, data, files, numbers, self_check, time_numbers};
+use commands::{bulk_files, bulk_numbers, bulk_routes, data, files, numbers};
+use commands::{routes, self_check, time_numbers};
 use std::env;
 use std::process::ExitCode;
 
@@ -30,6 +34,10 @@ const NOT_LINKED: &str = "this needs the port: build with JUTETROWEL_LIB set to 
 const NO_FILES: &str = "this needs the port with its file functions: build with JUTETROWEL_LIB \
                         set to the folder that holds libjutetrowel.a, and JUTETROWEL_FILES set";
 
+#[cfg(not(linked_routes))]
+const NO_ROUTES: &str = "this needs the port with its path geometry: build with JUTETROWEL_LIB \
+                         set to the folder that holds libjutetrowel.a, and JUTETROWEL_ROUTES set";
+
 const USAGE: &str = "usage:
   oracle numbers FILE                      write the vectors of the arithmetic
   oracle bulk-numbers COUNT SEED [NAME]    compare the port's functions with the Rust's
@@ -37,6 +45,8 @@ const USAGE: &str = "usage:
   oracle data DIR                          write data files made from seeds
   oracle files DIR                         write the vectors of the file functions
   oracle bulk-files COUNT SEED             compare the port's file functions with the Rust's
+  oracle routes FILE                       write the vectors of path geometry and field
+  oracle bulk-routes COUNT SEED            compare the port's paths with the Rust's
   oracle self-check                        hold the steps against the library's functions";
 
 fn main() -> ExitCode {
@@ -60,6 +70,8 @@ fn command(words: &[&str]) -> Result<(), String> {
         ["data", folder] => data::run(folder),
         ["files", folder] => files::run(folder),
         ["bulk-files", count, seed] => bulk_files::run(count, seed),
+        ["routes", file] => routes::run(file),
+        ["bulk-routes", count, seed] => bulk_routes::run(count, seed),
         ["self-check"] => self_check::run(),
         _ => Err(String::from(USAGE)),
     }

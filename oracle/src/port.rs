@@ -47,3 +47,11 @@ exports! {
         file: *const u8, length: usize, ssn: f32, out: *mut f32, out_length: usize
     ) -> u32;
 }
+
+#[cfg(linked_routes)]
+exports! {
+    "jt_path" path(
+        tlat: f32, tlong: f32, rlat: f32, rlong: f32, long: u32,
+        pole_lat: f32, pole_lon: f32, out: *mut f32, out_length: usize
+    ) -> u32;
+}

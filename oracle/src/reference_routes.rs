@@ -50,6 +50,19 @@ impl Route {
         Self { pole, ..self }
     }
 
+    /// All numbers but the flag, in the order of the vector file.
+    pub fn numbers(&mut self) -> [&mut f32; 6] {
+        let Self { from, to, pole, .. } = self;
+        [
+            &mut from.lat,
+            &mut from.lon,
+            &mut to.lat,
+            &mut to.lon,
+            &mut pole.lat,
+            &mut pole.lon,
+        ]
+    }
+
     /// As a row of the vector file holds it.
     pub fn words(&self) -> [u32; 7] {
         let Self {

@@ -32,19 +32,18 @@ pub fn of_any_kind(random: &mut Generator) -> Route {
     draw(random)
 }
 
+/// A route of the kind of this name.
+pub fn drawn(name: &str, random: &mut Generator) -> Route {
+    let kind = KINDS.iter().find(|(kind, _)| *kind == name);
+    let (_, draw) = kind.unwrap_or_else(|| panic!("no kind of route {name}"));
+    draw(random)
+}
+
 /// One or more of the six numbers of a route replaced by any bits.
 pub fn any_bits(random: &mut Generator) -> Route {
     let mut route = of_any_kind(random);
-    let numbers = [
-        &mut route.from.lat,
-        &mut route.from.lon,
-        &mut route.to.lat,
-        &mut route.to.lon,
-        &mut route.pole.lat,
-        &mut route.pole.lon,
-    ];
     let chosen = 1 + random.below(63);
-    for (i, number) in numbers.into_iter().enumerate() {
+    for (i, number) in route.numbers().into_iter().enumerate() {
         if chosen >> i & 1 == 1 {
             *number = f32::from_bits(random.any(Kind::F32) as u32);
         }

@@ -19,4 +19,5 @@ pub mod Monotone
 pub mod RootsOrder
 pub mod Intervals
 pub mod Reduction
+pub mod Turns
 pub mod Bounds

@@ -171,13 +171,13 @@ start v h =
     record { a = n / d; least = omega arith; most = omega arith; held = record { fine = abs-finite v thousand tt h; low = omega arith; high = omega arith } }
 
 -- ---- v × 0.6366.., n, n × 1.5707.., and what is left
-abbrev factor : Float
+abbrev pub factor : Float
 factor = fin false 5734161139222659 (negsuc 52)
 
 abbrev right : Float
 right = fin false 884279719003555 (negsuc 48)
 
-abbrev big : Float
+abbrev pub big : Float
 big = fin false 3 (pos 51)
 
 abbrev rest : Float

@@ -8,8 +8,10 @@ use crate::number::to_u64;
 use crate::number::widen;
 ghost use mathlib.Core.Path.{_≡_};
 ghost use Prim.Native.Nat.{_*_, _^_, _≤_, _<_};
-ghost use lib.Ieee.{binary64, minus, ofInt, ofBits};
-ghost use Rattle.base.specs.Double.{fraction};
+ghost use lib.Dec.{T};
+ghost use lib.Ieee.{binary64, le, minus, ofInt, ofBits};
+ghost use Rattle.base.specs.Double.{_⊕_, fraction};
+ghost use Rattle.base.specs.Number.{absOf};
 ghost use Rattle.base.specs.Elementary as steps;
 ghost use Rattle.base.specs.Elementary.{nearOf, quarterOf, powerOf, turnsOf, reducedOf, sinSeries, cosSeries, sinAt, cosAt, sinOf, cosOf, halfAngle, atanSeries, atanWithin, atanFrom, atanOf, acosOf, expWithin, expOf, lnSeries, lnSum, lnOf, sin32Of, cos32Of, atan32Of, acos32Of, exp32Of, ln32Of};
 
@@ -100,26 +102,26 @@ fn horner(t: &[f64], x: f64) -> f64
     s
 }
 
+// y, shifted so that the nearest whole number stands in the last digits, where y is small enough.
+fn shifted(y: f64) -> f64
+    ensures { λ r. ⌜ r ≡ y ⊕ fraction 6755399441055744 1 ⌝ }
+{
+    y + 6755399441055744.0
+}
+
 // y to the nearest whole number, where it is small enough.
 fn near(y: f64) -> f64
     ensures { λ r. ⌜ r ≡ nearOf y ⌝ }
 {
-    (y + 6755399441055744.0) - 6755399441055744.0
+    shifted(y) - 6755399441055744.0
 }
 
-// n modulo 4, from 0 to 3 for a negative n too.
-fn quarter(n: f64) -> u64
-    ensures { λ r. ⌜ r ≡ quarterOf n ⌝ }
+// The whole number nearest to y modulo 4, from 0 to 3 for a negative one too.
+fn quarter(y: f64) -> u64
+    requires { ⌜ T (le (absOf y) (fraction 1024 1)) ⌝ }
+    ensures { λ r. ⌜ r ≡ quarterOf (nearOf y) ⌝ }
 {
-    let k = to_u64(abs64(n)) % 4;
-    if is_negative(n) { (4 - k) % 4 } else { k }
-}
-
-// How many quarter turns v is, to the nearest.
-fn turns(v: f64) -> f64
-    ensures { λ r. ⌜ r ≡ turnsOf v ⌝ }
-{
-    near(v * 0.6366197723675814)
+    f64::to_bits(shifted(y)) % 4
 }
 
 // v without n quarter turns.
@@ -127,6 +129,24 @@ fn reduced(v: f64, n: f64) -> f64
     ensures { λ r. ⌜ r ≡ reducedOf v n ⌝ }
 {
     (v - n * 1.5707963267948966) - n * 6.123233995736766e-17
+}
+
+// An angle as quarter turns, from 0 to 3 of them, and a rest.
+struct Turned {
+    quarter: u64,
+    rest: f64,
+}
+
+// v as the nearest quarter turns, modulo 4, and what v is without them.
+fn split(v: f64) -> Turned
+    requires { ⌜ T (le (absOf v) (fraction 1000 1)) ⌝ }
+    ensures { λ r. ⌜ (r .quarter ≡ quarterOf (turnsOf v)) × (r .rest ≡ reducedOf v (turnsOf v)) ⌝ }
+{
+    let y = v * 0.6366197723675814;
+    Turned {
+        quarter: quarter(y),
+        rest: reduced(v, near(y)),
+    }
 }
 
 // The sine and the cosine of a small a.
@@ -175,8 +195,8 @@ pub fn sin64(v: f64) -> f64
     ensures { λ r. ⌜ r ≡ sinOf v ⌝ }
 {
     if abs64(v) <= 1000.0 {
-        let n = turns(v);
-        sin_at(quarter(n), reduced(v, n))
+        let t = split(v);
+        sin_at(t.quarter, t.rest)
     } else {
         0.0 / 0.0
     }
@@ -187,8 +207,8 @@ pub fn cos64(v: f64) -> f64
     ensures { λ r. ⌜ r ≡ cosOf v ⌝ }
 {
     if abs64(v) <= 1000.0 {
-        let n = turns(v);
-        cos_at(quarter(n), reduced(v, n))
+        let t = split(v);
+        cos_at(t.quarter, t.rest)
     } else {
         0.0 / 0.0
     }

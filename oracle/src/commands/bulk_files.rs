@@ -11,7 +11,8 @@ pub use linked::run;
 
 #[cfg(linked_files)]
 mod linked {
-    use crate::bits::{Answer, Kind};
+    use crate::bits::Kind;
+    use crate::commands::compare::{filled, report, Tally};
     use crate::commands::whole;
     use crate::damage::Damage;
     use crate::data_files::{calm, ladders::near_good, wild, Pair};
@@ -20,9 +21,6 @@ mod linked {
     use crate::port;
     use crate::reference_files::{blends, put, walk};
     use crate::voacap::coefficients::parse_month_file;
-
-    /// What an untouched buffer holds: no NaN, and no likely coefficient.
-    const UNTOUCHED: u32 = 0x5a5a_5a5a;
 
     pub fn run(count: &str, seed: &str) -> Result<(), String> {
         let count = whole(count)?;
@@ -34,49 +32,7 @@ mod linked {
             let mut random = Generator::new(seed.wrapping_mul(1 << 32) ^ case);
             compare(&mut random, &mut tallies, case);
         }
-        let differing: u64 = tallies.iter().map(Tally::print).sum();
-        match differing {
-            0 => Ok(()),
-            _ => Err(format!("{differing} answers differ")),
-        }
-    }
-
-    struct Tally {
-        name: &'static str,
-        compared: u64,
-        differing: u64,
-        first: Option<String>,
-    }
-
-    impl Tally {
-        fn new(name: &'static str) -> Self {
-            Self {
-                name,
-                compared: 0,
-                differing: 0,
-                first: None,
-            }
-        }
-
-        fn note(&mut self, case: u64, difference: Option<String>) {
-            self.compared += 1;
-            if let Some(text) = difference {
-                self.differing += 1;
-                self.first.get_or_insert(format!("case {case}: {text}"));
-            }
-        }
-
-        /// Prints one line and gives the number of answers that differ.
-        fn print(&self) -> u64 {
-            println!(
-                "{:<16} {:>12} compared {:>12} differ",
-                self.name, self.compared, self.differing
-            );
-            if let Some(first) = &self.first {
-                println!("    first in {first}");
-            }
-            self.differing
-        }
+        report(&tallies)
     }
 
     /// The other three are defined for files only that the walk accepts.
@@ -93,9 +49,9 @@ mod linked {
         let ssn = sunspots(random);
         let wanted = blends(1, ssn);
         let at = |difference: Option<String>| difference.map(|text| format!("at {ssn:e}, {text}"));
-        let difference = blend(random, &wanted.0, |out| port_cofion(&pair, ssn, out));
+        let difference = filled(random, &wanted.0, 1, |out| port_cofion(&pair, ssn, out));
         cofion.note(case, at(difference));
-        let difference = blend(random, &wanted.1, |out| port_hmym(&pair, ssn, out));
+        let difference = filled(random, &wanted.1, 1, |out| port_hmym(&pair, ssn, out));
         hmym.note(case, at(difference));
     }
 
@@ -136,40 +92,6 @@ mod linked {
         let ours = ((ours >> 32) as u32, ours as u32);
         let text = |(number, place): (u32, u32)| format!("{number} at {place}");
         (ours != wanted).then(|| format!("port {}, wanted {}", text(ours), text(wanted)))
-    }
-
-    /// A buffer of the right length gets every value; another one, in one
-    /// case of eight, is left as it was.
-    fn blend(
-        random: &mut Generator,
-        wanted: &[f32],
-        port: impl FnOnce(&mut [f32]) -> u32,
-    ) -> Option<String> {
-        let fits = random.below(8) != 0;
-        let length = match (fits, random.below(3)) {
-            (true, _) => wanted.len(),
-            (false, 0) => wanted.len() - 1,
-            (false, 1) => wanted.len() + 1,
-            _ => random.below(wanted.len() as u64) as usize,
-        };
-        let untouched = vec![f32::from_bits(UNTOUCHED); length];
-        let mut out = untouched.clone();
-        let answer = port(&mut out);
-        if answer != u32::from(fits) {
-            return Some(format!("answer {answer} for a buffer of {length}"));
-        }
-        difference(&out, if fits { wanted } else { &untouched })
-    }
-
-    /// The first place at which the words differ; NaNs are one word.
-    fn difference(ours: &[f32], wanted: &[f32]) -> Option<String> {
-        let words = |values: &[f32]| -> Vec<u64> { values.iter().map(|v| v.to_word()).collect() };
-        let (ours, wanted) = (words(ours), words(wanted));
-        let i = (0..ours.len()).find(|i| ours[*i] != wanted[*i])?;
-        Some(format!(
-            "element {i}: port {:08x}, wanted {:08x}",
-            ours[i], wanted[i]
-        ))
     }
 
     fn port_check(file: &[u8]) -> u64 {

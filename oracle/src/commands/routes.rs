@@ -9,11 +9,11 @@ mod searched;
 
 use crate::branches::{self, Counts, BRANCHES};
 use crate::month_file::push_words;
-use crate::reference_routes::{counted, plain, Path, Route};
+use crate::reference_routes::{counted, plain, Route};
 use std::fs;
 
 const WORDS: usize = 49;
-/// The first word of a heading; a NaN that no route starts with.
+/// The first word of a heading: a NaN with which no route starts.
 const HEADING: u32 = u32::MAX;
 const NAME_BYTES: usize = 32;
 
@@ -40,9 +40,10 @@ fn groups() -> Vec<Group> {
     groups
 }
 
-/// The file's bytes and what the counted sources decided on the way.
+/// The file's bytes, and what the counted sources decided on the way.
 fn vectors(groups: &[Group]) -> Result<(Vec<u8>, Counts), String> {
     let mut bytes = Vec::new();
+    // The searches have counted too.
     branches::take();
     for (name, routes) in groups {
         push_heading(&mut bytes, name);
@@ -62,13 +63,60 @@ fn push_heading(bytes: &mut Vec<u8>, name: &str) {
     bytes.resize(end, 0);
 }
 
-/// The answers come from the plain sources; the counted ones must not differ.
+/// The answers of the plain sources, from which the counted must not differ.
 fn row(route: &Route) -> Result<Vec<u32>, String> {
-    let path = plain(route);
-    let Path { points, .. } = counted(route);
-    if points != path.points || counted(route).words() != path.words() {
+    let (path, other) = (plain(route), counted(route));
+    let words = path.words();
+    if (other.points, other.words()) != (path.points, words) {
         return Err(format!("{route:?}: the counted sources differ"));
     }
-    let (ends, rows) = path.words().split_at(6);
-    Ok([&route.words(), ends, &[path.points], rows].concat())
+    let (ends, points) = words.split_at(6);
+    Ok([&route.words(), ends, &[path.points], points].concat())
+}
+
+fn print_groups(groups: &[Group]) {
+    for (name, routes) in groups {
+        println!("{name:<NAME_BYTES$} {:>4} routes", routes.len());
+    }
+    let total: usize = groups.iter().map(|(_, routes)| routes.len()).sum();
+    println!("{:<NAME_BYTES$} {total:>4} routes", "in all");
+}
+
+fn print_branches(counts: &Counts) {
+    println!("{:<17} {:>7} {:>7}  condition", "line", "true", "false");
+    for ((file, line, condition), [no, yes]) in BRANCHES.iter().zip(counts) {
+        println!("{file:<12} {line:>4} {yes:>7} {no:>7}  {condition}");
+    }
+}
+
+fn refuse_untaken(counts: &Counts) -> Result<(), String> {
+    for ((file, line, condition), [no, yes]) in BRANCHES.iter().zip(counts) {
+        if *no == 0 || *yes == 0 {
+            return Err(format!(
+                "{file}:{line}: {condition} never goes the other way"
+            ));
+        }
+    }
+    Ok(())
+}
+
+#[cfg(test)]
+mod tests {
+    use super::{groups, refuse_untaken, vectors, HEADING};
+
+    #[test]
+    fn vectors_take_every_branch_and_are_the_same_each_time() {
+        let groups = groups();
+        let (bytes, counts) = vectors(&groups).expect("both variants agree");
+        assert_eq!(refuse_untaken(&counts), Ok(()));
+        assert!(bytes.len() < 200_000, "{} bytes", bytes.len());
+        assert!(vectors(&super::groups()).is_ok_and(|(again, _)| again == bytes));
+    }
+
+    #[test]
+    fn no_route_looks_like_a_heading() {
+        for (_, routes) in groups() {
+            assert!(routes.iter().all(|route| route.words()[0] != HEADING));
+        }
+    }
 }

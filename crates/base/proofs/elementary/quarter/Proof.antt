@@ -1,25 +1,19 @@
--- `quarter` is `quarterOf`, by the sign.
+-- The last two bits of the shifted number are those of the nearest whole number (`shifted-quarter`). Assumes nothing.
 use borrow.Author.Needs.{needs}
-use mathlib.Core.Path.{_≡_, sym, ap, _∙_}
-use Prim.Native.Nat.{ℕ, _-_, _%_}
-use lib.Ieee.{toUnsigned}
-use Rattle.base.specs.Number.{absOf}
-use Rattle.base.specs.Elementary.{quarterOf}
-use Rattle.base.proofs.Picks.{cond-true, cond-false}
+use mathlib.Core.Path.{sym, ap, _∙_, subst}
+use mathlib.Core.Bool.{not}
+use Prim.Native.Nat.{_%_}
+use lib.Dec.{T}
+use lib.Ieee.{Float, binary64, isNan, toBits}
+use Rattle.base.proofs.Turns.{shifted-no-nan, shifted-quarter}
 use Rattle.base.proofs.elementary.quarter.Statement.{statement}
 use Rattle.base.proofs.elementary.quarter.Tie as tie
 
-returns : tie.Need-returns
-unfolding quarterOf
-returns c =
-    let k : c .before .before .to-u64 .result ≡ toUnsigned 64 (absOf (c .before .before .before .before .args .n)) = c .before .before .to-u64 .ensures ∙ ap (toUnsigned 64) (c .before .before .before .abs64 .ensures) in
-    ap (λ (u : ℕ). (4 - u % 4) % 4) k ∙ sym (cond-true _ _ (sym (c .before .is-negative .ensures) ∙ c .if1 .taken))
+float-to-bits-result : tie.Need-float-to-bits-result
+float-to-bits-result c = subst (λ (s : Float). T (not (isNan s))) (sym (c .shifted .ensures)) (shifted-no-nan (c .before .args .y) (c .before .pre))
 
-returns-2 : tie.Need-returns-2
-unfolding quarterOf
-returns-2 c =
-    let k : c .before .before .to-u64 .result ≡ toUnsigned 64 (absOf (c .before .before .before .before .args .n)) = c .before .before .to-u64 .ensures ∙ ap (toUnsigned 64) (c .before .before .before .abs64 .ensures) in
-    ap (λ (u : ℕ). u % 4) k ∙ sym (cond-false _ _ (sym (c .before .is-negative .ensures) ∙ c .if1 .left))
+returns : tie.Need-returns
+returns c = ap (λ (s : Float). toBits binary64 s % 4) (c .shifted .ensures) ∙ shifted-quarter (c .before .args .y) (c .before .pre)
 
 pub quarter-spec : {M : Type 1} → statement M
-quarter-spec = tie.close (tie.spec (λ c κs. search needs) (λ c κs. search needs) (λ c κs. search needs) (λ c. search needs) returns returns-2)
+quarter-spec = tie.close (tie.spec (λ c κs. search needs) float-to-bits-result returns)

@@ -1,0 +1,90 @@
+//! What the commands share that compare larger answers of the port with the
+//! Rust's.
+
+use crate::bits::Answer;
+use crate::generator::Generator;
+
+/// What an untouched buffer holds: no NaN, and no likely answer.
+const UNTOUCHED: u32 = 0x5a5a_5a5a;
+
+pub struct Tally {
+    name: &'static str,
+    compared: u64,
+    differing: u64,
+    first: Option<String>,
+}
+
+impl Tally {
+    pub fn new(name: &'static str) -> Self {
+        Self {
+            name,
+            compared: 0,
+            differing: 0,
+            first: None,
+        }
+    }
+
+    pub fn note(&mut self, case: u64, difference: Option<String>) {
+        self.compared += 1;
+        if let Some(text) = difference {
+            self.differing += 1;
+            self.first.get_or_insert(format!("case {case}: {text}"));
+        }
+    }
+
+    /// Prints one line and gives the number of answers that differ.
+    fn print(&self) -> u64 {
+        println!(
+            "{:<18} {:>12} compared {:>12} differ",
+            self.name, self.compared, self.differing
+        );
+        if let Some(first) = &self.first {
+            println!("    first in {first}");
+        }
+        self.differing
+    }
+}
+
+/// Prints all tallies; an error if there is a difference in any.
+pub fn report(tallies: &[Tally]) -> Result<(), String> {
+    let differing: u64 = tallies.iter().map(Tally::print).sum();
+    match differing {
+        0 => Ok(()),
+        _ => Err(format!("{differing} answers differ")),
+    }
+}
+
+/// A buffer of the right length gets every value and `answer` comes back;
+/// another one, in one case of eight, is left as it was and 0 comes back.
+pub fn filled(
+    random: &mut Generator,
+    wanted: &[f32],
+    answer: u32,
+    port: impl FnOnce(&mut [f32]) -> u32,
+) -> Option<String> {
+    let fits = random.below(8) != 0;
+    let length = match (fits, random.below(3)) {
+        (true, _) => wanted.len(),
+        (false, 0) => wanted.len() - 1,
+        (false, 1) => wanted.len() + 1,
+        _ => random.below(wanted.len() as u64) as usize,
+    };
+    let untouched = vec![f32::from_bits(UNTOUCHED); length];
+    let mut out = untouched.clone();
+    let given = port(&mut out);
+    if given != if fits { answer } else { 0 } {
+        return Some(format!("answer {given} for a buffer of {length}"));
+    }
+    difference(&out, if fits { wanted } else { &untouched })
+}
+
+/// The first place at which the words differ; NaNs are one word.
+fn difference(ours: &[f32], wanted: &[f32]) -> Option<String> {
+    let words = |values: &[f32]| -> Vec<u64> { values.iter().map(|v| v.to_word()).collect() };
+    let (ours, wanted) = (words(ours), words(wanted));
+    let i = (0..ours.len()).find(|i| ours[*i] != wanted[*i])?;
+    Some(format!(
+        "element {i}: port {:08x}, wanted {:08x}",
+        ours[i], wanted[i]
+    ))
+}

@@ -1,0 +1,45 @@
+//! Random routes over the world.
+
+use super::Group;
+use crate::generator::Generator;
+use crate::reference_routes::Route;
+use crate::route_kinds::{between, drawn, ONE_POINT, THREE_POINTS};
+
+const SEED: u64 = 0x726f_7574;
+const HALF_ROUND: f64 = 20_000.0;
+
+/// Each group has a seed of its own, so that a further one leaves the others
+/// as they are.
+pub fn groups() -> Vec<Group> {
+    let (one, three) = (f64::from(ONE_POINT), f64::from(THREE_POINTS));
+    vec![
+        ("one point", by_distance(1, 40, 50.0, one)),
+        ("three points", by_distance(2, 40, one, three)),
+        ("five points", by_distance(3, 50, three, HALF_ROUND)),
+        ("the long way round", long_way(4, 50)),
+        ("whole degrees", of_kind(5, 24, "whole degrees")),
+        ("close ends", of_kind(6, 24, "close ends")),
+        ("near antipodes", of_kind(7, 24, "near antipodes")),
+        ("near poles", of_kind(8, 30, "near poles")),
+        ("one great meridian", of_kind(9, 24, "one great meridian")),
+    ]
+}
+
+fn by_distance(seed: u64, count: usize, low: f64, high: f64) -> Vec<Route> {
+    let mut random = Generator::new(SEED + seed);
+    (0..count)
+        .map(|_| between(&mut random, low, high))
+        .collect()
+}
+
+/// Half of them short the short way, where the long way passes an antipode.
+fn long_way(seed: u64, count: usize) -> Vec<Route> {
+    let mut routes = by_distance(seed, count / 2, 50.0, f64::from(THREE_POINTS));
+    routes.extend(by_distance(seed, count / 2, 50.0, HALF_ROUND));
+    routes.into_iter().map(Route::long_way).collect()
+}
+
+fn of_kind(seed: u64, count: usize, kind: &str) -> Vec<Route> {
+    let mut random = Generator::new(SEED + seed);
+    (0..count).map(|_| drawn(kind, &mut random)).collect()
+}
