@@ -21,3 +21,12 @@ pub mod Intervals
 pub mod Reduction
 pub mod Turns
 pub mod Bounds
+pub mod Fills
+pub mod Entries
+pub mod Walks
+pub mod Records
+pub mod Places
+pub mod Ladders
+pub mod Indexing
+pub mod Maps
+pub mod Points

@@ -5,3 +5,10 @@ pub mod Number
 pub mod Constants
 pub mod Angle
 pub mod Elementary
+pub mod Refusal
+pub mod Fill
+pub mod Words
+pub mod MonthFile
+pub mod Tables
+pub mod Index
+pub mod Blend

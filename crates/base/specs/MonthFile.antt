@@ -1,0 +1,87 @@
+-- Document 01, Files: the month record of the `.daw` file, and the month file's walk. Assumes nothing.
+use mathlib.Core.Path.{_≡_}
+use Prim.Native.Nat.{ℕ, _+_, _-_, _*_, _/_, _%_, _≤_}
+use mathlib.Core.Bool.{Bool, true, false, cond, _&&_}
+use mathlib.Core.List.{List, [], _∷_, _++_}
+use lib.Dec.{leb, eqb}
+use lib.ListN.{length, getD, take, drop, replicate}
+use denote.Ref.{RefT, ptr, now}
+use Rattle.base.specs.declared.refusal.Refusal.the-variants.{Month, Record, Ended, Marker}
+use Rattle.base.specs.declared.refusal.Verdict.{Verdict}
+use Rattle.base.specs.declared.refusal.Verdict.the-variants.{Accepted, Refused}
+use Rattle.base.specs.Words.{wordAt}
+
+-- ---- a part of a lent file
+
+pub record Part : Type 0 where
+  pub from : ℕ
+  pub size : ℕ
+
+-- 'the part handed back is empty, at the start'
+abbrev pub emptyPart : Part
+emptyPart = record { from = 0; size = 0 }
+
+-- x is the part p of the lent file s: its bytes, and where they lie
+pub record IsPart (p : Part) (s x : RefT (List ℕ)) : Type 0 where
+  pub bytes : now x ≡ take (p .size) (drop (p .from) (now s))
+  pub block : ptr x .0 ≡ ptr s .0
+  pub start : ptr x .1 ≡ ptr s .1 + p .from
+
+abbrev pub accepted : Verdict → Bool
+accepted Accepted = true
+accepted (Refused why) = false
+
+-- ---- Month record
+
+-- 'refuses 1 (place 1), then 8 if the file has under month × 7,904 bytes'
+unfoldable pub monthRecordCheck : List ℕ → ℕ → Verdict
+monthRecordCheck s month =
+    cond (leb 1 month && leb month 12)
+    (cond (leb (month * 7904) (length s)) Accepted (Refused Record))
+    (Refused Month)
+
+abbrev pub monthStart : ℕ → ℕ
+monthStart month = (month - 1) * 7904
+
+-- 'It hands back those 7,904 bytes from (month - 1) × 7,904'
+unfoldable pub monthPart : List ℕ → ℕ → Part
+monthPart s month =
+    cond (accepted (monthRecordCheck s month)) (record { from = monthStart month; size = 7904 }) emptyPart
+
+-- ---- Month file
+
+-- 'nine records, each between two u32 markers of its size'
+abbrev pub sizes : List ℕ
+sizes = 240 ∷ 11184 ∷ 5328 ∷ 3528 ∷ 3168 ∷ 1920 ∷ 7128 ∷ 4400 ∷ 1584 ∷ []
+
+-- what four bytes must be: a marker of this size, or anything
+pub data Four : Type 0 where
+  marker : ℕ → Four
+  anything : Four
+
+unfoldable pub layout : List ℕ → List Four
+layout [] = []
+layout (n ∷ ns) = marker n ∷ (replicate (n / 4) anything ++ (marker n ∷ layout ns))
+
+abbrev pub isRight : List ℕ → ℕ → Four → Bool
+isRight s at (marker n) = eqb (wordAt s at) n
+isRight s at anything = true
+
+-- 'The walk goes in fours: 9 if four bytes are not there, 10 at a wrong marker, whichever comes first, with its byte place'
+unfoldable pub walk : List ℕ → ℕ → List Four → Verdict
+walk s at [] = Accepted
+walk s at (f ∷ fs) =
+    cond (leb (at + 4) (length s))
+    (cond (isRight s at f) (walk s (at + 4) fs) (Refused (Marker at)))
+    (Refused (Ended at))
+
+-- 'later bytes are ignored'
+unfoldable pub monthFileCheck : List ℕ → Verdict
+monthFileCheck s = walk s 0 (layout sizes)
+
+-- ---- what the code's table of sizes says of each
+
+pub record Sized (k n : ℕ) : Type 0 where
+  pub is : n ≡ getD sizes k 0
+  pub fours : n % 4 ≡ 0
+  pub most : n ≤ 11184

@@ -1,0 +1,36 @@
+-- Document 01's refusals: the number and the place of each case. Assumes nothing.
+use Prim.Native.Nat.{ℕ}
+use Rattle.base.specs.declared.refusal.Refusal.{Refusal}
+use Rattle.base.specs.declared.refusal.Refusal.the-variants.{Month, Sunspot, Hour, Latitude, Longitude, Factor, Flag, Record, Ended, Marker, Index, Figures, Table, Desk, Drafted, NoDraft, Stale, NothingEarlier}
+use Rattle.base.specs.declared.refusal.Report.{Report}
+use Rattle.base.specs.declared.refusal.Verdict.{Verdict}
+use Rattle.base.specs.declared.refusal.Verdict.the-variants.{Accepted, Refused}
+
+abbrev pub pairOf : Report → ℕ × ℕ
+pairOf x = (x .0, x .1)
+
+-- number and place. 'Refusals 9, 10 and 11 carry the place given below, those of input fields the field's number, all others place 0'
+abbrev pub reportOf : Refusal → ℕ × ℕ
+reportOf Month = (1, 1)
+reportOf Sunspot = (2, 2)
+reportOf Hour = (3, 3)
+reportOf (Latitude field) = (4, field)
+reportOf (Longitude field) = (5, field)
+reportOf (Factor field) = (6, field)
+reportOf Flag = (7, 8)
+reportOf Record = (8, 0)
+reportOf (Ended at) = (9, at)
+reportOf (Marker at) = (10, at)
+reportOf (Index map) = (11, map)
+reportOf Figures = (12, 0)
+reportOf Table = (13, 0)
+reportOf Desk = (14, 0)
+reportOf Drafted = (15, 0)
+reportOf NoDraft = (16, 0)
+reportOf Stale = (17, 0)
+reportOf NothingEarlier = (18, 0)
+
+-- the same of a check's answer: 'it gives 0 and 0 exactly when nothing is refused'
+abbrev pub verdictReport : Verdict → ℕ × ℕ
+verdictReport Accepted = (0, 0)
+verdictReport (Refused why) = reportOf why

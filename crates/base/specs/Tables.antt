@@ -1,0 +1,145 @@
+-- The 20 tables of the month file: where each stands, from the records' sizes and the shapes of the Rust's arrays. Assumes nothing.
+use mathlib.Core.Path.{_≡_}
+use Prim.Native.Nat.{ℕ, _+_, _-_, _*_, _/_, _≤_}
+use mathlib.Core.List.{List, [], _∷_, _++_}
+use lib.ListN.{getD}
+use Rattle.base.specs.MonthFile.{sizes}
+
+-- ---- shapes
+
+-- the arrays of each record, in `parse_month_file`'s order; of each its dimensions, the innermost first
+abbrev pub shapes : List (List (List ℕ))
+shapes =
+    -- ikim
+    ((10 ∷ 6 ∷ []) ∷ [])
+    -- fakp, fakabp
+    ∷ ((29 ∷ 16 ∷ 6 ∷ []) ∷ (2 ∷ 6 ∷ []) ∷ [])
+    -- dud, fam, sys
+    ∷ ((5 ∷ 12 ∷ 5 ∷ []) ∷ (14 ∷ 12 ∷ []) ∷ (9 ∷ 16 ∷ 6 ∷ []) ∷ [])
+    -- xfm3cf
+    ∷ ((9 ∷ 49 ∷ 2 ∷ []) ∷ [])
+    -- f2d, perr
+    ∷ ((16 ∷ 6 ∷ 6 ∷ []) ∷ (9 ∷ 4 ∷ 6 ∷ []) ∷ [])
+    -- anew, bnew, achi, bchi, fakmap, abmap
+    ∷ ((3 ∷ []) ∷ (3 ∷ []) ∷ (2 ∷ []) ∷ (2 ∷ []) ∷ (29 ∷ 16 ∷ []) ∷ (2 ∷ 3 ∷ []) ∷ [])
+    -- xesmcf, xpmap
+    ∷ ((7 ∷ 61 ∷ 2 ∷ []) ∷ (29 ∷ 16 ∷ 2 ∷ []) ∷ [])
+    -- xeslcf, xesucf
+    ∷ ((5 ∷ 55 ∷ 2 ∷ []) ∷ (5 ∷ 55 ∷ 2 ∷ []) ∷ [])
+    -- xercof
+    ∷ ((9 ∷ 22 ∷ 2 ∷ []) ∷ [])
+    ∷ []
+
+-- ---- places
+
+-- a table: its first byte, the words of a row (the innermost dimension) and all its words
+pub record Table : Type 0 where
+  pub from : ℕ
+  pub width : ℕ
+  pub words : ℕ
+
+abbrev pub product : List ℕ → ℕ
+product [] = 1
+product (n ∷ ns) = n * product ns
+
+-- the tables of a record whose body starts at `at`, one after the other
+abbrev pub inRecord : ℕ → List (List ℕ) → List Table
+inRecord at [] = []
+inRecord at (d ∷ ds) = record { from = at; width = getD d 0 0; words = product d } ∷ inRecord (at + 4 * product d) ds
+
+-- those of each record, the first one's marker being at `at`: a record's body stands between two markers
+abbrev pub inRecords : ℕ → List ℕ → List (List (List ℕ)) → List (List Table)
+inRecords at [] rs = []
+inRecords at (n ∷ ns) [] = []
+inRecords at (n ∷ ns) (r ∷ rs) = inRecord (at + 4) r ∷ inRecords (at + n + 8) ns rs
+
+abbrev pub tablesByRecord : List (List Table)
+tablesByRecord = inRecords 0 sizes shapes
+
+abbrev pub joined : List (List Table) → List Table
+joined [] = []
+joined (ts ∷ rs) = ts ++ joined rs
+
+abbrev pub tables : List Table
+tables = joined tablesByRecord
+
+-- ---- by number
+
+-- the table of a number, '1 to 20 (`ikim` to `xercof` in file order)'
+abbrev pub tableOf : ℕ → Table
+tableOf number = getD tables (number - 1) (record { from = 0; width = 0; words = 0 })
+
+abbrev pub placeOf : ℕ → ℕ
+placeOf number = tableOf number .from
+
+abbrev pub widthOf : ℕ → ℕ
+widthOf number = tableOf number .width
+
+abbrev pub wordsOf : ℕ → ℕ
+wordsOf number = tableOf number .words
+
+-- the words of one plane of a table that has two, one at each sunspot number
+abbrev pub planeOf : ℕ → ℕ
+planeOf number = wordsOf number / 2
+
+-- the numbers of the tables that are used
+abbrev pub ikim : ℕ
+ikim = 1
+
+abbrev pub xfm3cf : ℕ
+xfm3cf = 7
+
+abbrev pub anew : ℕ
+anew = 10
+
+abbrev pub bnew : ℕ
+bnew = 11
+
+abbrev pub achi : ℕ
+achi = 12
+
+abbrev pub bchi : ℕ
+bchi = 13
+
+abbrev pub fakmap : ℕ
+fakmap = 14
+
+abbrev pub abmap : ℕ
+abmap = 15
+
+abbrev pub xesmcf : ℕ
+xesmcf = 16
+
+abbrev pub xpmap : ℕ
+xpmap = 17
+
+abbrev pub xeslcf : ℕ
+xeslcf = 18
+
+abbrev pub xesucf : ℕ
+xesucf = 19
+
+abbrev pub xercof : ℕ
+xercof = 20
+
+-- ---- what the tables and the records' sizes must agree in
+
+abbrev pub endOf : Table → ℕ
+endOf t = t .from + 4 * t .words
+
+-- from `at` on each table starts where the one before ends, ends by `end`, and the last ends there
+abbrev pub Packed : ℕ → ℕ → List Table → Type 0
+Packed at end [] = at ≡ end
+Packed at end (t ∷ ts) = (t .from ≡ at) × (endOf t ≤ end) × Packed (endOf t) end ts
+
+abbrev pub bytesOf : List Table → ℕ
+bytesOf [] = 0
+bytesOf (t ∷ ts) = 4 * t .words + bytesOf ts
+
+-- in each record of n bytes, whose marker is at `at`, the tables make up the n bytes and stand packed in them; the last record ends at `end`
+abbrev pub PackedRecords : ℕ → ℕ → List ℕ → List (List Table) → Type 0
+PackedRecords at end [] [] = at ≡ end
+PackedRecords at end [] (ts ∷ rs) = ⊥
+PackedRecords at end (n ∷ ns) [] = ⊥
+PackedRecords at end (n ∷ ns) (ts ∷ rs) =
+    (bytesOf ts ≡ n) × Packed (at + 4) (at + 4 + n) ts × PackedRecords (at + n + 8) end ns rs

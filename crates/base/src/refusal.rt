@@ -1,0 +1,103 @@
+// Why a call is refused: a name for each refusal of document 01, with its number and place.
+ghost use mathlib.Core.Path.{_≡_};
+ghost use Rattle.base.specs.Refusal.{pairOf, reportOf, verdictReport};
+
+// Of a field that stands more than once, and of a place in a file or the number of a map, the case
+// carries which.
+pub enum Refusal {
+    Month,
+    Sunspot,
+    Hour,
+    Latitude(u32),
+    Longitude(u32),
+    Factor(u32),
+    Flag,
+    // The F2 record, or the file of such records, is too short.
+    Record,
+    // Four bytes of the month file, at this place, are not there.
+    Ended(u32),
+    // The marker at this place of the month file is wrong.
+    Marker(u32),
+    // The index table is bad in this map.
+    Index(u32),
+    Figures,
+    Table,
+    Desk,
+    // A draft is open already.
+    Drafted,
+    NoDraft,
+    Stale,
+    NothingEarlier,
+}
+
+// Document 01's number of a refusal, and its place; 0 and 0 where nothing is refused.
+pub struct Report(pub u32, pub u32);
+
+impl Refusal {
+    // A field's number, a byte's place or a map's number is the place; all others have place 0.
+    pub fn report(self) -> Report
+        ensures { λ r. ⌜ pairOf r ≡ reportOf self ⌝ }
+    {
+        match self {
+            Refusal::Month => Report(1, 1),
+            Refusal::Sunspot => Report(2, 2),
+            Refusal::Hour => Report(3, 3),
+            Refusal::Latitude(field) => Report(4, field),
+            Refusal::Longitude(field) => Report(5, field),
+            Refusal::Factor(field) => Report(6, field),
+            Refusal::Flag => Report(7, 8),
+            Refusal::Record => Report(8, 0),
+            Refusal::Ended(at) => Report(9, at),
+            Refusal::Marker(at) => Report(10, at),
+            Refusal::Index(map) => Report(11, map),
+            Refusal::Figures => Report(12, 0),
+            Refusal::Table => Report(13, 0),
+            Refusal::Desk => Report(14, 0),
+            Refusal::Drafted => Report(15, 0),
+            Refusal::NoDraft => Report(16, 0),
+            Refusal::Stale => Report(17, 0),
+            Refusal::NothingEarlier => Report(18, 0),
+        }
+    }
+
+    pub fn number(self) -> u32
+        ensures { λ r. ⌜ r ≡ reportOf self .0 ⌝ }
+    {
+        self.report().0
+    }
+
+    pub fn place(self) -> u32
+        ensures { λ r. ⌜ r ≡ reportOf self .1 ⌝ }
+    {
+        self.report().1
+    }
+}
+
+// The answer of a check.
+pub enum Verdict {
+    Accepted,
+    Refused(Refusal),
+}
+
+impl Verdict {
+    pub fn report(self) -> Report
+        ensures { λ r. ⌜ pairOf r ≡ verdictReport self ⌝ }
+    {
+        match self {
+            Verdict::Accepted => Report(0, 0),
+            Verdict::Refused(why) => why.report(),
+        }
+    }
+
+    pub fn number(self) -> u32
+        ensures { λ r. ⌜ r ≡ verdictReport self .0 ⌝ }
+    {
+        self.report().0
+    }
+
+    pub fn place(self) -> u32
+        ensures { λ r. ⌜ r ≡ verdictReport self .1 ⌝ }
+    {
+        self.report().1
+    }
+}
