@@ -2,7 +2,7 @@
 //! they are and from those with their branches counted.
 
 use crate::bits::Answer;
-use crate::branches::{self, Counts};
+use crate::branches::{self, Side};
 use crate::voacap::con::MagneticPole;
 use crate::voacap::geometry::ControlPoint;
 use crate::voacap::ionosphere::alatd;
@@ -159,8 +159,8 @@ fn control_points(rows: &[[f32; 7]]) -> Vec<ControlPoint> {
     rows.iter().map(point).collect()
 }
 
-/// What this route alone decides; what was counted before is lost.
-pub fn counts(route: &Route) -> Counts {
+/// The sides that this route takes; what was noted before is lost.
+pub fn trail(route: &Route) -> Vec<Side> {
     branches::take();
     counted(route);
     branches::take()

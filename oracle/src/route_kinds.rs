@@ -33,7 +33,7 @@ pub fn of_any_kind(random: &mut Generator) -> Route {
 }
 
 /// A route of the kind of this name.
-pub fn drawn(name: &str, random: &mut Generator) -> Route {
+pub fn of_kind(name: &str, random: &mut Generator) -> Route {
     let kind = KINDS.iter().find(|(kind, _)| *kind == name);
     let (_, draw) = kind.unwrap_or_else(|| panic!("no kind of route {name}"));
     draw(random)
@@ -126,9 +126,10 @@ pub fn opposite(from: End) -> End {
 /// One end or both, from many degrees down to the pole itself.
 fn near_poles(random: &mut Generator) -> Route {
     let near = polar_end(random);
-    let other = match random.below(2) {
+    let other = match random.below(3) {
         0 => any_end(random),
-        _ => polar_end(random),
+        1 => polar_end(random),
+        _ => end(near.lat, any_end(random).lon),
     };
     match random.below(2) {
         0 => finished(random, near, other),
@@ -154,9 +155,19 @@ fn whole_degrees(random: &mut Generator) -> Route {
     finished(random, from, to)
 }
 
-pub fn whole_end(random: &mut Generator) -> End {
-    let lat = random.between(-90, 90) as f32;
-    end(lat, random.between(-180, 180) as f32)
+fn whole_end(random: &mut Generator) -> End {
+    let lat = whole_number(random, 2);
+    end(lat, whole_number(random, 4))
+}
+
+/// As many times 45 degrees at most, one in four a multiple of that; 0 with
+/// either sign.
+fn whole_number(random: &mut Generator, most: i64) -> f32 {
+    let size = match random.below(4) {
+        0 => 45 * random.between(0, most),
+        _ => random.between(0, 45 * most),
+    };
+    random.sign() as f32 * size as f32
 }
 
 /// Equal or opposite longitudes, so that cosines come near 1 and points
@@ -168,8 +179,8 @@ fn one_meridian(random: &mut Generator) -> Route {
     };
     let lat = match random.below(3) {
         0 => from.lat,
-        1 => random.between(-90, 90) as f32,
-        _ => random.uniform(-90.0, 90.0) as f32,
+        1 => whole_end(random).lat,
+        _ => any_end(random).lat,
     };
     let lon = match random.below(2) {
         0 => from.lon,

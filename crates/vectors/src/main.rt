@@ -1,8 +1,10 @@
 // Replays the Rust side's answers in data/ and prints of each kind how many were compared and how many
 // differ.
+mod files;
 mod numbers;
 mod tally;
 
 fn main() {
     numbers::replay();
+    files::replay();
 }

@@ -7,7 +7,7 @@ mod odd;
 mod ordinary;
 mod searched;
 
-use crate::branches::{self, Counts, BRANCHES};
+use crate::branches::{self, Side, BRANCHES};
 use crate::month_file::push_words;
 use crate::reference_routes::{counted, plain, Route};
 use std::fs;
@@ -19,6 +19,9 @@ const NAME_BYTES: usize = 32;
 
 /// A group's name and its routes.
 type Group = (&'static str, Vec<Route>);
+
+/// For each condition, how often it was false and how often true.
+type Counts = [[u64; 2]; BRANCHES.len()];
 
 pub fn run(file: &str) -> Result<(), String> {
     let groups = groups();
@@ -43,7 +46,7 @@ fn groups() -> Vec<Group> {
 /// The file's bytes, and what the counted sources decided on the way.
 fn vectors(groups: &[Group]) -> Result<(Vec<u8>, Counts), String> {
     let mut bytes = Vec::new();
-    // The searches have counted too.
+    // The searches have left notes.
     branches::take();
     for (name, routes) in groups {
         push_heading(&mut bytes, name);
@@ -51,7 +54,15 @@ fn vectors(groups: &[Group]) -> Result<(Vec<u8>, Counts), String> {
             push_words(&mut bytes, &row(route)?);
         }
     }
-    Ok((bytes, branches::take()))
+    Ok((bytes, counts(&branches::take())))
+}
+
+fn counts(trail: &[Side]) -> Counts {
+    let mut counts = [[0; 2]; BRANCHES.len()];
+    for (branch, holds) in trail {
+        counts[*branch][usize::from(*holds)] += 1;
+    }
+    counts
 }
 
 /// The name's bytes, filled up with zeros.

@@ -169,11 +169,9 @@ fn date_line() -> Vec<Route> {
         (180.0, -180.0),
         (180.0, 170.0),
         (-180.0, 170.0),
-        (170.0, -170.0),
         (179.99, -179.99),
         (150.0, -90.0),
         (120.0, -160.0),
-        (180f32.next_down(), -179.0),
     ];
     let mut routes = Vec::new();
     for (a, b) in longitudes {
@@ -208,6 +206,9 @@ fn meridians() -> Vec<Route> {
         (-77.7, -77.7),
         (180.0, 180.0),
         (-180.0, -180.0),
+        // Just below the Rust's own pi; 180 degrees are just above it.
+        (180f32.next_down(), 180f32.next_down()),
+        (-180f32.next_down(), -180f32.next_down()),
     ];
     let mut routes = Vec::new();
     for (a, b) in longitudes {

@@ -48,13 +48,15 @@ fn outside() -> Vec<Route> {
         -135.0,
         180f32.next_up(),
         -270.0,
-        540.0,
         -720.0,
-        57_295.0,
         -57_296.5,
         1.0e30,
     ]);
-    // The pole is passed, and the moved receiver too.
+    // Cosines on both sides of 1e-7, which in the ranges are the poles'.
+    for lat in [270.0, -270.0, 450.0] {
+        routes.extend([0, 2].map(|field| with(bases()[0], field, lat)));
+    }
+    // The pole is passed, and by the moved receiver too.
     routes.push(Route::new(end(100.0, 20.0), end(100.0, 20.0)));
     routes.push(Route::new(end(-90.02, 20.0), end(-90.01, 20.0)));
     routes.push(Route::new(end(180.0, 540.0), end(-180.0, -540.0)).long_way());

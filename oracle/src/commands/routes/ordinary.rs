@@ -3,7 +3,7 @@
 use super::Group;
 use crate::generator::Generator;
 use crate::reference_routes::Route;
-use crate::route_kinds::{between, drawn, ONE_POINT, THREE_POINTS};
+use crate::route_kinds::{between, of_kind, ONE_POINT, THREE_POINTS};
 
 const SEED: u64 = 0x726f_7574;
 const HALF_ROUND: f64 = 20_000.0;
@@ -13,15 +13,15 @@ const HALF_ROUND: f64 = 20_000.0;
 pub fn groups() -> Vec<Group> {
     let (one, three) = (f64::from(ONE_POINT), f64::from(THREE_POINTS));
     vec![
-        ("one point", by_distance(1, 40, 50.0, one)),
-        ("three points", by_distance(2, 40, one, three)),
-        ("five points", by_distance(3, 50, three, HALF_ROUND)),
-        ("the long way round", long_way(4, 50)),
-        ("whole degrees", of_kind(5, 24, "whole degrees")),
-        ("close ends", of_kind(6, 24, "close ends")),
-        ("near antipodes", of_kind(7, 24, "near antipodes")),
-        ("near poles", of_kind(8, 30, "near poles")),
-        ("one great meridian", of_kind(9, 24, "one great meridian")),
+        ("one point", by_distance(1, 36, 50.0, one)),
+        ("three points", by_distance(2, 36, one, three)),
+        ("five points", by_distance(3, 44, three, HALF_ROUND)),
+        ("the long way round", long_way(4, 44)),
+        ("whole degrees", several(5, 20, "whole degrees")),
+        ("close ends", several(6, 20, "close ends")),
+        ("near antipodes", several(7, 20, "near antipodes")),
+        ("near poles", several(8, 24, "near poles")),
+        ("one great meridian", several(9, 20, "one great meridian")),
     ]
 }
 
@@ -39,7 +39,7 @@ fn long_way(seed: u64, count: usize) -> Vec<Route> {
     routes.into_iter().map(Route::long_way).collect()
 }
 
-fn of_kind(seed: u64, count: usize, kind: &str) -> Vec<Route> {
+fn several(seed: u64, count: usize, kind: &str) -> Vec<Route> {
     let mut random = Generator::new(SEED + seed);
-    (0..count).map(|_| drawn(kind, &mut random)).collect()
+    (0..count).map(|_| of_kind(kind, &mut random)).collect()
 }

@@ -1,0 +1,263 @@
+// The files: damaged month files, month records, index tables, every word of two pairs of files and
+// every blended coefficient, in what `oracle files` writes.
+use crate::tally;
+use crate::tally::Tally;
+use crate::tally::counted;
+use crate::tally::none;
+use base::coefficients;
+use base::number;
+use base::refusal::Verdict;
+use libc::STDOUT_FILENO;
+ghost use Prim.Native.Nat.{_≤_};
+ghost use lib.ListN.{length};
+
+fn print_line(name: &[u8], t: Tally) {
+    io::write_all(STDOUT_FILENO, name);
+    tally::print(t);
+}
+
+// The next word of a file; 0 where it has ended.
+fn next(fd: i32) -> u32 {
+    let mut four = [0u8; 4];
+    io::read_full(fd, &mut four);
+    coefficients::word(&four, 0)
+}
+
+fn index(w: u32) -> usize {
+    w as usize
+}
+
+// A file's bytes, as many as the buffer takes.
+fn load(path: &[u8], buf: &mut [u8]) {
+    let fd = os::open_read(path);
+    if fd < 0 {
+        os::fail(path);
+        return;
+    }
+    io::read_full(fd, buf);
+    libc::close(fd);
+}
+
+fn is_report(v: Verdict, wanted: u32, place: u32) -> bool {
+    v.number() == wanted && v.place() == place
+}
+
+// The part of a file up to n, or all of it.
+fn cut(s: &[u8], n: usize) -> &[u8] {
+    if s.len() < n {
+        return s;
+    }
+    let a = 0usize;
+    &s[a..n]
+}
+
+fn walk(month: &[u8; 38616], len: usize) -> Verdict {
+    coefficients::month_file_check(cut(month, len))
+}
+
+// One damaged month file: cut to a length, with one byte changed.
+fn is_walk(fd: i32, month: [u8; 38616]) -> bool {
+    let len = index(next(fd));
+    let at = index(next(fd));
+    let b = (next(fd) % 256) as u8;
+    let number = next(fd);
+    let place = next(fd);
+    let mut damaged = month;
+    if at < 38616 {
+        damaged[at] = b;
+    }
+    is_report(walk(&damaged, len), number, place)
+}
+
+fn walks(fd: i32, month: [u8; 38616]) -> Tally {
+    let mut t = none();
+    let mut k: u32 = 0;
+    while k < 2204 {
+        t = counted(t, is_walk(fd, month));
+        k += 1;
+    }
+    t
+}
+
+// Whether a record is the wanted part: by its length and its first and last words.
+fn is_part(s: &[u8], start: usize, part: &[u8], accepted: bool) -> bool {
+    if !accepted {
+        return part.len() == 0;
+    }
+    if start > 86944 {
+        return false;
+    }
+    part.len() == 7904
+        && coefficients::word(part, 0) == coefficients::word(s, start)
+        && coefficients::word(part, 7900) == coefficients::word(s, start + 7900)
+}
+
+fn is_record(fd: i32, daw: &[u8]) -> bool {
+    let len = index(next(fd));
+    let month = next(fd);
+    let number = next(fd);
+    let place = next(fd);
+    let start = index(next(fd));
+    let s = cut(daw, len);
+    is_report(coefficients::month_record_check(s, month), number, place)
+        && is_part(s, start, coefficients::month_record(s, month), number == 0)
+}
+
+fn records(fd: i32, daw: &[u8]) -> Tally {
+    let mut t = none();
+    let mut k: u32 = 0;
+    while k < 450 {
+        t = counted(t, is_record(fd, daw));
+        k += 1;
+    }
+    t
+}
+
+fn checked(month: &[u8; 244]) -> Verdict {
+    coefficients::index_check(month)
+}
+
+// An index table, in its place in a month file that ends with it.
+fn is_index(fd: i32) -> bool {
+    let mut month = [0u8; 244];
+    io::read_full(fd, &mut month[4..244]);
+    let number = next(fd);
+    let place = next(fd);
+    is_report(checked(&month), number, place)
+}
+
+fn indexes(fd: i32) -> Tally {
+    let mut t = none();
+    let mut k: u32 = 0;
+    while k < 3160 {
+        t = counted(t, is_index(fd));
+        k += 1;
+    }
+    t
+}
+
+// Whether a float has these bits; two NaNs are alike.
+fn is_float(x: f32, wanted: u32) -> bool {
+    number::bits32(x) == number::bits32(number::float32(wanted))
+}
+
+// The n floats of a file from `at` on.
+fn floats(fd: i32, s: &[u8], at: usize, n: usize, t: Tally) -> Tally {
+    let mut t = t;
+    let mut k: usize = 0;
+    while k < n {
+        let place = std::num::wrapping_add_usize(at, std::num::wrapping_add_usize(k, k));
+        let place = std::num::wrapping_add_usize(place, std::num::wrapping_add_usize(k, k));
+        t = counted(t, is_float(coefficients::float(s, place), next(fd)));
+        k += 1;
+    }
+    t
+}
+
+fn integers(fd: i32, month: &[u8], t: Tally) -> Tally {
+    let mut t = t;
+    let mut k: usize = 0;
+    while k < 60 {
+        t = counted(
+            t,
+            coefficients::integer(month, 4 + 4 * k) == number::signed(next(fd)),
+        );
+        k += 1;
+    }
+    t
+}
+
+// The words of the records' bodies after the first, which stand between markers of four bytes.
+const BODIES: [usize; 8] = [2796, 1332, 882, 792, 480, 1782, 1100, 396];
+
+const STARTS: [usize; 8] = [252, 11444, 16780, 20316, 23492, 25420, 32556, 36964];
+
+// Every word of a pair, as the Rust reads it.
+fn words(fd: i32, record: &[u8], month: &[u8]) -> Tally {
+    let mut t = integers(fd, month, floats(fd, record, 0, 1976, none()));
+    let mut k: usize = 0;
+    while k < 8 {
+        t = floats(fd, month, STARTS[k], BODIES[k], t);
+        k += 1;
+    }
+    t
+}
+
+// The blended coefficients of a pair at the next sunspot number.
+fn cofions(fd: i32, record: &[u8], month: &[u8], ssn: f32, t: Tally) -> Tally {
+    let all = coefficients::cofion(record, month, ssn);
+    let mut t = t;
+    let mut k: usize = 0;
+    while k < 2604 {
+        t = counted(t, is_float(all[k], next(fd)));
+        k += 1;
+    }
+    t
+}
+
+fn heights(fd: i32, month: &[u8], ssn: f32, t: Tally) -> Tally {
+    let all = coefficients::hmym(month, ssn);
+    let mut t = t;
+    let mut k: usize = 0;
+    while k < 464 {
+        t = counted(t, is_float(all[k], next(fd)));
+        k += 1;
+    }
+    t
+}
+
+fn blends(fd: i32, record: &[u8], month: &[u8], t: Tally) -> Tally {
+    let mut t = t;
+    let mut k: u32 = 0;
+    while k < 15 {
+        let ssn = number::float32(next(fd));
+        t = heights(fd, month, ssn, cofions(fd, record, month, ssn, t));
+        k += 1;
+    }
+    t
+}
+
+fn replay_walks() {
+    let mut month = [0xaau8; 38616];
+    load(b"calm.month", &mut month);
+    let fd = os::open_read(b"walks.bin");
+    print_line(b"walks", walks(fd, month));
+    libc::close(fd);
+}
+
+fn replay_records() {
+    let mut daw = [0u8; 15808];
+    load(b"calm.daw", &mut daw);
+    let fd = os::open_read(b"records.bin");
+    print_line(b"records", records(fd, &daw));
+    libc::close(fd);
+}
+
+fn replay_indexes() {
+    let fd = os::open_read(b"indexes.bin");
+    print_line(b"indexes", indexes(fd));
+    libc::close(fd);
+}
+
+// One pair of files against the next answers of words.bin and blends.bin.
+fn replay_pair(daw_path: &[u8], month_path: &[u8], words_fd: i32, blends_fd: i32) {
+    let mut daw = [0u8; 15808];
+    let mut month = [0u8; 38552];
+    load(daw_path, &mut daw);
+    load(month_path, &mut month);
+    let record = coefficients::month_record(&daw, 2);
+    print_line(b"words", words(words_fd, record, &month));
+    print_line(b"blends", blends(blends_fd, record, &month, none()));
+}
+
+pub fn replay() {
+    replay_walks();
+    replay_records();
+    replay_indexes();
+    let words_fd = os::open_read(b"words.bin");
+    let blends_fd = os::open_read(b"blends.bin");
+    replay_pair(b"calm.daw", b"calm.month", words_fd, blends_fd);
+    replay_pair(b"wild.daw", b"wild.month", words_fd, blends_fd);
+    libc::close(words_fd);
+    libc::close(blends_fd);
+}
