@@ -121,13 +121,9 @@ mod tests {
         let (bytes, counts) = vectors(&groups).expect("both variants agree");
         assert_eq!(refuse_untaken(&counts), Ok(()));
         assert!(bytes.len() < 200_000, "{} bytes", bytes.len());
-        assert!(vectors(&super::groups()).is_ok_and(|(again, _)| again == bytes));
-    }
-
-    #[test]
-    fn no_route_looks_like_a_heading() {
-        for (_, routes) in groups() {
+        for (_, routes) in groups {
             assert!(routes.iter().all(|route| route.words()[0] != HEADING));
         }
+        assert!(vectors(&super::groups()).is_ok_and(|(again, _)| again == bytes));
     }
 }

@@ -167,7 +167,7 @@ pub fn rare(groups: &[Group]) -> Vec<Route> {
     }
     let mut random = Generator::new(SEED);
     let mut routes = Vec::new();
-    for _ in 0..2 * DRAWS {
+    for _ in 0..DRAWS {
         for draw in [of_any_kind, over_a_pole, at_field_pole, side_by_side] {
             let route = draw(&mut random);
             if helps(&mut tally, &route) {

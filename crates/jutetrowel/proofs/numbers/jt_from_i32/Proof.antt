@@ -3,8 +3,8 @@ use borrow.Author.Needs.{needs}
 use mathlib.Core.Path.{ap, _∙_}
 use lib.Ieee.{binary32, ofInt}
 use mir.Facts.{toZ-ofZ}
-use Rattle.jutetrowel.proofs.jt_from_i32.Statement.{statement}
-use Rattle.jutetrowel.proofs.jt_from_i32.Tie as tie
+use Rattle.jutetrowel.proofs.numbers.jt_from_i32.Statement.{statement}
+use Rattle.jutetrowel.proofs.numbers.jt_from_i32.Tie as tie
 
 returns : tie.Need-returns
 returns c = c .from-i32 .ensures ∙ ap (ofInt binary32) (toZ-ofZ (search needs))

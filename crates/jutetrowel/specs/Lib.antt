@@ -1,0 +1,2 @@
+-- What the exported functions say beyond the crates below. Assumes nothing.
+pub mod Given

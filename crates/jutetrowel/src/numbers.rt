@@ -1,0 +1,166 @@
+// The arithmetic of `base`, under names of its own.
+ghost use mathlib.Core.Path.{_≡_};
+ghost use lib.Ieee.{binary32, binary64, ofInt, toSigned, toUnsigned};
+ghost use Rattle.base.specs.Number.{absOf, minOf, maxOf, narrowOf, sqrtOf};
+ghost use Rattle.base.specs.Elementary.{sinOf, cosOf, atanOf, acosOf, expOf, lnOf, sin32Of, cos32Of, atan32Of, acos32Of, exp32Of, ln32Of};
+
+#[no_mangle]
+pub extern "C" fn jt_abs32(x: f32) -> f32
+    ensures { λ r. ⌜ r ≡ absOf x ⌝ }
+{
+    base::number::abs32(x)
+}
+
+#[no_mangle]
+pub extern "C" fn jt_abs64(x: f64) -> f64
+    ensures { λ r. ⌜ r ≡ absOf x ⌝ }
+{
+    base::number::abs64(x)
+}
+
+#[no_mangle]
+pub extern "C" fn jt_min(a: f32, b: f32) -> f32
+    ensures { λ r. ⌜ r ≡ minOf a b ⌝ }
+{
+    base::number::min(a, b)
+}
+
+#[no_mangle]
+pub extern "C" fn jt_max(a: f32, b: f32) -> f32
+    ensures { λ r. ⌜ r ≡ maxOf a b ⌝ }
+{
+    base::number::max(a, b)
+}
+
+#[no_mangle]
+pub extern "C" fn jt_widen(x: f32) -> f64
+    ensures { λ r. ⌜ r ≡ x ⌝ }
+{
+    base::number::widen(x)
+}
+
+#[no_mangle]
+pub extern "C" fn jt_narrow(x: f64) -> f32
+    ensures { λ r. ⌜ r ≡ narrowOf x ⌝ }
+{
+    base::number::narrow(x)
+}
+
+#[no_mangle]
+pub extern "C" fn jt_sqrt64(x: f64) -> f64
+    ensures { λ r. ⌜ r ≡ sqrtOf binary64 x ⌝ }
+{
+    base::number::sqrt64(x)
+}
+
+#[no_mangle]
+pub extern "C" fn jt_sqrt32(x: f32) -> f32
+    ensures { λ r. ⌜ r ≡ sqrtOf binary32 x ⌝ }
+{
+    base::number::sqrt32(x)
+}
+
+#[no_mangle]
+pub extern "C" fn jt_to_i32(x: f32) -> i32
+    ensures { λ r. ⌜ r ≡ toSigned 31 x ⌝ }
+{
+    base::number::to_i32(x)
+}
+
+#[no_mangle]
+pub extern "C" fn jt_from_i32(n: i32) -> f32
+    ensures { λ r. ⌜ r ≡ ofInt binary32 n ⌝ }
+{
+    base::number::from_i32(n)
+}
+
+#[no_mangle]
+pub extern "C" fn jt_to_u64(x: f64) -> u64
+    ensures { λ r. ⌜ r ≡ toUnsigned 64 x ⌝ }
+{
+    base::number::to_u64(x)
+}
+
+#[no_mangle]
+pub extern "C" fn jt_sin64(x: f64) -> f64
+    ensures { λ r. ⌜ r ≡ sinOf x ⌝ }
+{
+    base::elementary::sin64(x)
+}
+
+#[no_mangle]
+pub extern "C" fn jt_cos64(x: f64) -> f64
+    ensures { λ r. ⌜ r ≡ cosOf x ⌝ }
+{
+    base::elementary::cos64(x)
+}
+
+#[no_mangle]
+pub extern "C" fn jt_atan64(x: f64) -> f64
+    ensures { λ r. ⌜ r ≡ atanOf x ⌝ }
+{
+    base::elementary::atan64(x)
+}
+
+#[no_mangle]
+pub extern "C" fn jt_acos64(x: f64) -> f64
+    ensures { λ r. ⌜ r ≡ acosOf x ⌝ }
+{
+    base::elementary::acos64(x)
+}
+
+#[no_mangle]
+pub extern "C" fn jt_exp64(x: f64) -> f64
+    ensures { λ r. ⌜ r ≡ expOf x ⌝ }
+{
+    base::elementary::exp64(x)
+}
+
+#[no_mangle]
+pub extern "C" fn jt_ln64(x: f64) -> f64
+    ensures { λ r. ⌜ r ≡ lnOf x ⌝ }
+{
+    base::elementary::ln64(x)
+}
+
+#[no_mangle]
+pub extern "C" fn jt_sin32(x: f32) -> f32
+    ensures { λ r. ⌜ r ≡ sin32Of x ⌝ }
+{
+    base::elementary::sin32(x)
+}
+
+#[no_mangle]
+pub extern "C" fn jt_cos32(x: f32) -> f32
+    ensures { λ r. ⌜ r ≡ cos32Of x ⌝ }
+{
+    base::elementary::cos32(x)
+}
+
+#[no_mangle]
+pub extern "C" fn jt_atan32(x: f32) -> f32
+    ensures { λ r. ⌜ r ≡ atan32Of x ⌝ }
+{
+    base::elementary::atan32(x)
+}
+
+#[no_mangle]
+pub extern "C" fn jt_acos32(x: f32) -> f32
+    ensures { λ r. ⌜ r ≡ acos32Of x ⌝ }
+{
+    base::elementary::acos32(x)
+}
+
+#[no_mangle]
+pub extern "C" fn jt_exp32(x: f32) -> f32
+    ensures { λ r. ⌜ r ≡ exp32Of x ⌝ }
+{
+    base::elementary::exp32(x)
+}
+
+#[no_mangle]
+pub extern "C" fn jt_ln32(x: f32) -> f32
+    ensures { λ r. ⌜ r ≡ ln32Of x ⌝ }
+{
+    base::elementary::ln32(x)
+}
