@@ -1,0 +1,53 @@
+-- `orders` is `ordersOf`. The loop's invariant: the two tables and the sums are what the loop of the definition has at m.
+use borrow.Author.Needs.{needs}
+use Prim.Native.Nat.{_≤_, _-_}
+use mathlib.Core.Path.{_≡_}
+use native.Mathlib.Omega.{arith}
+use lib.Ieee.{round, ofBits}
+use Rattle.base.specs.Single.{decimal}
+use Rattle.maps.specs.Magnetic.{o, loop, state, orderOf, ordersOf}
+use Rattle.maps.proofs.Loops.{loop-start, loop-turn}
+use Rattle.maps.proofs.magnetic.orders.Statement.{statement}
+use Rattle.maps.proofs.magnetic.orders.Tie as tie
+
+abbrev Inv-loop : tie.InvT-loop
+Inv-loop x n p₀ dp₀ t v₀ m₀ p dp v m = (m ≤ n) × (state p dp v ≡ loop 0 m (orderOf x n) (state p₀ dp₀ v₀))
+
+abbrev μ-loop : tie.MeasureT-loop
+μ-loop x n p₀ dp₀ t v₀ m₀ p dp v m = n - m
+
+loop-holds : tie.Need-loop-holds Inv-loop μ-loop
+loop-holds c = (search needs, loop-start 0 _ _)
+
+loop-again : tie.Need-loop-again Inv-loop μ-loop
+loop-again c =
+    let k = c .before .before .before .before .before in
+    let a = k .before .before .args in
+    (search needs, loop-turn 0 (orderOf (a .x) (a .n)) _ (k .loop .m) (omega arith) (k .loop .inv .1) (c .before .order .ensures))
+
+-- the test at the loop's head is never false: the loop ends at the test after its body
+returns : tie.Need-returns Inv-loop μ-loop
+returns c = absurd (omega arith)
+
+returns-2 : tie.Need-returns-2 Inv-loop μ-loop
+unfolding ordersOf o decimal round ofBits
+returns-2 c =
+    let k = c .before .before .before .before .before in
+    let a = k .before .before .args in
+    let e : k .loop .m ≡ a .n = omega arith in
+    rw e at (loop-turn 0 (orderOf (a .x) (a .n)) _ (k .loop .m) (omega arith) (k .loop .inv .1) (c .before .order .ensures))
+
+pub orders-spec : {M : Type 1} → statement M
+orders-spec =
+    tie.close
+    (tie.spec
+    Inv-loop
+    μ-loop
+    (λ c κs. search needs)
+    loop-holds
+    (λ c κs. search needs)
+    (λ c. search needs)
+    (λ c. search needs)
+    loop-again
+    returns
+    returns-2)

@@ -1,0 +1,234 @@
+-- magnetic.rs statement by statement, under its names. A table of 7 by 7 numbers that changes stands as one list, row after row. Assumes nothing.
+use mathlib.Core.Bool.{cond}
+use mathlib.Core.List.{List, [], _∷_}
+use Prim.Native.Nat.{ℕ, zero, suc, _+_, _-_, _*_}
+use lib.Dec.{eqb}
+use lib.IntN.{pos}
+use lib.ListN.{getD, set, replicate}
+use lib.Ieee.{Float, nan, binary32, neg, lt, le, ofInt}
+use Rattle.base.specs.Single.{_⊕_, _⊖_, _⊗_, _⊘_, decimal, minusDecimal}
+use Rattle.base.specs.Number.{sqrtOf}
+use Rattle.base.specs.Elementary.{sin32Of, cos32Of, atan32Of}
+use Rattle.base.specs.Angle.{radiansOf}
+use Rattle.base.specs.declared.angle.Radians.{Radians}
+use Rattle.maps.specs.declared.magnetic.Row.{Row}
+use Rattle.maps.specs.declared.magnetic.Position.{Position}
+use Rattle.maps.specs.declared.magnetic.Multiples.{Multiples}
+use Rattle.maps.specs.declared.magnetic.Place.{Place}
+use Rattle.maps.specs.declared.magnetic.Element.{Element}
+use Rattle.maps.specs.declared.magnetic.Sums.{Sums}
+use Rattle.maps.specs.declared.magnetic.Field.{Field}
+use Rattle.maps.specs.declared.magnetic.Une.{Une}
+use Rattle.maps.specs.declared.magnetic.MagneticVars.{MagneticVars}
+
+-- ---- constants and tables, in the digits of the Rust
+
+-- 0.0
+unfoldable pub o : Float
+o = decimal 0 1
+
+-- 89.9 degrees, in radians
+unfoldable pub RD : Float
+RD = decimal 156905124 8
+
+-- the reference radius, metres
+unfoldable pub HC : Float
+HC = decimal 63712000 1
+
+-- Gauss-normalised recurrence constants
+unfoldable pub CT : List (List Float)
+CT =
+    (o ∷ o ∷ o ∷ o ∷ o ∷ o ∷ o ∷ [])
+    ∷ (o ∷ o ∷ o ∷ o ∷ o ∷ o ∷ o ∷ [])
+    ∷ (decimal 33333333 8 ∷ o ∷ o ∷ o ∷ o ∷ o ∷ o ∷ [])
+    ∷ (decimal 26666667 8 ∷ decimal 2 1 ∷ o ∷ o ∷ o ∷ o ∷ o ∷ [])
+    ∷ (decimal 25714286 8 ∷ decimal 22857142 8 ∷ decimal 14285714 8 ∷ o ∷ o ∷ o ∷ o ∷ [])
+    ∷ (decimal 25396825 8 ∷ decimal 23809523 8 ∷ decimal 19047619 8 ∷ decimal 11111111 8 ∷ o ∷ o ∷ o ∷ [])
+    ∷ (decimal 25252525 8 ∷ decimal 24242424 8 ∷ decimal 21212121 8 ∷ decimal 16161616 8 ∷ decimal 9090909 8 ∷ o ∷ o ∷ [])
+    ∷ []
+
+-- Jensen-Cain 1960 G coefficients
+unfoldable pub G : List (List Float)
+G =
+    (o ∷ o ∷ o ∷ o ∷ o ∷ o ∷ o ∷ [])
+    ∷ (decimal 304112 6 ∷ decimal 21474 6 ∷ o ∷ o ∷ o ∷ o ∷ o ∷ [])
+    ∷ (decimal 24035 6 ∷ minusDecimal 51253 6 ∷ minusDecimal 13381 6 ∷ o ∷ o ∷ o ∷ o ∷ [])
+    ∷ (minusDecimal 31518 6 ∷ decimal 62130 6 ∷ minusDecimal 24898 6 ∷ minusDecimal 6496 6 ∷ o ∷ o ∷ o ∷ [])
+    ∷ (minusDecimal 41794 6 ∷ minusDecimal 45298 6 ∷ minusDecimal 21795 6 ∷ decimal 7008 6 ∷ minusDecimal 2044 6 ∷ o ∷ o ∷ [])
+    ∷ (decimal 16256 6 ∷ minusDecimal 34407 6 ∷ minusDecimal 19447 6 ∷ minusDecimal 608 6 ∷ decimal 2775 6 ∷ decimal 697 6 ∷ o ∷ [])
+    ∷ (minusDecimal 19523 6 ∷ minusDecimal 4853 6 ∷ decimal 3212 6 ∷ decimal 21413 6 ∷ decimal 1051 6 ∷ decimal 227 6 ∷ decimal 1115 6 ∷ [])
+    ∷ []
+
+-- Jensen-Cain 1960 H coefficients
+unfoldable pub H : List (List Float)
+H =
+    (o ∷ o ∷ o ∷ o ∷ o ∷ o ∷ o ∷ [])
+    ∷ (o ∷ minusDecimal 57989 6 ∷ o ∷ o ∷ o ∷ o ∷ o ∷ [])
+    ∷ (o ∷ decimal 33124 6 ∷ minusDecimal 1579 6 ∷ o ∷ o ∷ o ∷ o ∷ [])
+    ∷ (o ∷ decimal 14870 6 ∷ minusDecimal 4075 6 ∷ decimal 21 5 ∷ o ∷ o ∷ o ∷ [])
+    ∷ (o ∷ minusDecimal 11825 6 ∷ decimal 10006 6 ∷ decimal 43 5 ∷ decimal 1385 6 ∷ o ∷ o ∷ [])
+    ∷ (o ∷ minusDecimal 796 6 ∷ minusDecimal 2 3 ∷ decimal 4597 6 ∷ decimal 2421 6 ∷ minusDecimal 1218 6 ∷ o ∷ [])
+    ∷ (o ∷ minusDecimal 5758 6 ∷ minusDecimal 8735 6 ∷ minusDecimal 3406 6 ∷ minusDecimal 118 6 ∷ minusDecimal 1116 6 ∷ minusDecimal 325 6 ∷ [])
+    ∷ []
+
+-- t[n][m] of a constant table
+abbrev pub entry : List (List Float) → ℕ → ℕ → Float
+entry t n m = getD (getD t n []) m nan
+
+-- CT[n], G[n] and H[n]
+unfoldable pub rowOf : ℕ → Row
+rowOf n = record { ct = getD CT n []; g = getD G n []; h = getD H n [] }
+
+-- ---- loops and arrays
+
+-- x after f a, f (a + 1), .., k of them
+unfoldable pub times : {A : Type 0} → (ℕ → A → A) → ℕ → ℕ → A → A
+times f a zero x = x
+times f a (suc k) x = f (a + k) (times f a k x)
+
+-- for m in a..b { x = f(m, x); }
+unfoldable pub loop : {A : Type 0} → ℕ → ℕ → (ℕ → A → A) → A → A
+loop a b f x = times f a (b - a) x
+
+-- a[m]
+abbrev pub at : List Float → ℕ → Float
+at l m = getD l m nan
+
+-- t[n][m], where the rows stand one after the other
+abbrev pub at7 : List Float → ℕ → ℕ → Float
+at7 t n m = getD t (n * 7 + m) nan
+
+-- ---- the position
+
+-- p1 and p2, after `if p1 > RD { .. } else if p1 < -RD { .. }`
+unfoldable pub clampedOf : Radians → Radians → Position
+clampedOf lat eastLon =
+    cond (lt RD (lat .0)) (record { p1 = record { 0 = RD }; p2 = record { 0 = o } })
+    (cond (lt (lat .0) (neg RD)) (record { p1 = record { 0 = neg RD }; p2 = record { 0 = o } })
+    (record { p1 = lat; p2 = eastLon }))
+
+-- the stores to sp[m] and cp[m]
+unfoldable pub multipleOf : ℕ → Multiples → Multiples
+multipleOf m v =
+    record {
+      sp = set (v .sp) m (at (v .sp) 1 ⊗ at (v .cp) (m - 1) ⊕ at (v .cp) 1 ⊗ at (v .sp) (m - 1));
+      cp = set (v .cp) m (at (v .cp) 1 ⊗ at (v .cp) (m - 1) ⊖ at (v .sp) 1 ⊗ at (v .sp) (m - 1));
+    }
+
+-- sp and cp
+unfoldable pub multiplesOf : Radians → Multiples
+multiplesOf phi =
+    loop 2 7 multipleOf
+    (record {
+      sp = o ∷ sin32Of (phi .0) ∷ o ∷ o ∷ o ∷ o ∷ o ∷ [];
+      cp = decimal 10 1 ∷ cos32Of (phi .0) ∷ o ∷ o ∷ o ∷ o ∷ o ∷ [];
+    })
+
+-- the store to aor[m]
+unfoldable pub powerOf : Float → ℕ → List Float → List Float
+powerOf ar m aor = set aor m (ar ⊗ at aor (m - 1))
+
+-- aor: aor[0] is ar * ar, and aor[1] is aor[0] * ar
+unfoldable pub powersOf : Float → List Float
+powersOf ar = loop 2 7 (powerOf ar) (ar ⊗ ar ∷ ar ⊗ ar ⊗ ar ∷ o ∷ o ∷ o ∷ o ∷ o ∷ [])
+
+-- what stands before the loop over n: c is p1.sin(), and s is (1.0 - c * c).sqrt()
+unfoldable pub placedOf : Radians → Radians → Float → Place
+placedOf lat eastLon heightM =
+    let q = clampedOf lat eastLon in
+    let ar = HC ⊘ (HC ⊕ heightM) in
+    let c = sin32Of (q .p1 .0) in
+    let v = multiplesOf (q .p2) in
+    record {
+      c = c;
+      s = sqrtOf binary32 (decimal 10 1 ⊖ c ⊗ c);
+      sp = v .sp;
+      cp = v .cp;
+      aor = powersOf ar;
+    }
+
+-- ---- the expansion
+
+-- p[n][m] and dp[n][m], where ct is CT[n][m]
+unfoldable pub elementOf : Float → Float → Float → ℕ → ℕ → List Float → List Float → Element
+elementOf c s ct n m p dp =
+    cond (eqb n m) (record { p = s ⊗ at7 p (n - 1) (n - 1); dp = s ⊗ at7 dp (n - 1) (n - 1) ⊕ c ⊗ at7 p (n - 1) (n - 1) })
+    (cond (eqb n 1) (record { p = c; dp = neg s })
+    (record {
+      p = c ⊗ at7 p (n - 1) m ⊖ ct ⊗ at7 p (n - 2) m;
+      dp = c ⊗ at7 dp (n - 1) m ⊖ s ⊗ at7 p (n - 1) m ⊖ ct ⊗ at7 dp (n - 2) m;
+    }))
+
+-- p, dp and the sums that a loop keeps beside them
+pub record State (A : Type 0) : Type 0 where
+  pub p : List Float
+  pub dp : List Float
+  pub sums : A
+
+abbrev pub state : {A : Type 0} → List Float → List Float → A → State A
+state p dp v = record { p = p; dp = dp; sums = v }
+
+-- the body of the loop over m
+unfoldable pub orderOf : Place → ℕ → ℕ → State Sums → State Sums
+orderOf x n m w =
+    let e = elementOf (x .c) (x .s) (entry CT n m) n m (w .p) (w .dp) in
+    let fm = ofInt binary32 (pos m) in
+    let ts = entry G n m ⊗ at (x .cp) m ⊕ entry H n m ⊗ at (x .sp) m in
+    state (set (w .p) (n * 7 + m) (e .p)) (set (w .dp) (n * 7 + m) (e .dp))
+    (record {
+      sumr = w .sums .sumr ⊕ e .p ⊗ ts;
+      sumt = w .sums .sumt ⊕ e .dp ⊗ ts;
+      sump = w .sums .sump ⊕ fm ⊗ e .p ⊗ (neg (entry G n m) ⊗ at (x .sp) m ⊕ entry H n m ⊗ at (x .cp) m);
+    })
+
+-- for m in 0..=n
+unfoldable pub ordersOf : Place → ℕ → List Float → List Float → State Sums
+ordersOf x n p dp = loop 0 (n + 1) (orderOf x n) (state p dp (record { sumr = o; sumt = o; sump = o }))
+
+-- the body of the loop over n
+unfoldable pub degreeOf : Place → ℕ → State Field → State Field
+degreeOf x n w =
+    let fn = ofInt binary32 (pos (n + 1)) in
+    let v = ordersOf x n (w .p) (w .dp) in
+    state (v .p) (v .dp)
+    (record {
+      bv = w .sums .bv ⊕ at (x .aor) n ⊗ fn ⊗ v .sums .sumr;
+      bn = w .sums .bn ⊖ at (x .aor) n ⊗ v .sums .sumt;
+      bphi = w .sums .bphi ⊖ at (x .aor) n ⊗ v .sums .sump;
+    })
+
+-- for n in 1..7: bv, bn and bphi, from p[0][0] = 1.0 and zeros
+unfoldable pub expansionOf : Place → Field
+expansionOf x =
+    loop 1 7 (degreeOf x)
+    (state (set (replicate 49 o) 0 (decimal 10 1)) (replicate 49 o) (record { bv = o; bn = o; bphi = o }))
+    .sums
+
+-- ---- the field, the gyrofrequency and the dip angle
+
+-- [-bv, bn, -bphi / s]
+unfoldable pub magfinOf : Radians → Radians → Float → Une
+magfinOf lat eastLon heightM =
+    let x = placedOf lat eastLon heightM in
+    let b = expansionOf x in
+    record { up = neg (b .bv); north = b .bn; east = neg (b .bphi) ⊘ x .s }
+
+-- if lon < 0.0 { c360 + lon } else { lon }, where c360 is 360.0 * D2R
+unfoldable pub eastOf : Radians → Radians
+eastOf lon =
+    let c360 = radiansOf (record { 0 = decimal 3600 1 }) in
+    cond (lt (lon .0) o) (record { 0 = c360 .0 ⊕ lon .0 }) lon
+
+-- lat.cos(), and 0.000001 if it is no more than that
+unfoldable pub gobOf : Radians → Float
+gobOf lat = let gob = cos32Of (lat .0) in cond (le gob (decimal 1 6)) (decimal 1 6) gob
+
+-- gyz, gmdip and east_lon
+unfoldable pub magvarOf : Radians → Radians → MagneticVars
+magvarOf lat lon =
+    let eastLon = eastOf lon in
+    let une = magfinOf lat eastLon (decimal 3000000 1) in
+    let hhm = sqrtOf binary32 (une .up ⊗ une .up ⊕ une .north ⊗ une .north ⊕ une .east ⊗ une .east) in
+    let tmp = une .north ⊗ une .north ⊕ une .east ⊗ une .east in
+    let gmdip = atan32Of (atan32Of (neg (une .up) ⊘ sqrtOf binary32 tmp) ⊘ sqrtOf binary32 (gobOf lat)) in
+    record { gyz = decimal 28 1 ⊗ hhm; gmdip = record { 0 = gmdip }; «east_lon» = eastLon }
