@@ -160,8 +160,8 @@ fn whole_end(random: &mut Generator) -> End {
     end(lat, whole_number(random, 4))
 }
 
-/// As many times 45 degrees at most, one in four a multiple of that; 0 with
-/// either sign.
+/// At most so many times 45 in size, one in four a multiple of 45; 0 comes
+/// with either sign.
 fn whole_number(random: &mut Generator, most: i64) -> f32 {
     let size = match random.below(4) {
         0 => 45 * random.between(0, most),

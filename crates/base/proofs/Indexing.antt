@@ -7,19 +7,17 @@ use mathlib.Core.Logic.{_⊎_, inl, inr}
 use Prim.Native.Nat.{ℕ, zero, suc, _+_, _-_, _*_, _%_, _^_, _≤_, _<_}
 use native.Mathlib.Nat.{add-zero, zero-add}
 use native.Mathlib.Omega.{arith}
-use native.Mathlib.Decide.{ℕ-discrete}
 use lib.IntN.{ℤ, pos}
 use lib.ListN.{getD}
 use Rattle.base.specs.declared.refusal.Verdict.the-variants.{Accepted, Refused}
 use Rattle.base.specs.declared.refusal.Refusal.the-variants.{Index}
-use Rattle.base.specs.Fill.{run}
 use Rattle.base.specs.Number.{signedOf}
-use Rattle.base.specs.Words.{wordAt, integerAt}
-use Rattle.base.specs.Index.{ikimAt, ikimPlace, indexOf, mapWord, rows, harmonics, goodMap, lowestBad, indexCheck, Climbs, top, level, up, GoodIndex}
+use Rattle.base.specs.Words.{integerAt}
+use Rattle.base.specs.Index.{ikimAt, indexOf, mapWord, rows, harmonics, goodMap, lowestBad, indexCheck, Climbs, top, level, up, GoodIndex}
 use Rattle.base.specs.Blend.{IA, IB, IC}
 use Rattle.base.proofs.Fills.{run-at}
 use Rattle.base.proofs.Records.{refused-accepted}
-use Rattle.base.proofs.Ladders.{mapWords, signedWords, same-words, signed-small, good-known, six, limits}
+use Rattle.base.proofs.Ladders.{mapWords, same-words, signed-small, good-known, six, limits}
 
 -- ---- no map is bad
 

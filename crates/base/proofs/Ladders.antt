@@ -1,23 +1,21 @@
 -- The index check over unsigned words: a negative word is 2 ^ 31 or more, which no test passes, so that the unsigned tests of the
 -- code agree with the signed ones of the definition. And what a map that passes gives. Assumes nothing.
-use mathlib.Core.Path.{_≡_, refl, sym, ap, _∙_, subst, subst⁻¹}
-use mathlib.Core.Bool.{Bool, true, false, cond, _&&_}
+use mathlib.Core.Path.{_≡_, refl, sym, ap, _∙_}
+use mathlib.Core.Bool.{Bool, true, false, _&&_}
 use mathlib.Core.List.{List}
-use Prim.Native.Nat.{ℕ, zero, suc, _+_, _-_, _*_, _%_, _^_, _≤_, _<_}
-use native.Mathlib.Nat.{add-zero}
+use Prim.Native.Nat.{ℕ, zero, suc, _+_, _-_, _%_, _^_, _≤_, _<_}
 use native.Mathlib.Omega.{arith}
 use native.Mathlib.Decide.{decLt, ℕ-discrete}
 use lib.Dec.{leb, ltb, eqb, lit≤, T}
 use lib.IntN.{ℤ, pos, negsuc, natAbs, _-ℤ_}
 use lib.ListN.{getD}
-use lib.Signed.{leZ, ltZ}
 use borrow.Author.Tests.{lt-ltb, le-ltb, le-leb, lt-leb, eq-eqb, ne-eqb, ltb-true, leb-true, eqb-true}
 use Rattle.base.specs.declared.refusal.Refusal.the-variants.{Index}
 use Rattle.base.specs.declared.refusal.Verdict.the-variants.{Accepted, Refused}
 use Rattle.base.specs.Number.{signedOf}
 use Rattle.base.specs.Words.{wordAt, integerAt}
 use Rattle.base.specs.Index.{ikimPlace, ikimAt, rows, harmonics, isTo, equals, exceeds, climbs, goodMap, lowestBad, indexCheck, Climbs, top, level, up, GoodIndex}
-use Rattle.base.proofs.Picks.{cond-true, cond-false, never, never'}
+use Rattle.base.proofs.Picks.{cond-true, cond-false, never}
 
 -- ---- both of two tests
 
@@ -115,6 +113,18 @@ module _ (p q : ℕ) (small : p ≤ 75) where
         ap (exceeds (pos p)) (signed-large q (omega arith))
         ∙ sym (not-right (ltb p q) (not-right (eqb ((q - p) % 2) 0) (lt-leb q 75 (omega arith))))
   ]
+
+  pub exceeds-even : p < q → (q - p) % 2 ≡ 0 → exceeds (signedOf p) (signedOf q) ≡ leb q 75
+  exceeds-even l e =
+      exceeds-unsigned
+      ∙ ap (λ (t : Bool). t && (eqb ((q - p) % 2) 0 && leb q 75)) (lt-ltb p q l)
+      ∙ ap (λ (t : Bool). t && leb q 75) (eq-eqb ((q - p) % 2) 0 e)
+
+  pub exceeds-odd : ((q - p) % 2 ≡ 0 → ⊥) → exceeds (signedOf p) (signedOf q) ≡ false
+  exceeds-odd n = exceeds-unsigned ∙ not-right (ltb p q) (not-left (leb q 75) (ne-eqb ((q - p) % 2) 0 n))
+
+  pub exceeds-not : q ≤ p → exceeds (signedOf p) (signedOf q) ≡ false
+  exceeds-not l = exceeds-unsigned ∙ not-left (eqb ((q - p) % 2) 0 && leb q 75) (le-ltb p q l)
 
   pub record Next : Type 0 where
     pub above : p + 2 ≤ q

@@ -2,15 +2,14 @@
 -- The files of (b) and (c) are too long to walk through by computation: the walk's laws pass each record at once. Assumes nothing.
 use mathlib.Core.Path.{_≡_, refl, sym, ap, _∙_}
 use mathlib.Core.List.{List, [], _∷_, _++_, append-assoc, append-nil}
-use Prim.Native.Nat.{ℕ, zero, suc, _+_, _-_, _*_, _/_, _%_, _≤_, _<_}
+use Prim.Native.Nat.{ℕ, _+_, _-_, _*_, _/_, _%_, _≤_, _<_}
 use native.Mathlib.Nat.{add-zero}
 use native.Mathlib.Omega.{arith}
 use lib.Dec.{lit<, lit≤}
-use lib.ListN.{length, getD, replicate, length-append, length-replicate}
+use lib.ListN.{length, getD, take, replicate, length-append, length-replicate}
 use lib.Seq.{getD-append-seam, getD-append-add}
-use lib.Ieee.{Float, round, add, sub, mul, div}
+use lib.Ieee.{round, add, sub, mul, div}
 use Rattle.base.specs.declared.refusal.Refusal.the-variants.{Ended, Marker}
-use Rattle.base.specs.declared.refusal.Verdict.{Verdict}
 use Rattle.base.specs.declared.refusal.Verdict.the-variants.{Refused}
 use Rattle.base.specs.Refusal.{verdictReport}
 use Rattle.base.specs.Single.{decimal}
@@ -21,19 +20,19 @@ use Rattle.base.specs.Blend.{blendOf, f2Weights, eWeights, heightWeights
 use Rattle.base.proofs.Walks.{no-open, no-close, bad-close, passed}
 
 -- ---- files of the right size: each record is its size, that many zeros, and its size again
-abbrev pub bytesOf : ℕ → List ℕ
-bytesOf n = n % 256 ∷ n / 256 % 256 ∷ n / 65536 % 256 ∷ n / 16777216 ∷ []
+abbrev pub fourBytes : ℕ → List ℕ
+fourBytes n = n % 256 ∷ n / 256 % 256 ∷ n / 65536 % 256 ∷ n / 16777216 ∷ []
 
 abbrev pub fileOf : List ℕ → List ℕ
 fileOf [] = []
-fileOf (n ∷ ns) = bytesOf n ++ (replicate n 0 ++ (bytesOf n ++ fileOf ns))
+fileOf (n ∷ ns) = fourBytes n ++ (replicate n 0 ++ (fourBytes n ++ fileOf ns))
 
 abbrev pub eight : List ℕ
-eight = 240 ∷ 11184 ∷ 5328 ∷ 3528 ∷ 3168 ∷ 1920 ∷ 7128 ∷ 4400 ∷ []
+eight = take 8 sizes
 
 -- the first eight records, the ninth up to its closing marker, and what stands there
 unfoldable pub ending : List ℕ → List ℕ
-ending l = fileOf eight ++ (bytesOf 1584 ++ (replicate 1584 0 ++ l))
+ending l = fileOf eight ++ (fourBytes 1584 ++ (replicate 1584 0 ++ l))
 
 -- 38,551 good bytes, and a file whose last marker is wrong
 abbrev pub cutFile : List ℕ
@@ -113,13 +112,13 @@ length-file : (ns : List ℕ) → length (fileOf ns) ≡ lengthOf ns
 length-file [] = refl
 length-file (n ∷ ns) =
     let h = length-file ns in
-    let e : length (replicate n 0 ++ (bytesOf n ++ fileOf ns)) ≡ n + length (bytesOf n ++ fileOf ns) = length-append (replicate n 0) (bytesOf n ++ fileOf ns) ∙ ap (λ (x : ℕ). x + length (bytesOf n ++ fileOf ns)) (length-replicate n 0) in
+    let e : length (replicate n 0 ++ (fourBytes n ++ fileOf ns)) ≡ n + length (fourBytes n ++ fileOf ns) = length-append (replicate n 0) (fourBytes n ++ fileOf ns) ∙ ap (λ (x : ℕ). x + length (fourBytes n ++ fileOf ns)) (length-replicate n 0) in
     omega arith
 
-word-in : (s pre : List ℕ) (at n : ℕ) (r : List ℕ) → s ≡ pre ++ (bytesOf n ++ r) → at ≡ length pre → wordAt s at ≡ n
+word-in : (s pre : List ℕ) (at n : ℕ) (r : List ℕ) → s ≡ pre ++ (fourBytes n ++ r) → at ≡ length pre → wordAt s at ≡ n
 unfolding wordAt
 word-in s pre at n r e l =
-    let b = bytesOf n ++ r in
+    let b = fourBytes n ++ r in
     let z : getD s at 0 ≡ n % 256 = rw (e, l) (getD-append-seam pre (n % 256) _ 0) in
     let a : (i : ℕ) → getD s (at + i) 0 ≡ getD b i 0 = λ i. rw (e, l) (getD-append-add pre b i 0) in
     omega (arith, z, a 1, a 2, a 3)
@@ -128,9 +127,9 @@ abbrev Fours : List ℕ → Type 0
 Fours [] = Unit
 Fours (n ∷ ns) = (n % 4 ≡ 0) × Fours ns
 
-length-front : (pre : List ℕ) (n : ℕ) (r : List ℕ) → length (pre ++ (bytesOf n ++ (replicate n 0 ++ r))) ≡ length pre + n + 4 + length r
+length-front : (pre : List ℕ) (n : ℕ) (r : List ℕ) → length (pre ++ (fourBytes n ++ (replicate n 0 ++ r))) ≡ length pre + n + 4 + length r
 length-front pre n r =
-    let a = length-append pre (bytesOf n ++ (replicate n 0 ++ r)) in
+    let a = length-append pre (fourBytes n ++ (replicate n 0 ++ r)) in
     let b = length-append (replicate n 0) r in
     let d = length-replicate {A = ℕ} n 0 in
     omega arith
@@ -138,16 +137,16 @@ length-front pre n r =
 marked : (s pre : List ℕ) (at : ℕ) (ns rest : List ℕ) → s ≡ pre ++ (fileOf ns ++ rest) → at ≡ length pre → Fours ns → Marked s at ns
 marked s pre at [] rest e l f = tt
 marked s pre at (n ∷ ns) rest e l f = (
-  word-in s pre at n ((replicate n 0 ++ (bytesOf n ++ fileOf ns)) ++ rest) e l,
-  word-in s (pre ++ (bytesOf n ++ (replicate n 0 ++ []))) (at + n + 4) n (fileOf ns ++ rest) (e ∙ simp (append-assoc, append-nil)) (omega (arith, length-front pre n [])),
+  word-in s pre at n ((replicate n 0 ++ (fourBytes n ++ fileOf ns)) ++ rest) e l,
+  word-in s (pre ++ (fourBytes n ++ (replicate n 0 ++ []))) (at + n + 4) n (fileOf ns ++ rest) (e ∙ simp (append-assoc, append-nil)) (omega (arith, length-front pre n [])),
   f .0,
-  marked s (pre ++ (bytesOf n ++ (replicate n 0 ++ bytesOf n))) (at + n + 8) ns rest (e ∙ simp append-assoc) (omega (arith, length-front pre n (bytesOf n))) (f .1),
+  marked s (pre ++ (fourBytes n ++ (replicate n 0 ++ fourBytes n))) (at + n + 8) ns rest (e ∙ simp append-assoc) (omega (arith, length-front pre n (fourBytes n))) (f .1),
 )
 
 module _ (l : List ℕ) where
   ending-marks : Marked (ending l) 0 eight
   unfolding ending
-  ending-marks = marked _ [] 0 eight (bytesOf 1584 ++ (replicate 1584 0 ++ l)) refl refl (refl, (refl, (refl, (refl, (refl, (refl, (refl, (refl, tt))))))))
+  ending-marks = marked _ [] 0 eight (fourBytes 1584 ++ (replicate 1584 0 ++ l)) refl refl (refl, (refl, (refl, (refl, (refl, (refl, (refl, (refl, tt))))))))
 
   ending-opens : wordAt (ending l) 36960 ≡ 1584
   unfolding ending
@@ -157,11 +156,11 @@ module _ (l : List ℕ) where
   unfolding ending
   ending-length = let a = length-front (fileOf eight) 1584 l in let b = length-file eight in omega arith
 
-  ending-word : (n : ℕ) → l ≡ bytesOf n ++ [] → wordAt (ending l) 38548 ≡ n
+  ending-word : (n : ℕ) → l ≡ fourBytes n ++ [] → wordAt (ending l) 38548 ≡ n
   unfolding ending
   ending-word n e =
-      word-in _ (fileOf eight ++ (bytesOf 1584 ++ (replicate 1584 0 ++ []))) 38548 n []
-      (ap (λ (x : List ℕ). fileOf eight ++ (bytesOf 1584 ++ (replicate 1584 0 ++ x))) e ∙ simp (append-assoc, append-nil))
+      word-in _ (fileOf eight ++ (fourBytes 1584 ++ (replicate 1584 0 ++ []))) 38548 n []
+      (ap (λ (x : List ℕ). fileOf eight ++ (fourBytes 1584 ++ (replicate 1584 0 ++ x))) e ∙ simp append-nil)
       (let a = length-front (fileOf eight) 1584 [] in let b = length-file eight in omega arith)
 
 -- ---- the theorem

@@ -1,17 +1,16 @@
 -- The walk in fours, by whole records: what lies between two markers is passed at once, so that 18 markers and the length decide. Assumes nothing.
-use mathlib.Core.Path.{_≡_, refl, sym, ap, _∙_, subst}
+use mathlib.Core.Path.{_≡_, refl, sym, ap, _∙_}
 use mathlib.Core.Bool.{Bool, true, false, cond}
 use mathlib.Core.Logic.{_⊎_, inl, inr}
 use mathlib.Core.List.{List, [], _∷_, _++_}
 use Prim.Native.Nat.{ℕ, zero, suc, _+_, _-_, _*_, _/_, _%_, _≤_, _<_}
-use native.Mathlib.Nat.{add-zero}
 use native.Mathlib.Omega.{arith}
 use native.Mathlib.Decide.{decLe}
 use lib.Dec.{T, leb, ltb, eqb, leb→le, eqb→eq}
 use lib.ListN.{length, replicate, getD, drop}
 use lib.Seq.{drop-cons}
 use native.Mathlib.Numerals.{add-one}
-use borrow.Author.Tests.{le-leb, lt-leb, eq-eqb, ne-eqb, eqb-true, eqb-false}
+use borrow.Author.Tests.{le-leb, lt-leb, eq-eqb, ne-eqb, eqb-true, eqb-false, leb-true}
 use Rattle.base.proofs.Picks.{cond-true, cond-false}
 use Rattle.base.specs.Words.{wordAt}
 use Rattle.base.specs.declared.refusal.Refusal.the-variants.{Ended, Marker}
@@ -19,6 +18,7 @@ use Rattle.base.specs.declared.refusal.Verdict.{Verdict}
 use Rattle.base.specs.declared.refusal.Verdict.the-variants.{Accepted, Refused}
 use Rattle.base.specs.MonthFile.{sizes, Four, marker, anything, layout, isRight, walk, monthFileCheck, Sized}
 use Rattle.base.proofs.Entries.{at as entry}
+use Rattle.base.proofs.Records.{refused-accepted}
 
 abbrev ended : ℕ → Verdict
 ended at = Refused (Ended at)
@@ -136,3 +136,27 @@ module _ (s : List ℕ) (at k n : ℕ) (w : Walked s at k) (h : k < 9) (z : Size
 pub ends : (s : List ℕ) (at k : ℕ) → Walked s at k → 9 ≤ k → monthFileCheck s ≡ Accepted
 unfolding walk layout
 ends s at k w h = let e : k ≡ 9 = omega (arith, w .turns) in w .same ∙ ap (λ (j : ℕ). walk s at (layout (drop j sizes))) e
+
+-- ---- an accepted file has all the bytes
+
+walked : (s : List ℕ) (at : ℕ) (fs : List Four) → at ≤ length s → walk s at fs ≡ Accepted → at + length fs * 4 ≤ length s
+unfolding walk
+walked s at [] h e = omega arith
+walked s at (f ∷ fs) h e = go (leb (at + 4) (length s)) (isRight s at f) (leb-true (at + 4) (length s)) (walked s (at + 4) fs) e
+  where
+    go :
+        (a b : Bool) → (a ≡ true → at + 4 ≤ length s) →
+        (at + 4 ≤ length s → walk s (at + 4) fs ≡ Accepted → at + 4 + length fs * 4 ≤ length s) →
+        cond a (cond b (walk s (at + 4) fs) (Refused (Marker at))) (ended at) ≡ Accepted → at + suc (length fs) * 4 ≤ length s
+    go true true q r e = omega (arith, r (q refl) e)
+    go true false q r e = refused-accepted e
+    go false b q r e = refused-accepted e
+
+all-fours : length (layout sizes) ≡ 9638
+unfolding layout
+all-fours = refl
+
+-- 'in all 38,552 bytes'
+pub accepted-length : (s : List ℕ) → monthFileCheck s ≡ Accepted → 38552 ≤ length s
+unfolding monthFileCheck
+accepted-length s e = omega (arith, walked s 0 (layout sizes) (omega arith) e, all-fours)

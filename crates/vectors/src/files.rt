@@ -3,6 +3,7 @@
 use crate::tally;
 use crate::tally::Tally;
 use crate::tally::counted;
+use crate::tally::is_float;
 use crate::tally::none;
 use base::coefficients;
 use base::number;
@@ -134,11 +135,6 @@ fn indexes(fd: i32) -> Tally {
         k += 1;
     }
     t
-}
-
-// Whether a float has these bits; two NaNs are alike.
-fn is_float(x: f32, wanted: u32) -> bool {
-    number::bits32(x) == number::bits32(number::float32(wanted))
 }
 
 // The n floats of a file from `at` on.

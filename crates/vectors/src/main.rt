@@ -2,9 +2,11 @@
 // differ.
 mod files;
 mod numbers;
+mod routes;
 mod tally;
 
 fn main() {
     numbers::replay();
     files::replay();
+    routes::replay();
 }

@@ -10,8 +10,7 @@ use base::constants;
 use base::elementary;
 use base::number;
 use libc::STDOUT_FILENO;
-ghost use Prim.Native.Nat.{_+_, _<_, _≤_, _^_};
-ghost use lib.ListN.{length};
+ghost use Prim.Native.Nat.{_+_, _<_, _^_};
 
 fn wide(x: u8) -> u64
     ensures { λ r. ⌜ r < 256 ⌝ }
@@ -127,29 +126,6 @@ fn is_right(f: u64, w: u64, wanted: u64) -> bool {
     }
 }
 
-// Where the name ends that starts at a row's byte 8.
-fn name_end(row: &[u8]) -> usize
-    ensures { λ r. ⌜ r ≤ length (now (row .entry)) ⌝ }
-{
-    let mut i: usize = 0;
-    while i < row.len() {
-        if 8 <= i {
-            if row[i] == 0 {
-                return i;
-            }
-        }
-        i += 1;
-    }
-    i
-}
-
-fn print_name(row: &[u8]) {
-    let end = name_end(row);
-    if 8 <= end {
-        io::write_all(STDOUT_FILENO, &row[8..end]);
-    }
-}
-
 // The rows of a file, with a line for each function and one for all.
 fn rows(fd: i32) {
     let mut part = none();
@@ -167,7 +143,7 @@ fn rows(fd: i32) {
                 if part.compared > 0 {
                     tally::print(part);
                 }
-                print_name(&row);
+                tally::print_name(&row, 8);
                 part = none();
             } else {
                 let right = is_right(f, word(&row, 8), word(&row, 16));

@@ -15,7 +15,7 @@ pub fn groups() -> Vec<Group> {
     ]
 }
 
-/// Five points, three points, one point.
+/// Five points, three points, and one point that goes the long way round.
 fn bases() -> [Route; 3] {
     [
         Route::new(end(51.5, -0.1), end(40.7, -74.0)),
@@ -29,14 +29,12 @@ fn with(mut route: Route, field: usize, number: f32) -> Route {
     route
 }
 
-/// Each number in each field, over the bases in turn.
+/// Each number in each field; a field meets each of the bases.
 fn in_each_field(numbers: &[f32]) -> Vec<Route> {
+    let bases = bases();
     let mut routes = Vec::new();
-    let mut base = bases().into_iter().cycle();
-    for number in numbers {
-        for field in 0..6 {
-            routes.extend(base.next().map(|base| with(base, field, *number)));
-        }
+    for (i, number) in numbers.iter().enumerate() {
+        routes.extend((0..6).map(|field| with(bases[(i + field) % 3], field, *number)));
     }
     routes
 }
@@ -48,7 +46,7 @@ fn outside() -> Vec<Route> {
         -135.0,
         180f32.next_up(),
         -270.0,
-        -720.0,
+        57_295.0,
         -57_296.5,
         1.0e30,
     ]);

@@ -1,9 +1,9 @@
 -- The buffer is filled from `base` on: each turn sets one element, and both words are those of the definition.
 use borrow.Author.Needs.{needs}
 use Prim.Native.Nat.{_≤_, _-_}
-use mathlib.Core.Path.{_≡_, refl, sym, _∙_}
+use mathlib.Core.Path.{_≡_, refl, sym}
 use native.Mathlib.Omega.{arith}
-use lib.ListN.{length, length-set}
+use lib.ListN.{length}
 use Rattle.base.specs.Fill.{fill}
 use Rattle.base.specs.Blend.{blendAt}
 use Rattle.base.proofs.Fills.{fill-next}

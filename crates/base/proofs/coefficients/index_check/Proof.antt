@@ -1,6 +1,6 @@
 -- Before each turn the rest of the check is the whole of it: a map is bad, or the check goes on.
 use borrow.Author.Needs.{needs}
-use mathlib.Core.Path.{_≡_, sym}
+use mathlib.Core.Path.{sym}
 use Prim.Native.Nat.{_-_}
 use borrow.Author.Tests.{not-true, not-false}
 use Rattle.base.proofs.Ladders.{Checked, unchecked, bad-map, next-map, no-map}

@@ -1,6 +1,6 @@
 -- The loop stands before the record k, and what is left of the walk is the whole walk: a record is passed at once, or the walk ends in it.
 use borrow.Author.Needs.{needs}
-use mathlib.Core.Path.{_≡_, sym, _∙_}
+use mathlib.Core.Path.{sym, _∙_}
 use mathlib.Core.Logic.{inl, inr}
 use Prim.Native.Nat.{_-_}
 use borrow.Author.Tests.{not-true, not-false}

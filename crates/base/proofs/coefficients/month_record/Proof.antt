@@ -1,6 +1,6 @@
 -- An accepted record lies within the file, so that the part can be taken; a refused one gives the part of no bytes at 0.
 use borrow.Author.Needs.{needs}
-use mathlib.Core.Path.{_≡_, refl, sym, _∙_}
+use mathlib.Core.Path.{refl, sym, _∙_}
 use native.Mathlib.Omega.{arith}
 use Rattle.base.proofs.Records.{MonthThere, month-known, month-part, month-none, part-of}
 use Rattle.base.proofs.coefficients.month_record.Statement.{statement}
