@@ -38,7 +38,7 @@ const FORBIDDEN: [&str; 28] = [
 ];
 
 fn main() {
-    println!("cargo::rustc-check-cfg=cfg(linked, linked_files, linked_routes)");
+    println!("cargo::rustc-check-cfg=cfg(linked)");
     prepare_sources();
     link_port();
 }
@@ -251,12 +251,9 @@ fn branch_table(branches: &[String]) -> String {
 }
 
 /// Links the port's static library if its folder is given. Without it the
-/// commands that compare say what they miss. Later parts of the port are asked
-/// for separately, since a library may be older than they are.
+/// commands that compare say what they miss.
 fn link_port() {
     println!("cargo::rerun-if-env-changed=JUTETROWEL_LIB");
-    println!("cargo::rerun-if-env-changed=JUTETROWEL_FILES");
-    println!("cargo::rerun-if-env-changed=JUTETROWEL_ROUTES");
     let Some(folder) = env::var_os("JUTETROWEL_LIB") else {
         return;
     };
@@ -271,10 +268,4 @@ fn link_port() {
     );
     println!("cargo::rustc-link-lib=static=jutetrowel");
     println!("cargo::rustc-cfg=linked");
-    if env::var_os("JUTETROWEL_FILES").is_some() {
-        println!("cargo::rustc-cfg=linked_files");
-    }
-    if env::var_os("JUTETROWEL_ROUTES").is_some() {
-        println!("cargo::rustc-cfg=linked_routes");
-    }
 }

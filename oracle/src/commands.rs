@@ -3,7 +3,7 @@
 pub mod bulk_files;
 pub mod bulk_numbers;
 pub mod bulk_routes;
-#[cfg(any(linked_files, linked_routes))]
+#[cfg(linked)]
 mod compare;
 pub mod data;
 pub mod files;
@@ -24,7 +24,6 @@ fn write(folder: &str, name: &str, bytes: &[u8]) -> Result<(), String> {
     Ok(())
 }
 
-#[cfg(linked)]
 fn whole(word: &str) -> Result<u64, String> {
     word.parse()
         .map_err(|_| format!("{word} is not a whole number"))

@@ -30,14 +30,6 @@ use std::process::ExitCode;
 const NOT_LINKED: &str = "this needs the port: build with JUTETROWEL_LIB set to the folder \
                           that holds libjutetrowel.a";
 
-#[cfg(not(linked_files))]
-const NO_FILES: &str = "this needs the port with its file functions: build with JUTETROWEL_LIB \
-                        set to the folder that holds libjutetrowel.a, and JUTETROWEL_FILES set";
-
-#[cfg(not(linked_routes))]
-const NO_ROUTES: &str = "this needs the port with its path geometry: build with JUTETROWEL_LIB \
-                         set to the folder that holds libjutetrowel.a, and JUTETROWEL_ROUTES set";
-
 const USAGE: &str = "usage:
   oracle numbers FILE                      write the vectors of the arithmetic
   oracle bulk-numbers COUNT SEED [NAME]    compare the port's functions with the Rust's
@@ -46,7 +38,7 @@ const USAGE: &str = "usage:
   oracle files DIR                         write the vectors of the file functions
   oracle bulk-files COUNT SEED             compare the port's file functions with the Rust's
   oracle routes FILE                       write the vectors of path geometry and field
-  oracle bulk-routes COUNT SEED            compare the port's paths with the Rust's
+  oracle bulk-routes FILE COUNT SEED       write random routes in the same form, to be replayed
   oracle self-check                        hold the steps against the library's functions";
 
 fn main() -> ExitCode {
@@ -71,7 +63,7 @@ fn command(words: &[&str]) -> Result<(), String> {
         ["files", folder] => files::run(folder),
         ["bulk-files", count, seed] => bulk_files::run(count, seed),
         ["routes", file] => routes::run(file),
-        ["bulk-routes", count, seed] => bulk_routes::run(count, seed),
+        ["bulk-routes", file, count, seed] => bulk_routes::run(file, count, seed),
         ["self-check"] => self_check::run(),
         _ => Err(String::from(USAGE)),
     }

@@ -35,7 +35,6 @@ exports! {
 }
 
 // A slice is lent as its start and its number of elements.
-#[cfg(linked_files)]
 exports! {
     "jt_month_file_check" month_file_check(file: *const u8, length: usize) -> u64;
     "jt_index_check" index_check(file: *const u8, length: usize) -> u64;
@@ -45,13 +44,5 @@ exports! {
     ) -> u32;
     "jt_hmym" hmym(
         file: *const u8, length: usize, ssn: f32, out: *mut f32, out_length: usize
-    ) -> u32;
-}
-
-#[cfg(linked_routes)]
-exports! {
-    "jt_path" path(
-        tlat: f32, tlong: f32, rlat: f32, rlong: f32, long: u32,
-        pole_lat: f32, pole_lon: f32, out: *mut f32, out_length: usize
     ) -> u32;
 }

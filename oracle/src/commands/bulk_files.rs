@@ -1,15 +1,15 @@
 //! `bulk-files COUNT SEED`: the port's file functions beside the Rust over
 //! random files, good, damaged and wild.
 
-#[cfg(not(linked_files))]
+#[cfg(not(linked))]
 pub fn run(_count: &str, _seed: &str) -> Result<(), String> {
-    Err(String::from(crate::NO_FILES))
+    Err(String::from(crate::NOT_LINKED))
 }
 
-#[cfg(linked_files)]
+#[cfg(linked)]
 pub use linked::run;
 
-#[cfg(linked_files)]
+#[cfg(linked)]
 mod linked {
     use crate::bits::Kind;
     use crate::commands::compare::{filled, report, Tally};

@@ -66,7 +66,7 @@ fn counts(trail: &[Side]) -> Counts {
 }
 
 /// The name's bytes, filled up with zeros.
-fn push_heading(bytes: &mut Vec<u8>, name: &str) {
+pub fn push_heading(bytes: &mut Vec<u8>, name: &str) {
     assert!(name.len() <= NAME_BYTES, "{name} is too long");
     let end = bytes.len() + 4 * WORDS;
     push_words(bytes, &[HEADING]);
@@ -75,7 +75,7 @@ fn push_heading(bytes: &mut Vec<u8>, name: &str) {
 }
 
 /// The answers of the plain sources, from which the counted must not differ.
-fn row(route: &Route) -> Result<Vec<u32>, String> {
+pub fn row(route: &Route) -> Result<Vec<u32>, String> {
     let (path, other) = (plain(route), counted(route));
     let words = path.words();
     if (other.points, other.words()) != (path.points, words) {
