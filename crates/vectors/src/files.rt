@@ -28,15 +28,24 @@ fn index(w: u32) -> usize {
     w as usize
 }
 
-// A file's bytes, as many as the buffer takes.
-fn load(path: &[u8], buf: &mut [u8]) {
-    let fd = os::open_read(path);
+// A file's bytes, as many as the buffer takes; false where there is no such file.
+fn load(path: &[u8], buf: &mut [u8]) -> bool {
+    let fd = opened(path);
     if fd < 0 {
-        os::fail(path);
-        return;
+        return false;
     }
     io::read_full(fd, buf);
     libc::close(fd);
+    true
+}
+
+// A file's descriptor. Where there is no such file that is said, and nothing is compared.
+fn opened(path: &[u8]) -> i32 {
+    let fd = os::open_read(path);
+    if fd < 0 {
+        os::fail(path);
+    }
+    fd
 }
 
 fn is_report(v: Verdict, wanted: u32, place: u32) -> bool {
@@ -213,47 +222,58 @@ fn blends(fd: i32, record: &[u8], month: &[u8], t: Tally) -> Tally {
     t
 }
 
-fn replay_walks() {
+fn replay_walks(fd: i32) {
     let mut month = [0xaau8; 38616];
-    load(b"calm.month", &mut month);
-    let fd = os::open_read(b"walks.bin");
-    print_line(b"walks", walks(fd, month));
-    libc::close(fd);
+    if load(b"calm.month", &mut month) {
+        print_line(b"walks", walks(fd, month));
+    }
 }
 
-fn replay_records() {
+fn replay_records(fd: i32) {
     let mut daw = [0u8; 15808];
-    load(b"calm.daw", &mut daw);
-    let fd = os::open_read(b"records.bin");
-    print_line(b"records", records(fd, &daw));
-    libc::close(fd);
-}
-
-fn replay_indexes() {
-    let fd = os::open_read(b"indexes.bin");
-    print_line(b"indexes", indexes(fd));
-    libc::close(fd);
+    if load(b"calm.daw", &mut daw) {
+        print_line(b"records", records(fd, &daw));
+    }
 }
 
 // One pair of files against the next answers of words.bin and blends.bin.
 fn replay_pair(daw_path: &[u8], month_path: &[u8], words_fd: i32, blends_fd: i32) {
     let mut daw = [0u8; 15808];
     let mut month = [0u8; 38552];
-    load(daw_path, &mut daw);
-    load(month_path, &mut month);
+    if !load(daw_path, &mut daw) {
+        return;
+    }
+    if !load(month_path, &mut month) {
+        return;
+    }
     let record = coefficients::month_record(&daw, 2);
     print_line(b"words", words(words_fd, record, &month));
     print_line(b"blends", blends(blends_fd, record, &month, none()));
 }
 
-pub fn replay() {
-    replay_walks();
-    replay_records();
-    replay_indexes();
-    let words_fd = os::open_read(b"words.bin");
-    let blends_fd = os::open_read(b"blends.bin");
+fn replay_pairs(words_fd: i32, blends_fd: i32) {
     replay_pair(b"calm.daw", b"calm.month", words_fd, blends_fd);
     replay_pair(b"wild.daw", b"wild.month", words_fd, blends_fd);
-    libc::close(words_fd);
-    libc::close(blends_fd);
+}
+
+pub fn replay() {
+    let walks_fd = opened(b"walks.bin");
+    if 0 <= walks_fd {
+        replay_walks(walks_fd);
+    }
+    let records_fd = opened(b"records.bin");
+    if 0 <= records_fd {
+        replay_records(records_fd);
+    }
+    let indexes_fd = opened(b"indexes.bin");
+    if 0 <= indexes_fd {
+        print_line(b"indexes", indexes(indexes_fd));
+    }
+    let words_fd = opened(b"words.bin");
+    let blends_fd = opened(b"blends.bin");
+    if 0 <= words_fd {
+        if 0 <= blends_fd {
+            replay_pairs(words_fd, blends_fd);
+        }
+    }
 }
