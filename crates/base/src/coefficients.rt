@@ -172,8 +172,11 @@ fn ikim_word(month: &[u8], k: usize, j: usize) -> u32
     word(month, 4 + (k * 10 + j) * 4)
 }
 
+// The words of `ikim`, ten for each of six maps.
+pub type IndexTable = [u32; 60];
+
 // The 60 words of `ikim`. Those of a map that the index check passes are the signed ones too.
-pub fn index(month: &[u8]) -> [u32; 60]
+pub fn index(month: &[u8]) -> IndexTable
     ensures { λ r. ⌜ r ≡ indexOf (now (month .entry)) ⌝ }
 {
     let mut out = [0u32; 60];
@@ -320,8 +323,14 @@ fn blend(s: &[u8], at: usize, width: usize, w: Weights, out: &mut [f32], base: u
     }
 }
 
+// The coefficients of the six maps, one map after the other.
+pub type SixMaps = [f32; 2604];
+
+// The coefficients of the height map.
+pub type HeightMap = [f32; 464];
+
 // The 2,604 coefficients of the six maps at a sunspot number, from an F2 record and a month file.
-pub fn cofion(f2: &[u8], month: &[u8], ssn: f32) -> [f32; 2604]
+pub fn cofion(f2: &[u8], month: &[u8], ssn: f32) -> SixMaps
     ensures { λ r. ⌜ r ≡ cofionOf (now (f2 .entry)) (now (month .entry)) ssn ⌝ }
 {
     let wf = f2_weights(ssn);
@@ -337,7 +346,7 @@ pub fn cofion(f2: &[u8], month: &[u8], ssn: f32) -> [f32; 2604]
 }
 
 // The 464 coefficients of the height map at a sunspot number.
-pub fn hmym(month: &[u8], ssn: f32) -> [f32; 464]
+pub fn hmym(month: &[u8], ssn: f32) -> HeightMap
     ensures { λ r. ⌜ r ≡ hmymOf (now (month .entry)) ssn ⌝ }
 {
     let mut out = [0.0f32; 464];
