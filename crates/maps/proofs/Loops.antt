@@ -2,7 +2,7 @@
 use mathlib.Core.Path.{_≡_, ap, _∙_}
 use Prim.Native.Nat.{ℕ, zero, suc, _+_, _-_, _≤_}
 use native.Mathlib.Omega.{arith}
-use Rattle.maps.specs.Magnetic.{times, loop}
+use Rattle.maps.specs.Loop.{times, loop}
 
 module _ {A : Type 0} (a : ℕ) (f : ℕ → A → A) (x : A) where
   pub loop-start : x ≡ loop a a f x

@@ -1,3 +1,8 @@
 -- The definitions that the contracts of `maps` cite, one file for each module. Assumes nothing.
+pub mod Loop
 pub mod Magnetic
 pub mod Geometry
+pub mod Virtim
+pub mod Versy
+pub mod Noisy
+pub mod Layers

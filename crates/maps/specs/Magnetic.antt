@@ -1,7 +1,7 @@
 -- magnetic.rs statement by statement, under its names. A table of 7 by 7 numbers that changes stands as one list, row after row. Assumes nothing.
 use mathlib.Core.Bool.{cond}
 use mathlib.Core.List.{List, [], _∷_}
-use Prim.Native.Nat.{ℕ, zero, suc, _+_, _-_, _*_}
+use Prim.Native.Nat.{ℕ, _+_, _-_, _*_}
 use lib.Dec.{eqb}
 use lib.IntN.{pos}
 use lib.ListN.{getD, set, replicate}
@@ -11,6 +11,7 @@ use Rattle.base.specs.Number.{sqrtOf}
 use Rattle.base.specs.Elementary.{sin32Of, cos32Of, atan32Of}
 use Rattle.base.specs.Angle.{radiansOf}
 use Rattle.base.specs.declared.angle.Radians.{Radians}
+use Rattle.maps.specs.Loop.{loop}
 use Rattle.maps.specs.declared.magnetic.Row.{Row}
 use Rattle.maps.specs.declared.magnetic.Position.{Position}
 use Rattle.maps.specs.declared.magnetic.Multiples.{Multiples}
@@ -79,16 +80,7 @@ entry t n m = getD (getD t n []) m nan
 unfoldable pub rowOf : ℕ → Row
 rowOf n = record { ct = getD CT n []; g = getD G n []; h = getD H n [] }
 
--- ---- loops and arrays
-
--- x after f a, f (a + 1), .., k of them
-unfoldable pub times : {A : Type 0} → (ℕ → A → A) → ℕ → ℕ → A → A
-times f a zero x = x
-times f a (suc k) x = f (a + k) (times f a k x)
-
--- for m in a..b { x = f(m, x); }
-unfoldable pub loop : {A : Type 0} → ℕ → ℕ → (ℕ → A → A) → A → A
-loop a b f x = times f a (b - a) x
+-- ---- arrays
 
 -- a[m]
 abbrev pub at : List Float → ℕ → Float

@@ -6,7 +6,8 @@ use native.Mathlib.Omega.{arith}
 use lib.Ieee.{round, ofBits}
 use Rattle.base.specs.Single.{decimal}
 use Rattle.maps.specs.declared.magnetic.Field.{Field}
-use Rattle.maps.specs.Magnetic.{o, loop, State, state, degreeOf, expansionOf}
+use Rattle.maps.specs.Loop.{loop}
+use Rattle.maps.specs.Magnetic.{o, State, state, degreeOf, expansionOf}
 use Rattle.maps.proofs.Loops.{loop-start, loop-turn}
 use Rattle.maps.proofs.magnetic.expansion.Statement.{statement}
 use Rattle.maps.proofs.magnetic.expansion.Tie as tie

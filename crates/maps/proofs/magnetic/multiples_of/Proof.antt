@@ -5,7 +5,8 @@ use mathlib.Core.Path.{_≡_}
 use native.Mathlib.Omega.{arith}
 use lib.Ieee.{round, ofBits}
 use Rattle.base.specs.Single.{decimal}
-use Rattle.maps.specs.Magnetic.{o, loop, multipleOf, multiplesOf}
+use Rattle.maps.specs.Loop.{loop}
+use Rattle.maps.specs.Magnetic.{o, multipleOf, multiplesOf}
 use Rattle.maps.proofs.Loops.{loop-start, loop-turn}
 use Rattle.maps.proofs.magnetic.multiples_of.Statement.{statement}
 use Rattle.maps.proofs.magnetic.multiples_of.Tie as tie

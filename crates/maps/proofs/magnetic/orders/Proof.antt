@@ -5,7 +5,8 @@ use mathlib.Core.Path.{_≡_}
 use native.Mathlib.Omega.{arith}
 use lib.Ieee.{round, ofBits}
 use Rattle.base.specs.Single.{decimal}
-use Rattle.maps.specs.Magnetic.{o, loop, state, orderOf, ordersOf}
+use Rattle.maps.specs.Loop.{loop}
+use Rattle.maps.specs.Magnetic.{o, state, orderOf, ordersOf}
 use Rattle.maps.proofs.Loops.{loop-start, loop-turn}
 use Rattle.maps.proofs.magnetic.orders.Statement.{statement}
 use Rattle.maps.proofs.magnetic.orders.Tie as tie

@@ -5,7 +5,8 @@ use mathlib.Core.Path.{_≡_, refl}
 use native.Mathlib.Omega.{arith}
 use lib.Ieee.{round, ofBits}
 use Rattle.base.specs.Single.{decimal}
-use Rattle.maps.specs.Magnetic.{o, loop, powerOf, powersOf}
+use Rattle.maps.specs.Loop.{loop}
+use Rattle.maps.specs.Magnetic.{o, powerOf, powersOf}
 use Rattle.maps.proofs.Loops.{loop-start, loop-turn}
 use Rattle.maps.proofs.magnetic.powers.Statement.{statement}
 use Rattle.maps.proofs.magnetic.powers.Tie as tie

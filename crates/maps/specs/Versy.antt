@@ -1,0 +1,85 @@
+-- `versy` of ionosphere.rs, as the map series of CCIR Report 340: a map's value is the sum of its time coefficients, each times a geographic
+-- function of the place, and the geographic functions are given in closed form from the map's ladder of words. Assumes nothing.
+use Prim.Native.Nat.{ℕ, zero, suc, _+_, _-_, _/_, _%_}
+use mathlib.Core.Bool.{cond}
+use mathlib.Core.List.{List}
+use lib.Dec.{eqb, leb}
+use lib.IntN.{pos}
+use lib.ListN.{getD}
+use lib.Ieee.{Float, nan, binary32, ofInt, mul}
+use Rattle.base.specs.Double.{_⊕_, _⊗_, fraction}
+use Rattle.base.specs.Number.{narrowOf}
+use Rattle.base.specs.Elementary.{sinOf, cosOf}
+use Rattle.base.specs.Index.{mapWord}
+use Rattle.base.specs.Blend.{IC}
+use Rattle.maps.specs.declared.ionosphere.versy.Gammas.{Gammas}
+
+-- ---- the geographic functions
+
+-- sx to the power n: 1, sx, sx * sx, sx * (sx * sx), ..
+unfoldable pub powerOf : Float → ℕ → Float
+powerOf sx zero = fraction 1 1
+powerOf sx (suc zero) = sx
+powerOf sx (suc (suc n)) = sx ⊗ powerOf sx (suc n)
+
+-- sx * (sx * (.. * x)), n times
+unfoldable pub raised : Float → ℕ → Float → Float
+raised sx zero x = x
+raised sx (suc n) x = sx ⊗ raised sx n x
+
+-- `cx` of the harmonic j, 1 to 8: gob, gob * gob, ..
+unfoldable pub cxOf : Float → ℕ → Float
+cxOf gob zero = fraction 1 1
+cxOf gob (suc zero) = gob
+cxOf gob (suc (suc j)) = cxOf gob (suc j) ⊗ gob
+
+-- `t` of the harmonic j: clg, then 'a single-precision product widened to double'
+unfoldable pub tOf : Float → ℕ → Float
+tOf clg j = cond (eqb j 1) clg (mul binary32 (ofInt binary32 (pos j)) clg)
+
+unfoldable pub cosWave : Float → Float → ℕ → Float
+cosWave gob clg j = cxOf gob j ⊗ cosOf (tOf clg j)
+
+unfoldable pub sinWave : Float → Float → ℕ → Float
+sinWave gob clg j = cxOf gob j ⊗ sinOf (tOf clg j)
+
+-- the function i of the harmonic j: its cosine, its sine, both times sx, both times sx once more, ..
+unfoldable pub harmonicOf : Float → Float → Float → ℕ → ℕ → Float
+harmonicOf sx gob clg j i = raised sx (i / 2) (cond (eqb (i % 2) 0) (cosWave gob clg j) (sinWave gob clg j))
+
+-- The function k, above the word j - 1 of the ladder w: up to the word j it is one of the harmonic j, above it one of the next; a word that
+-- equals the one before it ends the ladder, as word 8 does, and past its end the functions are 0. n harmonics may still come.
+unfoldable pub geographicFrom : (ℕ → ℕ) → Float → Float → Float → ℕ → ℕ → ℕ → Float
+geographicFrom w sx gob clg zero j k = fraction 0 1
+geographicFrom w sx gob clg (suc n) j k =
+    cond (eqb (w j) (w (j - 1))) (fraction 0 1)
+    (cond (leb k (w j)) (harmonicOf sx gob clg j (k - w (j - 1) - 1)) (geographicFrom w sx gob clg n (j + 1) k))
+
+-- the function k: up to word 0 a power of sx
+unfoldable pub geographicOf : (ℕ → ℕ) → Float → Float → Float → ℕ → Float
+geographicOf w sx gob clg k = cond (leb k (w 0)) (powerOf sx k) (geographicFrom w sx gob clg 8 1 k)
+
+-- ---- the series
+
+-- gamma after the terms 0 to n, `at` being the first one's place in AB: the first alone, then each addition in f64 and narrowed at once
+unfoldable pub gammaOf : List Float → ℕ → (ℕ → Float) → ℕ → Float
+gammaOf ab at g zero = narrowOf (g 0 ⊗ getD ab at nan)
+gammaOf ab at g (suc n) = narrowOf (gammaOf ab at g n ⊕ getD ab (at + suc n) nan ⊗ g (suc n))
+
+-- the value of the map iz, 1 to 6; its last term is word 8
+unfoldable pub versyOf : List Float → List ℕ → ℕ → Float → Float → Float → Float
+versyOf ab index iz x clg gob =
+    let w = mapWord index (iz - 1) in
+    gammaOf ab (getD IC (iz - 1) 0 - 1) (geographicOf w (sinOf x) gob clg) (w 8)
+
+-- the six maps at a place: the E map at its latitude, the others at its dip
+unfoldable pub gammasOf : List Float → List ℕ → Float → Float → Float → Float → Gammas
+gammasOf ab index dip lat clg gob =
+    record {
+      g1 = versyOf ab index 1 dip clg gob;
+      g2 = versyOf ab index 2 dip clg gob;
+      g3 = versyOf ab index 3 dip clg gob;
+      g4 = versyOf ab index 4 dip clg gob;
+      g5 = versyOf ab index 5 dip clg gob;
+      g6 = versyOf ab index 6 lat clg gob;
+    }
