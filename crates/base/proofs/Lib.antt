@@ -31,3 +31,4 @@ pub mod Ladders
 pub mod Indexing
 pub mod Maps
 pub mod Points
+pub mod Blends

@@ -6,7 +6,7 @@ use Rattle.base.specs.declared.coefficients.Weights.{Weights}
 use Rattle.base.specs.Single.{_⊕_, _⊖_, _⊗_, _⊘_, decimal}
 use Rattle.base.specs.Fill.{run}
 use Rattle.base.specs.Words.{floatAt}
-use Rattle.base.specs.Tables.{placeOf, planeOf, xfm3cf, xesmcf, xpmap, xeslcf, xesucf, xercof}
+use Rattle.base.specs.Tables.{placeOf, wordsOf, planeOf, fakmap, xfm3cf, xesmcf, xpmap, xeslcf, xesucf, xercof}
 
 -- ---- the blend
 
@@ -57,6 +57,10 @@ ercofOf month s = blendTable xercof (eWeights s) month
 
 unfoldable pub hmymOf : List ℕ → Float → List Float
 hmymOf month s = blendTable xpmap (heightWeights s) month
+
+-- the land map has one plane, and nothing is blended
+unfoldable pub fakmapOf : List ℕ → List Float
+fakmapOf month = run (λ i. floatAt month (placeOf fakmap + 4 * i)) (wordsOf fakmap)
 
 -- `cofion`: the six maps one after the other
 abbrev pub cofionMaps : List ℕ → List ℕ → Float → List (List Float)

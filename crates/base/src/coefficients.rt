@@ -7,13 +7,13 @@ ghost use mathlib.Core.Path.{_≡_};
 ghost use Prim.Native.Nat.{ℕ, _+_, _*_, _<_, _≤_};
 ghost use lib.Dec.{eqb};
 ghost use lib.ListN.{length, getD};
-ghost use lib.Ieee.{binary32};
+ghost use lib.Ieee.{binary32, ofBits};
 ghost use Rattle.base.specs.Number.{signedOf};
 ghost use Rattle.base.specs.Fill.{fill};
 ghost use Rattle.base.specs.Words.{wordOf, wordAt, integerAt, floatAt};
 ghost use Rattle.base.specs.MonthFile.{IsPart, monthRecordCheck, monthPart, monthFileCheck, Sized};
 ghost use Rattle.base.specs.Index.{ikimPlace, ikimAt, indexOf, rows, harmonics, exceeds, climbs, goodMap, indexCheck};
-ghost use Rattle.base.specs.Blend.{blendOf, blendAt, f2Weights, eWeights, heightWeights, cofionOf, hmymOf};
+ghost use Rattle.base.specs.Blend.{blendOf, blendAt, f2Weights, eWeights, heightWeights, cofionOf, hmymOf, fakmapOf};
 
 fn wide(x: u8) -> u32
     ensures { λ r. ⌜ (r ≡ x) × (r < 256) ⌝ }
@@ -308,9 +308,36 @@ fn blended(w: Weights, x0: f32, x1: f32) -> f32
     (x0 * w.wa + x1 * w.wb) / w.d
 }
 
-// Two planes of `width` words each, one after the other from `at` on, blended into `out` from `base`
-// on.
-fn blend(s: &[u8], at: usize, width: usize, w: Weights, out: &mut [f32], base: usize)
+// Two words blended. A NaN's pattern gives a NaN whatever the other word is; with both tests before
+// the arithmetic a loop over this one is compiled to four pairs at a time.
+fn blended_words(w: Weights, x0: u32, x1: u32) -> f32
+    ensures { λ r. ⌜ r ≡ blendOf w (ofBits binary32 x0) (ofBits binary32 x1) ⌝ }
+{
+    if x0 % 0x8000_0000 > 0x7f80_0000 {
+        0.0 / 0.0
+    } else if x1 % 0x8000_0000 > 0x7f80_0000 {
+        0.0 / 0.0
+    } else {
+        blended(w, f32::from_bits(x0), f32::from_bits(x1))
+    }
+}
+
+// Two planes of which every byte is there.
+fn blend_whole(s: &[u8], at: usize, width: usize, w: Weights, out: &mut [f32], base: usize)
+    requires { ⌜ (at ≤ 65536) × (width ≤ 65536) × (at + 8 * width ≤ length (now s)) × (base + width ≤ length (now out)) ⌝ }
+    ensures { λ _. ⌜ now (out .exit) ≡ fill (blendAt (now (s .entry)) at width w) base (now (out .entry)) width ⌝ }
+{
+    let mut i = 0usize;
+    while i < width {
+        let x0 = whole_word(s, at + 4 * i);
+        let x1 = whole_word(s, at + 4 * (width + i));
+        out[base + i] = blended_words(w, x0, x1);
+        i += 1;
+    }
+}
+
+// Two planes of which some bytes are not there.
+fn blend_short(s: &[u8], at: usize, width: usize, w: Weights, out: &mut [f32], base: usize)
     requires { ⌜ (at ≤ 65536) × (width ≤ 65536) × (base + width ≤ length (now out)) ⌝ }
     ensures { λ _. ⌜ now (out .exit) ≡ fill (blendAt (now (s .entry)) at width w) base (now (out .entry)) width ⌝ }
 {
@@ -323,11 +350,27 @@ fn blend(s: &[u8], at: usize, width: usize, w: Weights, out: &mut [f32], base: u
     }
 }
 
+// Two planes of `width` words each, one after the other from `at` on, blended into `out` from `base`
+// on.
+fn blend(s: &[u8], at: usize, width: usize, w: Weights, out: &mut [f32], base: usize)
+    requires { ⌜ (at ≤ 65536) × (width ≤ 65536) × (base + width ≤ length (now out)) ⌝ }
+    ensures { λ _. ⌜ now (out .exit) ≡ fill (blendAt (now (s .entry)) at width w) base (now (out .entry)) width ⌝ }
+{
+    if s.len() < at + 8 * width {
+        blend_short(s, at, width, w, out, base);
+    } else {
+        blend_whole(s, at, width, w, out, base);
+    }
+}
+
 // The coefficients of the six maps, one map after the other.
 pub type SixMaps = [f32; 2604];
 
 // The coefficients of the height map.
 pub type HeightMap = [f32; 464];
+
+// The words of the land map.
+pub type LandMap = [f32; 464];
 
 // The 2,604 coefficients of the six maps at a sunspot number, from an F2 record and a month file.
 pub fn cofion(f2: &[u8], month: &[u8], ssn: f32) -> SixMaps
@@ -352,4 +395,42 @@ pub fn hmym(month: &[u8], ssn: f32) -> HeightMap
     let mut out = [0.0f32; 464];
     blend(month, 28836, 464, height_weights(ssn), &mut out, 0);
     out
+}
+
+// The 464 words of a file of which every byte is there.
+fn fakmap_whole(month: &[u8]) -> LandMap
+    requires { ⌜ 25388 ≤ length (now month) ⌝ }
+    ensures { λ r. ⌜ r ≡ fakmapOf (now (month .entry)) ⌝ }
+{
+    let mut out = [0.0f32; 464];
+    let mut i = 0usize;
+    while i < 464 {
+        out[i] = number::float32(whole_word(month, 23532 + 4 * i));
+        i += 1;
+    }
+    out
+}
+
+// The 464 words of a file of which some bytes are not there.
+fn fakmap_short(month: &[u8]) -> LandMap
+    ensures { λ r. ⌜ r ≡ fakmapOf (now (month .entry)) ⌝ }
+{
+    let mut out = [0.0f32; 464];
+    let mut i = 0usize;
+    while i < 464 {
+        out[i] = float(month, 23532 + 4 * i);
+        i += 1;
+    }
+    out
+}
+
+// The 464 words of the land map.
+pub fn fakmap(month: &[u8]) -> LandMap
+    ensures { λ r. ⌜ r ≡ fakmapOf (now (month .entry)) ⌝ }
+{
+    if month.len() < 25388 {
+        fakmap_short(month)
+    } else {
+        fakmap_whole(month)
+    }
 }

@@ -1,14 +1,15 @@
--- The buffer is filled from `base` on: each turn sets one element, and both words are those of the definition.
+-- As `blend_short`, with words that are there whole.
 use borrow.Author.Needs.{needs}
 use Prim.Native.Nat.{_≤_, _-_}
 use mathlib.Core.Path.{_≡_, refl, sym}
 use native.Mathlib.Omega.{arith}
 use lib.ListN.{length}
 use Rattle.base.specs.Fill.{fill}
+use Rattle.base.specs.Words.{floatAt}
 use Rattle.base.specs.Blend.{blendAt}
 use Rattle.base.proofs.Fills.{fill-next}
-use Rattle.base.proofs.coefficients.blend.Statement.{statement}
-use Rattle.base.proofs.coefficients.blend.Tie as tie
+use Rattle.base.proofs.coefficients.blend_whole.Statement.{statement}
+use Rattle.base.proofs.coefficients.blend_whole.Tie as tie
 
 abbrev Inv-loop : tie.InvT-loop
 Inv-loop s at width w out₀ base i₀ out i = (i ≤ width) × (length out ≡ length out₀) × (out ≡ fill (blendAt s at width w) base out₀ i)
@@ -21,17 +22,17 @@ unfolding fill
 loop-holds c = (search needs, refl, refl)
 
 loop-again : tie.Need-loop-again Inv-loop μ-loop
-unfolding blendAt
+unfolding blendAt floatAt
 loop-again c =
     let x1 = c .before in
     let x0 = x1 .before in
-    (search needs, search needs, rw (c .blended .ensures, x1 .float2 .ensures, x0 .float .ensures, x0 .before .before .loop .inv .2) (sym (fill-next _ _ _ _)))
+    (search needs, search needs, rw (c .blended-words .ensures, x1 .whole-word2 .ensures, x0 .whole-word .ensures, x0 .before .before .loop .inv .2) (sym (fill-next _ _ _ _)))
 
 returns : tie.Need-returns Inv-loop μ-loop
 returns c = let l = c .before .loop in let e : l .i ≡ c .before .before .before .before .args .width = omega arith in rw e at (l .inv .2)
 
-pub blend-spec : {M : Type 1} → statement M
-blend-spec =
+pub blend-whole-spec : {M : Type 1} → statement M
+blend-whole-spec =
     tie.close
     (tie.spec
     Inv-loop
