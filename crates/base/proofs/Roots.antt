@@ -136,16 +136,7 @@ module _ (a q r : ℕ) (e : q * q + r ≡ a * 2 ^ 52) where
       let n = next-square q in
       sym (ap (λ (x : ℕ). closestRoot x 1) (sym (mul-one (a * 2 ^ 52))) ∙ closest-up (a * 2 ^ 52) q 1 (omega arith) (omega arith) (omega arith))
 
-  -- one more, where there is room
-  pub advance : q * 2 < r → (q + 1) * (q + 1) + (r - (q * 2 + 1)) ≡ a * 2 ^ 52
-  advance g = let n = next-square q in omega arith
-
-  pub whole-lt : a < 2 ^ 54 → q < 2 ^ 53
-  whole-lt h =
-      let l : q * q < 2 ^ 53 * 2 ^ 53 = omega arith in
-      lt-of-not-le (λ (g : 2 ^ 53 ≤ q). not-le-of-lt l (mul-le-mul g g))
-
--- ---- the square of h * 2 ^ 27 + l, taken off in parts
+-- ---- the product of w = h * 2 ^ 27 + l and the next number, taken off in parts
 parts : (h l : ℕ) → (h * 2 ^ 27 + l) * (h * 2 ^ 27 + l) ≡ h * h * 2 ^ 54 + h * l * 2 ^ 28 + l * l
 parts h l =
     let e = mul-mul-mul-comm h (2 ^ 27) h (2 ^ 27) in
@@ -153,25 +144,39 @@ parts h l =
     let g = mul-comm l (h * 2 ^ 27) in
     simp (mul-add, add-mul) (omega arith)
 
-pub sizes : (g : ℕ) → g < 2 ^ 53 → (g / 2 ^ 27 * (g / 2 ^ 27) < 2 ^ 52) × (g / 2 ^ 27 * (g % 2 ^ 27) < 2 ^ 53) × (g % 2 ^ 27 * (g % 2 ^ 27) < 2 ^ 54)
-sizes g h =
-    let x : g / 2 ^ 27 ≤ 2 ^ 26 - 1 = omega arith in
-    let y : g % 2 ^ 27 ≤ 2 ^ 27 - 1 = omega arith in
-    (lt-of-le-of-lt (mul-le-mul x x) (lit< tt), lt-of-le-of-lt (mul-le-mul x y) (lit< tt), lt-of-le-of-lt (mul-le-mul y y) (lit< tt))
+pub sizes : (w : ℕ) → w < 2 ^ 53 → (w / 2 ^ 27 * (w / 2 ^ 27) < 2 ^ 52) × (w / 2 ^ 27 * (w % 2 ^ 27 * 2 + 1) < 2 ^ 54) × (w % 2 ^ 27 * (w % 2 ^ 27 + 1) < 2 ^ 54)
+sizes w h =
+    let x : w / 2 ^ 27 ≤ 2 ^ 26 - 1 = omega arith in
+    let y : w % 2 ^ 27 * 2 + 1 ≤ 2 ^ 28 - 1 = omega arith in
+    let z : w % 2 ^ 27 ≤ 2 ^ 27 - 1 = omega arith in
+    let z' : w % 2 ^ 27 + 1 ≤ 2 ^ 27 = omega arith in
+    (lt-of-le-of-lt (mul-le-mul x x) (lit< tt), lt-of-le-of-lt (mul-le-mul x y) (lit< tt), lt-of-le-of-lt (mul-le-mul z z') (lit< tt))
 
-abbrev pub crossOf : ℕ → ℕ → ℕ
-crossOf h l = h * l + l * l / 2 ^ 28
+-- what is left over w * (w + 1), less one
+module _ (a w high over rest : ℕ) (p : high + w / 2 ^ 27 * (w / 2 ^ 27) * 4 ≡ a) (q : over + w / 2 ^ 27 * (w % 2 ^ 27 * 2 + 1) ≡ high * 2 ^ 25) (r : rest + (w % 2 ^ 27 * (w % 2 ^ 27 + 1) + 1) ≡ over * 2 ^ 27) where
+  taken-off : w * w + (w + 1 + rest) ≡ a * 2 ^ 52
+  taken-off =
+      let h = w / 2 ^ 27 in
+      let l = w % 2 ^ 27 in
+      let s : h * 2 ^ 27 + l ≡ w = omega arith in
+      let e : w * w ≡ h * h * 2 ^ 54 + h * l * 2 ^ 28 + l * l = ap (λ (x : ℕ). x * x) (sym s) ∙ parts h l in
+      let f : h * (l * 2 + 1) ≡ h * l * 2 + h = simp (mul-add) (omega (arith, mul-assoc h l 2)) in
+      let g : l * (l + 1) ≡ l * l + l = simp (mul-add) (omega arith) in
+      omega arith
 
-abbrev pub overOf : ℕ → ℕ → ℕ → ℕ
-overOf a h l = (a - h * h * 4) * 2 ^ 24 - crossOf h l
-
-pub taken-off : (a g : ℕ) → g / 2 ^ 27 * (g / 2 ^ 27) * 4 ≤ a → crossOf (g / 2 ^ 27) (g % 2 ^ 27) ≤ (a - g / 2 ^ 27 * (g / 2 ^ 27) * 4) * 2 ^ 24
-    → g % 2 ^ 27 * (g % 2 ^ 27) % 2 ^ 28 ≤ overOf a (g / 2 ^ 27) (g % 2 ^ 27) * 2 ^ 28
-    → g * g + (overOf a (g / 2 ^ 27) (g % 2 ^ 27) * 2 ^ 28 - g % 2 ^ 27 * (g % 2 ^ 27) % 2 ^ 28) ≡ a * 2 ^ 52
-taken-off a g p q r =
-    let s : g / 2 ^ 27 * 2 ^ 27 + g % 2 ^ 27 ≡ g = omega arith in
-    let e : g * g ≡ g / 2 ^ 27 * (g / 2 ^ 27) * 2 ^ 54 + g / 2 ^ 27 * (g % 2 ^ 27) * 2 ^ 28 + g % 2 ^ 27 * (g % 2 ^ 27) = ap (λ (x : ℕ). x * x) (sym s) ∙ parts (g / 2 ^ 27) (g % 2 ^ 27) in
-    omega arith
+  -- (w + 1) ^ 2 is above or not, and the middles to both sides of it are not passed
+  pub next-nearest : rest < w * 2 + 2 → w + 1 ≡ closestRoot (a * 2 ^ 52) 1
+  next-nearest h = go (leb w rest) (leb→le w rest) (nleb→lt w rest)
+    where
+      go : (b : Bool) → (T b → w ≤ rest) → (T (not b) → rest < w) → w + 1 ≡ closestRoot (a * 2 ^ 52) 1
+      go true y z =
+          let l = y tt in
+          let n = next-square w in
+          let e = taken-off in
+          down a (w + 1) (rest - w) (omega arith) (omega arith)
+      go false y z =
+          let l = z tt in
+          up a w (w + 1 + rest) taken-off (omega arith) (omega arith)
 
 pub moved : (a d q r i q' r' : ℕ) → q' ≡ q → r' ≡ r → Turn a d q r i → Turn a d q' r' i
 moved a d q r i q' r' e f t = subst (λ (x : ℕ). Turn a d x r' i) (sym e) (subst (λ (x : ℕ). Turn a d q x i) (sym f) t)

@@ -1,7 +1,7 @@
 // What Rattle's operators and casts leave out: sizes, the lesser and the greater, conversions and
 // the square root.
 ghost use mathlib.Core.Path.{_≡_};
-ghost use mathlib.Core.Bool.{Bool, cond};
+ghost use mathlib.Core.Bool.{Bool, true, cond};
 ghost use Prim.Native.Nat.{_+_, _-_, _*_, _/_, _%_, _^_, _≤_, _<_};
 ghost use lib.Ieee.{binary32, binary64, ofBits, toBits, ofInt, toSigned, toUnsigned};
 ghost use lib.Ieee.Nearest.{closest};
@@ -206,6 +206,26 @@ pub fn narrow(x: f64) -> f32
     f32::from_bits((sign * 0x8000_0000 + magnitude(b % 0x8000_0000_0000_0000)) as u32)
 }
 
+// The `f32` nearest to x, kept as an `f64`. From 2^-126 on an `f32` is an `f64` whose last 29 digits
+// are 0, so that the bits are rounded where they stand; what may overflow or is below goes by `narrow`.
+pub fn narrowed(x: f64) -> f64
+    ensures { λ r. ⌜ r ≡ narrowOf x ⌝ }
+{
+    if x != x {
+        return x;
+    }
+    let b = f64::to_bits(x);
+    let exponent = b % 0x8000_0000_0000_0000 / 0x10_0000_0000_0000;
+    if exponent < 897 {
+        return widen(narrow(x));
+    }
+    if exponent >= 1150 {
+        return widen(narrow(x));
+    }
+    let up = b + 0xfff_ffff + b / 0x2000_0000 % 2;
+    f64::from_bits(up - up % 0x2000_0000)
+}
+
 // √(a * 2^52) to the nearest whole number, a binary digit a turn.
 fn nearest_root(a: u64) -> u64
     requires { ⌜ a < 2 ^ 54 ⌝ }
@@ -232,66 +252,67 @@ fn nearest_root(a: u64) -> u64
     if rest <= q { q } else { q + 1 }
 }
 
-// A guess at √a * 2^26, where i are the bits of a as an `f64`. Nothing is proved of how near it is.
-fn guess(i: u64) -> u64
-    requires { ⌜ i < 2047 * 2 ^ 52 ⌝ }
-    ensures { λ r. ⌜ r < 2 ^ 53 ⌝ }
+// A guess at the root of the number x whose bits are b. Nothing is proved of how near it is; of
+// random numbers about one in 3000 gets a guess that is not the nearest, and that one is beside it.
+fn guess(b: u64) -> f64
+    requires { ⌜ b < 2047 * 2 ^ 52 ⌝ }
 {
-    let x = f64::from_bits(i);
-    let half = x * 0.5;
-    let y0 = f64::from_bits(0x5fe6_eb50_c7b5_37a9 - i / 2);
-    let y1 = y0 * (1.5 - half * y0 * y0);
-    let y2 = y1 * (1.5 - half * y1 * y1);
-    let y3 = y2 * (1.5 - half * y2 * y2);
-    let y4 = y3 * (1.5 - half * y3 * y3);
-    let s = x * y4 * 67108864.0 - 3.0;
-    if s > -1.0 {
-        if s < 18446744073709551616.0 {
-            let g = std::num::truncating_f64_to_u64(s);
-            if g < 0x20_0000_0000_0000 {
-                return g;
-            }
-        }
-    }
-    0
+    let x = f64::from_bits(b);
+    // 1/√x to about 4, 10 and 21 binary digits; the constants spread the error to both sides
+    let y0 = f64::from_bits(0x5fe4_0000_0000_0000 - b / 2);
+    let y1 = y0 * 1.68191391 - x * 0.703952009 * y0 * (y0 * y0);
+    let y2 = y1 * 1.500000316875 - x * 0.5 * y1 * (y1 * y1);
+    // √x to 10 digits, with zeros after the 26th, so that its square is exact
+    let p = x * y1;
+    let t = p * 134217729.0;
+    let c = t - (t - p);
+    // √x to 21 digits, what its square leaves of x, and that over twice the root
+    let s = x * y2;
+    let rest = x - c * c - (s - c) * (s + c);
+    s + rest * (y2 * 0.875 - x * 0.375 * y2 * (y2 * y2))
 }
 
-// √(a * 2^52) to the nearest whole number, from a guess g a little below it: the square of g is
-// taken off exactly, in two parts, and what is left says how many to add. A guess that is above the
-// root, or far below, is not used.
-fn refined(a: u64, g: u64) -> u64
-    requires { ⌜ (a < 2 ^ 54) × (g < 2 ^ 53) ⌝ }
-    ensures { λ r. ⌜ r ≡ closestRoot (a * 2 ^ 52) 1 ⌝ }
+// Whether w + 1 is √(a * 2^52) to the nearest whole number; it may be where this is false. It is
+// if a * 2^52 is above w * (w + 1) and at most (w + 1) * (w + 2): the first product is taken off in
+// three parts, and what is left tells.
+fn is_nearest(a: u64, w: u64) -> bool
+    requires { ⌜ w < 2 ^ 53 ⌝ }
+    ensures { λ r. ⌜ (r ≡ true → w + 1 ≡ closestRoot (a * 2 ^ 52) 1) ⌝ }
 {
-    let h = g / 0x800_0000;
-    let l = g % 0x800_0000;
+    let h = w / 0x800_0000;
+    let l = w % 0x800_0000;
     let square = h * h * 4;
-    if a < square {
-        return nearest_root(a);
+    let high = std::num::wrapping_sub_u64(a, square);
+    if high >= 0x40_0000_0000 {
+        return false;
     }
-    let high = a - square;
-    if high >= 0x100_0000_0000 {
-        return nearest_root(a);
+    let cross = h * (l * 2 + 1);
+    let over = std::num::wrapping_sub_u64(high * 0x200_0000, cross);
+    if over >= 0x10_0000_0000 {
+        return false;
     }
-    let low = l * l;
-    let cross = h * l + low / 0x1000_0000;
-    if high * 0x100_0000 < cross {
-        return nearest_root(a);
+    let low = l * (l + 1) + 1;
+    let rest = std::num::wrapping_sub_u64(over * 0x800_0000, low);
+    rest < w * 2 + 2
+}
+
+// Whether s is the root of the number whose bits are b; it may be where this is false.
+fn is_root(b: u64, s: f64) -> bool
+    requires { ⌜ (2 ^ 52 ≤ b) × (b < 2047 * 2 ^ 52) ⌝ }
+    ensures { λ r. ⌜ (r ≡ true → s ≡ sqrtOf binary64 (ofBits binary64 b)) ⌝ }
+{
+    if s != s {
+        return false;
     }
-    let over = high * 0x100_0000 - cross;
-    if over >= 0x4000_0000 {
-        return nearest_root(a);
+    let f = b / 0x10_0000_0000_0000 + 1020;
+    let odd = f % 2;
+    let m = b % 0x10_0000_0000_0000 + 0x10_0000_0000_0000;
+    let below = (f + odd) / 2 * 0x10_0000_0000_0000 + 1;
+    let w = std::num::wrapping_sub_u64(f64::to_bits(s), below);
+    if w >= 0x20_0000_0000_0000 {
+        return false;
     }
-    if over * 0x1000_0000 < low % 0x1000_0000 {
-        return nearest_root(a);
-    }
-    let mut q = g;
-    let mut rest = over * 0x1000_0000 - low % 0x1000_0000;
-    while q * 2 < rest {
-        rest = rest - (q * 2 + 1);
-        q = q + 1;
-    }
-    if rest <= q { q } else { q + 1 }
+    is_nearest(m * (2 - odd), w)
 }
 
 // The bits of √(m * 2^(f - 2095)), where m has 53 digits.
@@ -300,11 +321,7 @@ fn scaled_root(m: u64, f: u64) -> u64
     ensures { λ r. ⌜ r ≡ (f + f % 2) / 2 * 2 ^ 52 + closestRoot (m * (2 - f % 2) * 2 ^ 52) 1 ⌝ }
 {
     let odd = f % 2;
-    (f + odd) / 2 * 0x10_0000_0000_0000
-        + refined(
-            m * (2 - odd),
-            guess(0x4330_0000_0000_0000 - odd * 0x10_0000_0000_0000 + m),
-        )
+    (f + odd) / 2 * 0x10_0000_0000_0000 + nearest_root(m * (2 - odd))
 }
 
 // The bits of the root of the positive number whose bits are b.
@@ -323,6 +340,19 @@ fn root_bits(b: u64) -> u64
     }
 }
 
+// The root of the number whose bits are b, which has 53 digits.
+fn normal_root(b: u64) -> f64
+    requires { ⌜ (2 ^ 52 ≤ b) × (b < 2047 * 2 ^ 52) ⌝ }
+    ensures { λ r. ⌜ r ≡ sqrtOf binary64 (ofBits binary64 b) ⌝ }
+{
+    let s = guess(b);
+    if is_root(b, s) {
+        s
+    } else {
+        f64::from_bits(root_bits(b))
+    }
+}
+
 // √x to the nearest `f64`; a NaN for any x below zero but -0, whose root is -0.
 pub fn sqrt64(x: f64) -> f64
     ensures { λ r. ⌜ r ≡ sqrtOf binary64 x ⌝ }
@@ -331,6 +361,9 @@ pub fn sqrt64(x: f64) -> f64
         return x;
     }
     let b = f64::to_bits(x);
+    if std::num::wrapping_sub_u64(b, 0x10_0000_0000_0000) < 0x7fe0_0000_0000_0000 {
+        return normal_root(b);
+    }
     if b % 0x8000_0000_0000_0000 == 0 {
         return x;
     }

@@ -1,4 +1,4 @@
--- `scaled_root` is the exponent's half and the digits' root, by `refined`.
+-- `scaled_root` is the exponent's half and the digits' root, by `nearest_root`.
 use borrow.Author.Needs.{needs}
 use mathlib.Core.Path.{sym, subst}
 use Prim.Native.Nat.{ℕ, _%_, _^_, _≤_}
@@ -7,16 +7,16 @@ use Rattle.base.proofs.Rooted.{at-most, root-small}
 use Rattle.base.proofs.number.scaled_root.Statement.{statement}
 use Rattle.base.proofs.number.scaled_root.Tie as tie
 
-mul-refined : tie.Need-mul-refined
-mul-refined c = omega (arith, at-most (c .args .m) (c .args .f % 2))
+mul-nearest-root : tie.Need-mul-nearest-root
+mul-nearest-root c = omega (arith, at-most (c .args .m) (c .args .f % 2))
 
-refined-requires : tie.Need-refined-requires
-refined-requires c κs = omega (arith, at-most (c .before .args .m) (c .before .args .f % 2))
+nearest-root-requires : tie.Need-nearest-root-requires
+nearest-root-requires c κs = omega (arith, at-most (c .args .m) (c .args .f % 2))
 
 add-result-2 : tie.Need-add-result-2
 add-result-2 c =
-    let s = c .before .before in
-    let r : c .refined .result ≤ 2 ^ 53 = subst (λ (x : ℕ). x ≤ 2 ^ 53) (sym (c .refined .ensures)) (root-small (s .args .m) (s .args .f % 2) (s .pre .1)) in
+    let s = c .before in
+    let r : c .nearest-root .result ≤ 2 ^ 53 = subst (λ (x : ℕ). x ≤ 2 ^ 53) (sym (c .nearest-root .ensures)) (root-small (s .args .m) (s .args .f % 2) (s .pre .1)) in
     omega arith
 
 pub scaled-root-spec : {M : Type 1} → statement M
@@ -26,11 +26,7 @@ scaled-root-spec =
     (λ c. search needs)
     (λ c. search needs)
     (λ c. search needs)
-    mul-refined
-    (λ c. search needs)
-    (λ c. search needs)
-    (λ c. search needs)
-    (λ c κs. search needs)
-    refined-requires
+    mul-nearest-root
+    nearest-root-requires
     add-result-2
     (λ c. search needs))

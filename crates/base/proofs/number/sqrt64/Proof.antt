@@ -1,4 +1,5 @@
--- `sqrt64` is `sqrtOf binary64`: NaN, the zeros, what is below zero and the infinity by their patterns, the rest by `root_bits`.
+-- `sqrt64` is `sqrtOf binary64`: a normal number's by `normal_root`, NaN's, the zeros', the infinity's and that of what is below zero by their patterns, a subnormal number's by `root_bits`.
+use borrow.Author.Needs.{needs}
 use mathlib.Core.Path.{_≡_, sym, ap, _∙_}
 use mathlib.Core.Logic.{_⊎_, inl, inr}
 use Prim.Native.Nat.{_+_, _-_, _*_, _%_, _^_, _<_}
@@ -25,33 +26,43 @@ float-to-bits-b : tie.Need-float-to-bits-b
 float-to-bits-b c = no-nan (c .before .args .x) (c .if1 .left)
 
 returns-2 : tie.Need-returns-2
-returns-2 c = zero-root (c .before .before) (eq-zero-or-pos (toBits binary64 (c .before .before .args .x))) (c .if2 .taken)
+returns-2 c =
+    let s = c .before .before .before .before in
+    c .normal-root .ensures ∙ ap (sqrtOf binary64) (read-back binary64 (s .args .x) (s .good .0 .1))
 
 returns-3 : tie.Need-returns-3
 returns-3 c =
-    let s = c .before .before .before in
+    let s = c .before .before .before .before in
+    zero-root s (eq-zero-or-pos (toBits binary64 (s .args .x))) (c .if3 .taken)
+
+returns-4 : tie.Need-returns-4
+returns-4 c =
+    let k = c .before .before .before .before in
+    let s = k .before in
     let b = toBits binary64 (s .args .x) in
     let w = wide binary64 (s .args .x) (s .good .0 .1) in
     let e : 2 ^ 63 + (b - 2 ^ 63) ≡ b = omega arith in
     no-number binary64
-    ∙ sym (below-zero (b - 2 ^ 63) (omega arith) (omega (arith, capped binary64 (s .args .x) (s .good .0 .1) (c .before .before .if1 .left))))
+    ∙ sym (below-zero (b - 2 ^ 63) (omega arith) (omega (arith, capped binary64 (s .args .x) (s .good .0 .1) (k .if1 .left))))
     ∙ ap (sqrtOf binary64) (ap (ofBits binary64) e ∙ read-back binary64 (s .args .x) (s .good .0 .1))
 
-returns-4 : tie.Need-returns-4
-returns-4 c =
-    let s = c .before .before .before .before in
-    fixed (s .args .x) (2047 * 2 ^ 52) (by-bits binary64 (s .args .x) (s .good .0 .1) (2047 * 2 ^ 52) (c .if4 .taken)) infinity
+returns-5 : tie.Need-returns-5
+returns-5 c =
+    let s = c .before .before .before .before .before .before in
+    fixed (s .args .x) (2047 * 2 ^ 52) (by-bits binary64 (s .args .x) (s .good .0 .1) (2047 * 2 ^ 52) (c .if5 .taken)) infinity
 
 root-bits-requires : tie.Need-root-bits-requires
 root-bits-requires c κs =
-    let k = c .before .before .before in
+    let k = c .before .before .before .before .before in
     omega (arith, capped binary64 (k .before .args .x) (k .before .good .0 .1) (k .if1 .left))
 
 float-from-bits-result : tie.Need-float-from-bits-result
 float-from-bits-result c = no-nan-bits binary64 (c .root-bits .result) (omega arith)
 
-returns-5 : tie.Need-returns-5
-returns-5 c = c .root-bits .ensures .1 ∙ ap (sqrtOf binary64) (read-back binary64 (c .before .before .before .before .before .args .x) (c .before .before .before .before .before .good .0 .1))
+returns-6 : tie.Need-returns-6
+returns-6 c =
+    let s = c .before .before .before .before .before .before .before in
+    c .root-bits .ensures .1 ∙ ap (sqrtOf binary64) (read-back binary64 (s .args .x) (s .good .0 .1))
 
 pub sqrt64-spec : {M : Type 1} → statement M
 sqrt64-spec =
@@ -59,9 +70,12 @@ sqrt64-spec =
     (tie.spec
     returns
     float-to-bits-b
+    (λ c κs. search needs)
+    (λ c κs. search needs)
     returns-2
     returns-3
     returns-4
+    returns-5
     root-bits-requires
     float-from-bits-result
-    returns-5)
+    returns-6)
