@@ -14,7 +14,11 @@ const FILES: [&str; 5] = [
 ];
 
 /// The files that are written a second time, with their branches counted.
-const COUNTED: [&str; 2] = ["geometry.rs", "magnetic.rs"];
+const COUNTED: [&str; 3] = ["geometry.rs", "magnetic.rs", "ionosphere.rs"];
+
+/// Functions of these files that no sheet runs. Their branches stay as they
+/// are.
+const NOT_RUN: [&str; 4] = ["cngtim", "geotim", "preset", "from_numerics"];
 
 /// Method calls that become a step. `sqrt` and `abs` stay the hardware's,
 /// which document 01 asks for as they are.
@@ -189,37 +193,71 @@ fn is_private_field(rest: &str) -> bool {
         && name.chars().all(|c| c.is_ascii_alphanumeric() || c == '_')
 }
 
-/// Notes each condition of an `if` as it is decided. The blocks after `if` and
-/// `else` are its two outcomes, and the missing `else` is seen too. Lines stay
-/// where they are.
+/// Where a condition stands.
+struct Place<'a> {
+    file: &'a str,
+    number: u32,
+    function: String,
+}
+
+/// Notes each condition of an `if` or `while` as it is decided. The blocks
+/// after `if` and `else` are its two outcomes, and the missing `else` is seen
+/// too. Lines stay where they are.
 fn counted(file: &str, text: &str, branches: &mut Vec<String>) -> String {
+    let mut function = String::new();
     let mut out = String::new();
     for (number, line) in (1..).zip(text.lines()) {
-        if line.trim_start().starts_with("//") {
+        function = function_after(line, function);
+        let place = Place {
+            file,
+            number,
+            function: function.clone(),
+        };
+        if line.trim_start().starts_with("//") || NOT_RUN.contains(&place.function.as_str()) {
             out.push_str(line);
         } else {
-            refuse_uncounted(file, number, line);
-            out.push_str(&noted(file, number, line, branches));
+            refuse_uncounted(&place, line);
+            out.push_str(&noted(&place, line, branches));
         }
         out.push('\n');
     }
     out
 }
 
-/// Branches of another form than `if` would go by unseen.
-fn refuse_uncounted(file: &str, number: u32, line: &str) {
-    for form in ["match ", "while ", "if let ", " || "] {
+/// The function that a line belongs to, or that it begins.
+fn function_after(line: &str, function: String) -> String {
+    let start = line.trim_start().trim_start_matches("pub ");
+    match start.strip_prefix("fn ") {
+        Some(rest) => {
+            let longer = |c: char| c.is_alphanumeric() || c == '_';
+            rest.chars().take_while(|c| longer(*c)).collect()
+        }
+        None => function,
+    }
+}
+
+/// Branches of another form would go by unseen.
+fn refuse_uncounted(place: &Place, line: &str) {
+    for form in ["match ", "if let ", "while let ", " || "] {
         if line.contains(form) {
-            fail(format!("{file}:{number}: {form:?} is not counted"));
+            fail(format!(
+                "{}:{}: {form:?} is not counted",
+                place.file, place.number
+            ));
         }
     }
 }
 
 /// The parts of an `&&` are noted one by one.
-fn noted(file: &str, number: u32, line: &str, branches: &mut Vec<String>) -> String {
-    let Some((before, rest)) = split_at_if(line) else {
+fn noted(place: &Place, line: &str, branches: &mut Vec<String>) -> String {
+    let Some((before, rest)) = split_at_condition(line) else {
         return line.to_owned();
     };
+    let Place {
+        file,
+        number,
+        function,
+    } = place;
     let Some(length) = rest.find(" {") else {
         fail(format!("{file}:{number}: a condition over several lines"));
     };
@@ -227,24 +265,29 @@ fn noted(file: &str, number: u32, line: &str, branches: &mut Vec<String>) -> Str
     let mut parts = Vec::new();
     for part in condition.split(" && ") {
         parts.push(format!("crate::branches::note({}, {part})", branches.len()));
-        branches.push(format!("({file:?}, {number}, {part:?})"));
+        branches.push(format!(
+            "Branch {{ file: {file:?}, line: {number}, function: {function:?}, condition: {part:?} }}"
+        ));
     }
-    let after = noted(file, number, after, branches);
+    let after = noted(place, after, branches);
     format!("{before}{}{after}", parts.join(" && "))
 }
 
-/// The line up to and with its first `if`, and the rest.
-fn split_at_if(line: &str) -> Option<(&str, &str)> {
+/// The line up to and with its first `if` or `while`, and the rest.
+fn split_at_condition(line: &str) -> Option<(&str, &str)> {
     let longer = |c: char| c.is_alphanumeric() || c == '_';
-    let mut places = line.match_indices("if ");
-    let (at, word) = places.find(|(at, _)| !line[..*at].ends_with(longer))?;
+    let words = ["if ", "while "];
+    let places = words.iter().flat_map(|word| line.match_indices(word));
+    let (at, word) = places
+        .filter(|(at, _)| !line[..*at].ends_with(longer))
+        .min()?;
     Some(line.split_at(at + word.len()))
 }
 
-/// File, line and text of each condition that is noted, by its number.
+/// Each condition that is noted, by its number.
 fn branch_table(branches: &[String]) -> String {
     format!(
-        "pub const BRANCHES: [(&str, u32, &str); {}] = [\n{}\n];\n",
+        "pub const BRANCHES: [Branch; {}] = [\n{}\n];\n",
         branches.len(),
         branches.join(",\n")
     )

@@ -2,7 +2,16 @@
 
 use std::cell::RefCell;
 
-// File, line and text of each condition, as `build.rs` found them.
+/// A condition of the counted sources.
+#[derive(Debug)]
+pub struct Branch {
+    pub file: &'static str,
+    pub line: u32,
+    pub function: &'static str,
+    pub condition: &'static str,
+}
+
+// `BRANCHES`, as `build.rs` found them.
 include!(concat!(env!("OUT_DIR"), "/branches.rs"));
 
 /// The number of a condition, and whether it held.
@@ -21,4 +30,67 @@ pub fn note(branch: usize, holds: bool) -> bool {
 /// What was decided since the last call, in its order.
 pub fn take() -> Vec<Side> {
     TRAIL.take()
+}
+
+/// For each condition, how often it was false and how often true.
+pub type Counts = [[u64; 2]; BRANCHES.len()];
+
+pub fn counts(trail: &[Side]) -> Counts {
+    let mut counts = [[0; 2]; BRANCHES.len()];
+    add(&mut counts, trail);
+    counts
+}
+
+pub fn add(counts: &mut Counts, trail: &[Side]) {
+    for (branch, holds) in trail {
+        counts[*branch][usize::from(*holds)] += 1;
+    }
+}
+
+/// The conditions of some files with their counts.
+fn within<'a>(
+    counts: &'a Counts,
+    files: &'a [&str],
+) -> impl Iterator<Item = (&'static Branch, [u64; 2])> + 'a {
+    let all = BRANCHES.iter().zip(counts.iter().copied());
+    all.filter(|(branch, _)| files.contains(&branch.file))
+}
+
+pub fn print(counts: &Counts, files: &[&str]) {
+    println!("{:<18} {:>7} {:>7}  condition", "line", "true", "false");
+    for (branch, [no, yes]) in within(counts, files) {
+        let Branch {
+            file,
+            line,
+            condition,
+            ..
+        } = branch;
+        println!("{file:<13} {line:>4} {yes:>7} {no:>7}  {condition}");
+    }
+}
+
+/// Every condition must have gone both ways, except that the sides in `never`
+/// cannot be taken and must not have been.
+pub fn refuse_untaken(
+    counts: &Counts,
+    files: &[&str],
+    never: &[(&str, bool)],
+) -> Result<(), String> {
+    for (branch, sides) in within(counts, files) {
+        let Branch {
+            file,
+            line,
+            condition,
+            ..
+        } = branch;
+        for (holds, count) in [false, true].into_iter().zip(sides) {
+            let possible = !never.contains(&(condition, holds));
+            if possible != (count > 0) {
+                return Err(format!(
+                    "{file}:{line}: {condition} is {holds} {count} times"
+                ));
+            }
+        }
+    }
+    Ok(())
 }

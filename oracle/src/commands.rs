@@ -1,16 +1,25 @@
 //! One module for each command.
 
 pub mod bulk_files;
+pub mod bulk_journals;
 pub mod bulk_numbers;
 pub mod bulk_routes;
+pub mod bulk_sheet;
+pub mod bulk_sheets;
 #[cfg(linked)]
 mod compare;
 pub mod data;
 pub mod files;
+pub mod journals;
+pub mod model;
 pub mod numbers;
+mod program;
 pub mod routes;
 pub mod self_check;
+pub mod sheet_inputs;
+pub mod sheets;
 pub mod time_numbers;
+pub mod time_sheets;
 
 use std::fs;
 use std::path::Path;

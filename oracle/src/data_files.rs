@@ -9,7 +9,7 @@ mod wild;
 use crate::generator::Generator;
 use crate::index_check::IndexTable;
 use crate::month_file::{push_words, tables, to_bytes, words, Tables};
-use ladders::{LONG, SHORT, USUAL};
+use ladders::{AT_ONCE, BEYOND, LEAST, LONG, LONGEST, SHORT, USUAL};
 
 pub const YEAR: usize = 12;
 
@@ -18,6 +18,14 @@ pub struct Pair {
     pub daw: Vec<u8>,
     pub month: Vec<u8>,
 }
+
+/// Places among the 20 tables.
+const XFM3CF: usize = 6;
+const ANEW: usize = 9;
+const ACHI: usize = 11;
+const FAKMAP: usize = 13;
+const ABMAP: usize = 14;
+const XESMCF: usize = 15;
 
 /// The pair's words before they become bytes.
 struct Parts {
@@ -76,4 +84,59 @@ pub fn named() -> [(&'static str, Pair); 6] {
         ("wild-2", wild(202, 8)),
         ("wild-3", wild(203, 500)),
     ]
+}
+
+/// Pairs of one month whose ladders are as short and as long as they can be,
+/// and whose words reach what others do not.
+pub fn extreme() -> [(&'static str, Pair); 6] {
+    let parts = |seed, ikim| calm_parts(&mut Generator::new(seed), ikim, 1);
+    [
+        ("at once", high_f2(parts(301, &AT_ONCE)).pair()),
+        ("longest", parts(302, &LONGEST).pair()),
+        ("beyond", infinite_beyond(parts(303, &BEYOND)).pair()),
+        ("least", no_ground(parts(304, &LEAST)).pair()),
+        ("pricked-1", pricked(parts(305, &USUAL), f32::NAN).pair()),
+        (
+            "pricked-2",
+            pricked(parts(306, &LONG), f32::INFINITY).pair(),
+        ),
+    ]
+}
+
+/// A thin F2 at about 570 km: a height ratio of 30 and M(3000) of 2.
+fn high_f2(mut parts: Parts) -> Parts {
+    parts.tables[ABMAP][2] = 30f32.to_bits();
+    for plane in parts.tables[XFM3CF].chunks_mut(9 * 49) {
+        plane[0] = 2f32.to_bits();
+    }
+    parts
+}
+
+/// Row 40 of a map whose ladder ends at 16: what is read there meets a zero.
+fn infinite_beyond(mut parts: Parts) -> Parts {
+    for plane in parts.tables[XESMCF].chunks_mut(7 * 61) {
+        plane[7 * 40] = f32::INFINITY.to_bits();
+    }
+    parts
+}
+
+/// The land-mass map is 0 everywhere, which is land.
+fn no_ground(mut parts: Parts) -> Parts {
+    parts.tables[FAKMAP].fill(0);
+    parts.tables[ABMAP][..2].fill(0);
+    parts
+}
+
+/// One word that is no number where a figure stands or falls with it, and
+/// none where it would make NaNs of all the others.
+fn pricked(mut parts: Parts, word: f32) -> Parts {
+    let places: &[(usize, usize)] = if word.is_nan() {
+        &[(ANEW, 1), (ABMAP, 0), (ABMAP, 2)]
+    } else {
+        &[(ACHI, 0), (XFM3CF, 0), (XFM3CF, 441)]
+    };
+    for (table, place) in places {
+        parts.tables[*table][*place] = word.to_bits();
+    }
+    parts
 }

@@ -6,9 +6,11 @@ mod branches;
 mod commands;
 mod damage;
 mod data_files;
+mod desks;
 mod functions;
 mod generator;
 mod index_check;
+mod journal_kinds;
 mod month_file;
 #[cfg(linked)]
 mod port;
@@ -16,13 +18,16 @@ mod ranges;
 mod reference;
 mod reference_files;
 mod reference_routes;
+mod reference_sheets;
 mod route_kinds;
+mod sheet_kinds;
 mod specials;
 mod steps;
 mod voacap;
 
-use commands::{bulk_files, bulk_numbers, bulk_routes, data, files, numbers};
-use commands::{routes, self_check, time_numbers};
+use commands::{bulk_files, bulk_numbers, bulk_routes, bulk_sheets, data, files, numbers};
+use commands::{bulk_journals, bulk_sheet, journals, model, sheet_inputs};
+use commands::{routes, self_check, sheets, time_numbers, time_sheets};
 use std::env;
 use std::process::ExitCode;
 
@@ -39,6 +44,15 @@ const USAGE: &str = "usage:
   oracle bulk-files COUNT SEED             compare the port's file functions with the Rust's
   oracle routes FILE                       write the vectors of path geometry and field
   oracle bulk-routes FILE COUNT SEED       write random routes in the same form, to be replayed
+  oracle sheets FILE                       write the vectors of whole sheets
+  oracle bulk-sheets COUNT SEED            compare the port's figures with the Rust's
+  oracle journals FILE                     write short journals of the desks with their answers
+  oracle sheet-inputs DIR                  write inputs of the program sheet with its outputs
+  oracle sheets-in FILE                    write the same inputs in a compact form
+  oracle bulk-journals COUNT SEED PROGRAM  compare the port's program replay with the model
+  oracle bulk-sheet COUNT SEED PROGRAM     compare the port's program sheet with the model
+  oracle replay, oracle sheet              answer standard input as the model does
+  oracle time-sheets                       time whole sheets and the Rust's parts of them
   oracle self-check                        hold the steps against the library's functions";
 
 fn main() -> ExitCode {
@@ -64,6 +78,16 @@ fn command(words: &[&str]) -> Result<(), String> {
         ["bulk-files", count, seed] => bulk_files::run(count, seed),
         ["routes", file] => routes::run(file),
         ["bulk-routes", file, count, seed] => bulk_routes::run(file, count, seed),
+        ["sheets", file] => sheets::run(file),
+        ["bulk-sheets", count, seed] => bulk_sheets::run(count, seed),
+        ["journals", file] => journals::run(file),
+        ["sheet-inputs", folder] => sheet_inputs::files(folder),
+        ["sheets-in", file] => sheet_inputs::compact(file),
+        ["bulk-journals", count, seed, program] => bulk_journals::run(count, seed, program),
+        ["bulk-sheet", count, seed, program] => bulk_sheet::run(count, seed, program),
+        ["replay"] => model::replay(),
+        ["sheet"] => model::sheet(),
+        ["time-sheets"] => time_sheets::run(),
         ["self-check"] => self_check::run(),
         _ => Err(String::from(USAGE)),
     }

@@ -1,5 +1,7 @@
 //! The port's exported functions, from its static library.
 
+use crate::reference_sheets::Sheet;
+
 macro_rules! exports {
     ($($symbol:literal $name:ident($($argument:ident: $type:ty),+) -> $answer:ty;)+) => {
         extern "C" {
@@ -45,4 +47,51 @@ exports! {
     "jt_hmym" hmym(
         file: *const u8, length: usize, ssn: f32, out: *mut f32, out_length: usize
     ) -> u32;
+}
+
+exports! {
+    "jt_figures" figures(
+        month: u32, ssn: f32, gmt: f32, tlat: f32, tlong: f32, rlat: f32, rlong: f32,
+        long_path: u32, psc_e: f32, psc_f1: f32, psc_f2: f32, psc_es: f32,
+        pole_lat: f32, pole_lon: f32,
+        record: *const u8, record_length: usize, file: *const u8, length: usize,
+        out: *mut f32, out_length: usize
+    ) -> u64;
+}
+
+/// The figures of a sheet. The answer is the number of points or, in the upper
+/// half, a refusal's number, with its place in the lower.
+pub fn sheet(sheet: &Sheet, record: &[u8], file: &[u8], out: &mut [f32]) -> u64 {
+    let Sheet {
+        month,
+        ssn,
+        gmt,
+        route,
+        psc: [e, f1, f2, es],
+    } = *sheet;
+    // SAFETY: start and length of three slices, `out` lent for writing.
+    unsafe {
+        figures(
+            month,
+            ssn,
+            gmt,
+            route.from.lat,
+            route.from.lon,
+            route.to.lat,
+            route.to.lon,
+            route.long.into(),
+            e,
+            f1,
+            f2,
+            es,
+            route.pole.lat,
+            route.pole.lon,
+            record.as_ptr(),
+            record.len(),
+            file.as_ptr(),
+            file.len(),
+            out.as_mut_ptr(),
+            out.len(),
+        )
+    }
 }

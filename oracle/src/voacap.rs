@@ -46,6 +46,12 @@ pub mod counted_geometry {
     source!("counted_geometry.rs");
 }
 
+/// The same source with its branches counted.
+#[allow(dead_code, clippy::all)]
+pub mod counted_ionosphere {
+    source!("counted_ionosphere.rs");
+}
+
 #[allow(dead_code)]
 pub mod data;
 #[allow(dead_code)]

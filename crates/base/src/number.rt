@@ -258,15 +258,16 @@ fn guess(b: u64) -> f64
     requires { ⌜ b < 2047 * 2 ^ 52 ⌝ }
 {
     let x = f64::from_bits(b);
-    // 1/√x to about 4, 10 and 21 binary digits; the constants spread the error to both sides
+    // 1/√x: a start from the halved bits, then to about 10 and to 21 binary digits; the constants
+    // spread the error to both sides
     let y0 = f64::from_bits(0x5fe4_0000_0000_0000 - b / 2);
     let y1 = y0 * 1.68191391 - x * 0.703952009 * y0 * (y0 * y0);
     let y2 = y1 * 1.500000316875 - x * 0.5 * y1 * (y1 * y1);
-    // √x to 10 digits, with zeros after the 26th, so that its square is exact
+    // √x to 10 digits, with nothing after the 26th, so that its square is exact
     let p = x * y1;
     let t = p * 134217729.0;
     let c = t - (t - p);
-    // √x to 21 digits, what its square leaves of x, and that over twice the root
+    // √x to 21 digits, what its square leaves of x, and that divided by about 2√x
     let s = x * y2;
     let rest = x - c * c - (s - c) * (s + c);
     s + rest * (y2 * 0.875 - x * 0.375 * y2 * (y2 * y2))
@@ -361,6 +362,7 @@ pub fn sqrt64(x: f64) -> f64
         return x;
     }
     let b = f64::to_bits(x);
+    // above zero, neither subnormal nor infinite
     if std::num::wrapping_sub_u64(b, 0x10_0000_0000_0000) < 0x7fe0_0000_0000_0000 {
         return normal_root(b);
     }

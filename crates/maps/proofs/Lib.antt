@@ -3,3 +3,14 @@ pub mod Loops
 pub mod SignRules
 pub mod PointCounts
 pub mod PointRows
+pub mod GeographicFunctions
+pub mod MapSeries
+pub mod Refills
+pub mod NoisySums
+pub mod Clock
+pub mod Sines
+pub mod Longitudes
+pub mod Checks
+pub mod Written
+pub mod Typed
+pub mod Alone

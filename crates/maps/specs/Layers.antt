@@ -34,7 +34,7 @@ use Rattle.maps.specs.Noisy.{noisyOf}
 abbrev pub sun : Float → Float → Sun
 sun a b = record { 0 = record { 0 = a }; 1 = record { 0 = b } }
 
--- 'Subsolar-point latitudes per month', in the digits of the Rust
+-- `SUN`: the two latitudes of the subsolar point in each month, in the digits of the Rust
 unfoldable pub SUN : List Sun
 SUN =
     sun (minusDecimal 2305 2) (minusDecimal 1731 2)
@@ -113,7 +113,7 @@ timvarOf s gmt cenlat cenlg =
 
 -- ---- EF1VAR
 
--- 'Bad map value: use the midnight value'
+-- the map's value, or where it is below 0.36 the one of midnight
 unfoldable pub gamma6Of : Float → Float → Float
 gamma6Of gamma6 ssn =
     cond (lt (gamma6 ⊖ decimal 36 2) (decimal 0 1)) (decimal 36 2 ⊗ sqrtOf binary32 (decimal 10 1 ⊕ decimal 98 4 ⊗ ssn)) gamma6
@@ -171,7 +171,7 @@ atLeastXf1 fc f = maxOf (fc ⊘ f) (decimal 11 1)
 unfoldable pub halfOver : Float → Float → Float
 halfOver y r = decimal 5 1 ⊗ y ⊗ (r ⊖ decimal 20 1)
 
--- 'Near day-night: force F1 up into F2 and the retardation to zero'. hm is the height of F2 without F1.
+-- within two degrees of zenmax: F1 rises into F2 and its retardation goes to zero. hm is the height that F2 would have alone.
 unfoldable pub twilightOf : Layer → Float → Float → Float → Float → Float → Float → Float → Merged
 twilightOf f1 ffec zmax z hm rat fc fi2 =
     let zn = zmax ⊖ decimal 20 1 in
@@ -191,7 +191,7 @@ twilightOf f1 ffec zmax z hm rat fc fi2 =
     (record { rft = rft; hi = hm ⊖ ym ⊖ dh ⊕ f1 .yi; yi = f1 .yi }))
     (record { rft = rft; hi = f1 .hi; yi = f1 .yi })
 
--- an F1 layer's part of the retardation, its height and its semithickness: 'Away from twilight: plain F1 retardation'
+-- an F1 layer's part of the retardation, its height and its semithickness: merged only within two degrees of zenmax
 unfoldable pub mergedOf : Layer → Float → Float → Float → Float → Float → Float → Merged
 mergedOf f1 zmax z hm rat fc fi2 =
     let ffec = atLeastXf1 fc (f1 .fi) in
@@ -203,7 +203,7 @@ mergedOf f1 zmax z hm rat fc fi2 =
 unfoldable pub eRetardation : Layer → Float → Float
 eRetardation e fc = (retardOf (atLeastXf1 fc (e .fi)) ⊖ decimal 20 1) ⊗ e .yi
 
--- the F1 layer, with 'F1 must be less than F2'
+-- the F1 layer, its frequency kept under that of F2
 unfoldable pub belowF2 : Layer → Float → Layer
 belowF2 f1 fi2 = record { fi = minOf (f1 .fi) (fi2 ⊖ decimal 2 1); yi = f1 .yi; hi = f1 .hi }
 

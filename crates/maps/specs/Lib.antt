@@ -6,3 +6,5 @@ pub mod Virtim
 pub mod Versy
 pub mod Noisy
 pub mod Layers
+pub mod Ionosphere
+pub mod Figures

@@ -2,10 +2,11 @@
 use Prim.Native.Nat.{ℕ, zero, suc, _+_, _*_}
 use mathlib.Core.Bool.{Bool, cond}
 use mathlib.Core.List.{List}
-use lib.ListN.{getD}
+use lib.ListN.{getD, replicate}
 use lib.Ieee.{Float, nan}
 use Rattle.base.specs.Single.{_⊕_, _⊖_, _⊗_, decimal}
 use Rattle.base.specs.Elementary.{sin32Of, cos32Of}
+use Rattle.base.specs.Fill.{fill}
 
 -- plane[k][j]
 abbrev pub inPlane : List Float → ℕ → ℕ → Float
@@ -47,3 +48,17 @@ noisySum lm ln plane alf bet xla ceg =
 -- `noisy(plane, &[alf, bet], ratio_map, xla, ceg)`: (lm, ln) = if ratio_map { (15, 10) } else { (29, 15) }
 unfoldable pub noisyOf : List Float → Float → Float → Bool → Float → Float → Float
 noisyOf plane alf bet ratioMap xla ceg = cond ratioMap (noisySum 15 10 plane alf bet xla ceg) (noisySum 29 15 plane alf bet xla ceg)
+
+-- ---- the arrays on the way; past what is filled they keep the 0.0 they are made of
+
+-- sx: the sines of 1 to n times an angle
+unfoldable pub sxOf : Float → Float → ℕ → List Float
+sxOf s1 c1 n = fill (λ k. turnOf s1 c1 k .sine) 0 (replicate 15 (decimal 0 1)) n
+
+-- l with f j z in the place of z, the j-th, for each of its first n
+unfoldable pub each : (ℕ → Float → Float) → List Float → ℕ → List Float
+each f l n = fill (λ j. f j (getD l j nan)) 0 l n
+
+-- zz: the first lm columns
+unfoldable pub columnsOf : List Float → List Float → ℕ → ℕ → List Float
+columnsOf sx plane ln lm = fill (zzOf (λ k. getD sx k nan) plane ln) 0 (replicate 29 (decimal 0 1)) lm

@@ -1,18 +1,21 @@
 -- `versy` of ionosphere.rs, as the map series of CCIR Report 340: a map's value is the sum of its time coefficients, each times a geographic
 -- function of the place, and the geographic functions are given in closed form from the map's ladder of words. Assumes nothing.
-use Prim.Native.Nat.{ℕ, zero, suc, _+_, _-_, _/_, _%_}
+use Prim.Native.Nat.{ℕ, zero, suc, _+_, _-_, _*_, _/_, _%_}
 use mathlib.Core.Bool.{cond}
 use mathlib.Core.List.{List}
 use lib.Dec.{eqb, leb}
 use lib.IntN.{pos}
-use lib.ListN.{getD}
+use lib.ListN.{getD, replicate}
 use lib.Ieee.{Float, nan, binary32, ofInt, mul}
 use Rattle.base.specs.Double.{_⊕_, _⊗_, fraction}
 use Rattle.base.specs.Number.{narrowOf}
 use Rattle.base.specs.Elementary.{sinOf, cosOf}
+use Rattle.base.specs.Fill.{fill, run}
 use Rattle.base.specs.Index.{mapWord}
 use Rattle.base.specs.Blend.{IC}
 use Rattle.maps.specs.declared.ionosphere.versy.Gammas.{Gammas}
+use Rattle.maps.specs.declared.ionosphere.versy.Sums.{Sums}
+use Rattle.maps.specs.declared.ionosphere.versy.Triple.{Triple}
 
 -- ---- the geographic functions
 
@@ -33,7 +36,7 @@ cxOf gob zero = fraction 1 1
 cxOf gob (suc zero) = gob
 cxOf gob (suc (suc j)) = cxOf gob (suc j) ⊗ gob
 
--- `t` of the harmonic j: clg, then 'a single-precision product widened to double'
+-- `t` of the harmonic j: clg, then j * clg as an f32
 unfoldable pub tOf : Float → ℕ → Float
 tOf clg j = cond (eqb j 1) clg (mul binary32 (ofInt binary32 (pos j)) clg)
 
@@ -59,6 +62,45 @@ geographicFrom w sx gob clg (suc n) j k =
 unfoldable pub geographicOf : (ℕ → ℕ) → Float → Float → Float → ℕ → Float
 geographicOf w sx gob clg k = cond (leb k (w 0)) (powerOf sx k) (geographicFrom w sx gob clg 8 1 k)
 
+-- ---- the same functions in an array, 'filled along the index ladder'
+
+-- the waves of the harmonics 1 to 8: cosine, sine, cosine, ..
+unfoldable pub waveAt : Float → Float → ℕ → Float
+waveAt gob clg i = cond (eqb (i % 2) 0) (cosWave gob clg (i / 2 + 1)) (sinWave gob clg (i / 2 + 1))
+
+unfoldable pub wavesOf : Float → Float → List Float
+wavesOf gob clg = run (waveAt gob clg) 16
+
+-- the function i of a harmonic from its two waves
+unfoldable pub rungOf : Float → Float → Float → ℕ → Float
+rungOf sx c s i = raised sx (i / 2) (cond (eqb (i % 2) 0) c s)
+
+-- '76 numbers set to 0 first'
+unfoldable pub zeros : List Float
+zeros = replicate 76 (fraction 0 1)
+
+-- after the word j of the ladder w, n harmonics may still come: those of the next one stand in the places after the word j up to the next
+unfoldable pub filledFrom : (ℕ → ℕ) → Float → Float → Float → ℕ → ℕ → List Float → List Float
+filledFrom w sx gob clg zero j g = g
+filledFrom w sx gob clg (suc n) j g =
+    cond (eqb (w (j + 1)) (w j)) g
+    (filledFrom w sx gob clg n (j + 1) (fill (harmonicOf sx gob clg (j + 1)) (w j + 1) g (w (j + 1) - w j)))
+
+unfoldable pub filledOf : (ℕ → ℕ) → Float → Float → Float → List Float
+filledOf w sx gob clg = filledFrom w sx gob clg 8 0 (fill (powerOf sx) 0 zeros (w 0 + 1))
+
+-- the ladder's last word
+unfoldable pub topFrom : (ℕ → ℕ) → ℕ → ℕ → ℕ
+topFrom w zero j = w j
+topFrom w (suc n) j = cond (eqb (w (j + 1)) (w j)) (w j) (topFrom w n (j + 1))
+
+unfoldable pub topOf : (ℕ → ℕ) → ℕ
+topOf w = topFrom w 8 0
+
+-- the number i of an array
+abbrev pub elements : List Float → ℕ → Float
+elements g i = getD g i nan
+
 -- ---- the series
 
 -- gamma after the terms 0 to n, `at` being the first one's place in AB: the first alone, then each addition in f64 and narrowed at once
@@ -66,11 +108,36 @@ unfoldable pub gammaOf : List Float → ℕ → (ℕ → Float) → ℕ → Floa
 gammaOf ab at g zero = narrowOf (g 0 ⊗ getD ab at nan)
 gammaOf ab at g (suc n) = narrowOf (gammaOf ab at g n ⊕ getD ab (at + suc n) nan ⊗ g (suc n))
 
+-- gamma before it is narrowed
+unfoldable pub sumOf : List Float → ℕ → (ℕ → Float) → ℕ → Float
+sumOf ab at g zero = g 0 ⊗ getD ab at nan
+sumOf ab at g (suc n) = narrowOf (sumOf ab at g n) ⊕ getD ab (at + suc n) nan ⊗ g (suc n)
+
+-- the value of the map k, counted from 0, whose geographic functions are g
+unfoldable pub seriesOf : List Float → List ℕ → ℕ → (ℕ → Float) → Float
+seriesOf ab index k g = gammaOf ab (getD IC k 0 - 1) g (mapWord index k 8)
+
 -- the value of the map iz, 1 to 6; its last term is word 8
 unfoldable pub versyOf : List Float → List ℕ → ℕ → Float → Float → Float → Float
 versyOf ab index iz x clg gob =
     let w = mapWord index (iz - 1) in
     gammaOf ab (getD IC (iz - 1) 0 - 1) (geographicOf w (sinOf x) gob clg) (w 8)
+
+-- three sums at once
+abbrev pub sumsOf : List Float → ℕ → (ℕ → Float) → ℕ → (ℕ → Float) → ℕ → (ℕ → Float) → ℕ → Sums
+sumsOf ab i g j h k l n = record { a = sumOf ab i g n; b = sumOf ab j h n; c = sumOf ab k l n }
+
+-- the maps k, k + 1 and k + 2, from their geographic functions
+unfoldable pub threeOf : List Float → List ℕ → ℕ → (ℕ → Float) → (ℕ → Float) → (ℕ → Float) → Triple
+threeOf ab index k g h l = record { a = seriesOf ab index k g; b = seriesOf ab index (k + 1) h; c = seriesOf ab index (k + 2) l }
+
+-- the same at a place: sx for the first two, sz for the third
+unfoldable pub threeAt : List Float → List ℕ → ℕ → Float → Float → Float → Float → Triple
+threeAt ab index k sx sz gob clg =
+    threeOf ab index k
+    (geographicOf (mapWord index k) sx gob clg)
+    (geographicOf (mapWord index (k + 1)) sx gob clg)
+    (geographicOf (mapWord index (k + 2)) sz gob clg)
 
 -- the six maps at a place: the E map at its latitude, the others at its dip
 unfoldable pub gammasOf : List Float → List ℕ → Float → Float → Float → Float → Gammas

@@ -8,9 +8,10 @@ use Rattle.base.specs.declared.angle.Radians.{Radians}
 use Rattle.base.specs.Single.{_⊕_, _⊖_, _⊗_, decimal}
 use Rattle.base.specs.Angle.{radiansOf}
 use Rattle.base.specs.Elementary.{sin32Of, cos32Of}
-use Rattle.base.specs.Fill.{fill}
+use Rattle.base.specs.Fill.{fill, run}
 use Rattle.base.specs.Index.{mapWord, rows, harmonics, GoodIndex}
 use Rattle.base.specs.Blend.{IA, IB, IC}
+use Rattle.maps.specs.declared.ionosphere.virtim.Waves.{Waves}
 use Rattle.maps.specs.Loop.{loop}
 
 -- every map of the index table passed the index check
@@ -36,6 +37,14 @@ waveOf c s (suc jb) =
 unfoldable pub hourWave : Float → ℕ → Wave
 hourWave gmt jb = let time = timeOf gmt .0 in waveOf (cos32Of time) (sin32Of time) jb
 
+-- the arrays c and s
+unfoldable pub hourWaves : Float → Waves
+hourWaves gmt = record { c = run (λ jb. hourWave gmt jb .c) 8; s = run (λ jb. hourWave gmt jb .s) 8 }
+
+-- c[jb] and s[jb] of two arrays
+unfoldable pub waveIn : List Float → List Float → ℕ → Wave
+waveIn c s jb = record { c = getD c jb nan; s = getD s jb nan }
+
 -- `value` after ka harmonics: cof[at], then value + s[ka] * cof[at + 2 * ka + 1] + c[ka] * cof[at + 2 * ka + 2]
 unfoldable pub valueOf : (ℕ → Wave) → List Float → ℕ → ℕ → Float
 valueOf v cof at zero = getD cof at nan
@@ -45,6 +54,10 @@ valueOf v cof at (suc ka) =
 -- the value of the row j of the map iz: its coefficients start at IA + j * IB, and word 9 is its number of harmonics
 unfoldable pub rowValue : (ℕ → Wave) → List Float → List ℕ → ℕ → ℕ → Float
 rowValue v cof index iz j = valueOf v cof (getD IA iz 0 - 1 + j * getD IB iz 0) (mapWord index iz 9)
+
+-- a map's rows 0 to word 8, put into AB from IC on
+unfoldable pub timeMapOf : (ℕ → Wave) → List Float → List ℕ → ℕ → List Float → List Float
+timeMapOf v cof index iz ab = fill (rowValue v cof index iz) (getD IC iz 0 - 1) ab (mapWord index iz 8 + 1)
 
 -- for each map the rows 0 to word 8 are put into AB from IC on; the other numbers of AB are 0.0
 unfoldable pub virtimOf : List Float → List ℕ → Float → List Float

@@ -7,7 +7,7 @@ mod odd;
 mod ordinary;
 mod searched;
 
-use crate::branches::{self, Side, BRANCHES};
+use crate::branches::{self, Counts};
 use crate::month_file::push_words;
 use crate::reference_routes::{counted, plain, Route};
 use std::fs;
@@ -20,15 +20,14 @@ const NAME_BYTES: usize = 32;
 /// A group's name and its routes.
 type Group = (&'static str, Vec<Route>);
 
-/// For each condition, how often it was false and how often true.
-type Counts = [[u64; 2]; BRANCHES.len()];
+const COUNTED: [&str; 2] = ["magnetic.rs", "geometry.rs"];
 
 pub fn run(file: &str) -> Result<(), String> {
     let groups = groups();
     let (bytes, counts) = vectors(&groups)?;
     print_groups(&groups);
-    print_branches(&counts);
-    refuse_untaken(&counts)?;
+    branches::print(&counts, &COUNTED);
+    branches::refuse_untaken(&counts, &COUNTED, &[])?;
     println!("{} rows, {} bytes", bytes.len() / 4 / WORDS, bytes.len());
     fs::write(file, bytes).map_err(|e| format!("cannot write {file}: {e}"))
 }
@@ -54,15 +53,7 @@ fn vectors(groups: &[Group]) -> Result<(Vec<u8>, Counts), String> {
             push_words(&mut bytes, &row(route)?);
         }
     }
-    Ok((bytes, counts(&branches::take())))
-}
-
-fn counts(trail: &[Side]) -> Counts {
-    let mut counts = [[0; 2]; BRANCHES.len()];
-    for (branch, holds) in trail {
-        counts[*branch][usize::from(*holds)] += 1;
-    }
-    counts
+    Ok((bytes, branches::counts(&branches::take())))
 }
 
 /// The name's bytes, filled up with zeros.
@@ -93,33 +84,16 @@ fn print_groups(groups: &[Group]) {
     println!("{:<NAME_BYTES$} {total:>4} routes", "in all");
 }
 
-fn print_branches(counts: &Counts) {
-    println!("{:<17} {:>7} {:>7}  condition", "line", "true", "false");
-    for ((file, line, condition), [no, yes]) in BRANCHES.iter().zip(counts) {
-        println!("{file:<12} {line:>4} {yes:>7} {no:>7}  {condition}");
-    }
-}
-
-fn refuse_untaken(counts: &Counts) -> Result<(), String> {
-    for ((file, line, condition), [no, yes]) in BRANCHES.iter().zip(counts) {
-        if *no == 0 || *yes == 0 {
-            return Err(format!(
-                "{file}:{line}: {condition} never goes the other way"
-            ));
-        }
-    }
-    Ok(())
-}
-
 #[cfg(test)]
 mod tests {
-    use super::{groups, refuse_untaken, vectors, HEADING};
+    use super::{groups, vectors, COUNTED, HEADING};
+    use crate::branches::refuse_untaken;
 
     #[test]
     fn vectors_take_every_branch_and_are_the_same_each_time() {
         let groups = groups();
         let (bytes, counts) = vectors(&groups).expect("both variants agree");
-        assert_eq!(refuse_untaken(&counts), Ok(()));
+        assert_eq!(refuse_untaken(&counts, &COUNTED, &[]), Ok(()));
         assert!(bytes.len() < 200_000, "{} bytes", bytes.len());
         for (_, routes) in groups {
             assert!(routes.iter().all(|route| route.words()[0] != HEADING));

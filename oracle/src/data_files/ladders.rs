@@ -38,6 +38,48 @@ pub const SHORT: IndexTable = [
     [3, 9, 13, 13, 0, 0, 0, 0, 17, 4],
 ];
 
+/// Ladders that end at once: powers of the sine and no longitude. Word 8
+/// stands at, below and above the last power.
+pub const AT_ONCE: IndexTable = [
+    [1, 1, 0, 0, 0, 0, 0, 0, 54, 2],
+    [60, 60, 76, -1, 0, i32::MAX, 9, 9, 60, 3],
+    [75, 75, 75, 75, 75, 75, 75, 75, 54, 2],
+    [75, 75, 1, 2, 3, 4, 5, 6, 75, 6],
+    [2, 2, 3, 4, 5, 6, 7, 8, 48, 4],
+    [7, 7, 9, 11, 13, 15, 17, 19, 4, 3],
+];
+
+/// Eight harmonics of longitude with as few and as many terms to each as
+/// there can be, and ladders up to 75.
+pub const LONGEST: IndexTable = [
+    [38, 40, 42, 44, 46, 48, 50, 52, 54, 2],
+    [63, 65, 67, 69, 71, 73, 75, 75, 60, 3],
+    [1, 13, 23, 31, 37, 43, 47, 51, 53, 2],
+    [59, 61, 63, 65, 67, 69, 71, 73, 75, 6],
+    [2, 4, 6, 8, 10, 12, 14, 16, 48, 4],
+    [1, 3, 9, 11, 13, 15, 17, 19, 21, 4],
+];
+
+/// Word 8 beyond the ladder's end, so that zeros of the basis are read.
+pub const BEYOND: IndexTable = [
+    [3, 5, 5, 0, 0, 0, 0, 0, 54, 2],
+    [6, 16, 16, 17, 0, 0, 0, 0, 60, 3],
+    [2, 8, 12, 12, 0, 0, 0, 0, 53, 1],
+    [5, 17, 27, 35, 41, 41, 0, 0, 75, 6],
+    [4, 10, 10, 10, 0, 0, 0, 0, 48, 4],
+    [1, 3, 5, 5, 0, 0, 0, 0, 21, 4],
+];
+
+/// One term of each map, without a harmonic of time.
+pub const LEAST: IndexTable = [
+    [1, 1, 0, 0, 0, 0, 0, 0, 0, 0],
+    [8, 26, 38, 46, 50, 54, 54, 54, 0, 0],
+    [2, 4, 4, 4, 4, 4, 4, 4, 0, 0],
+    [75, 75, 75, 75, 75, 75, 75, 75, 0, 0],
+    [1, 75, 75, 75, 75, 75, 75, 75, 0, 0],
+    [61, 63, 65, 67, 69, 71, 73, 73, 0, 0],
+];
+
 /// A random table that passes.
 pub fn good(random: &mut Generator) -> IndexTable {
     from_fn(|map| good_map(random, map))
@@ -124,13 +166,13 @@ fn other_word(random: &mut Generator, map: usize, old: i32) -> i32 {
 
 #[cfg(test)]
 mod tests {
-    use super::{good, near_good, LONG, SHORT, USUAL};
+    use super::{good, near_good, AT_ONCE, BEYOND, LEAST, LONG, LONGEST, SHORT, USUAL};
     use crate::generator::Generator;
     use crate::index_check::answer;
 
     #[test]
     fn good_tables_pass() {
-        for table in [USUAL, LONG, SHORT] {
+        for table in [USUAL, LONG, SHORT, AT_ONCE, LONGEST, BEYOND, LEAST] {
             assert_eq!(answer(&table), (0, 0));
         }
         let mut random = Generator::new(1);

@@ -11,7 +11,7 @@ thread_local! {
 }
 
 /// Holds `bytes` as the file `path`, as in `coeffs/coeff01w.bin`.
-pub fn put(path: &str, bytes: Vec<u8>) {
+pub fn put(path: &str, bytes: impl Into<Rc<[u8]>>) {
     FILES.with_borrow_mut(|files| files.insert(path.to_owned(), bytes.into()));
 }
 

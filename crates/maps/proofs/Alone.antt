@@ -1,0 +1,108 @@
+-- A sheet's figures come from its inputs, its record and its month file alone: whatever the buffer held, all of it is overwritten or none. And of the inputs
+-- the path, its points, the field there and the ground take route and pole only. Read off the definitions. Assumes nothing.
+use mathlib.Core.Path.{_≡_, refl, sym, ap, _∙_}
+use mathlib.Core.Bool.{Bool, true, false, cond}
+use mathlib.Core.List.{List, [], _∷_, _++_}
+use Prim.Native.Nat.{ℕ, zero, suc, _+_, _*_}
+use native.Mathlib.Omega.{arith}
+use lib.Dec.{ltb}
+use lib.ListN.{length, getD, take, drop, replicate, length-append}
+use lib.Ieee.{Float, nan}
+use Rattle.base.specs.declared.refusal.Refusal.{Refusal}
+use Rattle.base.specs.declared.refusal.Verdict.{Verdict}
+use Rattle.base.specs.declared.refusal.Verdict.the-variants.{Accepted, Refused}
+use Rattle.base.specs.Single.{decimal}
+use Rattle.maps.specs.declared.figures.Inputs.{Inputs}
+use Rattle.maps.specs.declared.figures.Route.{Route}
+use Rattle.base.specs.declared.constants.MagneticPole.{MagneticPole}
+use Rattle.maps.specs.declared.geometry.ControlPoint.{ControlPoint}
+use Rattle.maps.specs.declared.geometry.PathGeometry.{PathGeometry}
+use Rattle.maps.specs.Geometry.{pathOf, nowhere}
+use Rattle.maps.specs.Layers.{monthlyOf, groundOf}
+use Rattle.maps.specs.Ionosphere.{writtenOver}
+use Rattle.maps.specs.Figures.{figuresCheck, Hour, hourOf, headOf, numbersOf, pointRow, rowAt, figuresTo, routeOf, figuresOf, answerOf, shownOf, bufferAfter}
+
+-- ---- 151 of them
+
+pub row-length : (h : Hour) (i : Inputs) (g : PathGeometry) (p : ℕ) → length (rowAt h i g p) ≡ 29
+unfolding rowAt pointRow numbersOf
+row-length h i g p = go (ltb p (g .count))
+  where
+    go : (b : Bool) → length (cond b (pointRow h i (getD (g .points) p nowhere)) (replicate 29 (decimal 0 1))) ≡ 29
+    go true = refl
+    go false = refl
+
+to-length : (h : Hour) (i : Inputs) (g : PathGeometry) (p : ℕ) → length (figuresTo h i g p) ≡ 6 + 29 * p
+unfolding figuresTo headOf
+to-length h i g zero = refl
+to-length h i g (suc p) =
+    length-append (figuresTo h i g p) (rowAt h i g p)
+    ∙ (let a = to-length h i g p in let b = row-length h i g p in omega arith)
+
+module _ (f2 file : List ℕ) (i : Inputs) where
+  pub figures-length : length (figuresOf f2 file i) ≡ 151
+  unfolding figuresOf
+  figures-length = to-length _ i _ 5
+
+  -- ---- from nothing else
+
+  -- the answer takes of the buffer its length only
+  pub same-answer : (b c : List Float) → length b ≡ length c → shownOf f2 file i b ≡ shownOf f2 file i c
+  unfolding shownOf
+  same-answer b c e = ap (λ (n : ℕ). answerOf (figuresCheck f2 file n) (routeOf i .count)) e
+
+  -- accepted, every number is one of the figures, whatever the buffer held
+  pub all-written : (b : List Float) → figuresCheck f2 file (length b) ≡ Accepted → bufferAfter f2 file i b ≡ figuresOf f2 file i
+  unfolding bufferAfter
+  all-written b e = ap (λ (v : Verdict). writtenOver v (figuresOf f2 file i) b) e
+
+  pub same-figures :
+      (b c : List Float) → length b ≡ length c → figuresCheck f2 file (length b) ≡ Accepted → bufferAfter f2 file i b ≡ bufferAfter f2 file i c
+  same-figures b c e a = all-written b a ∙ sym (all-written c (ap (figuresCheck f2 file) (sym e) ∙ a))
+
+  -- refused, none
+  pub none-written : (b : List Float) (why : Refusal) → figuresCheck f2 file (length b) ≡ Refused why → bufferAfter f2 file i b ≡ b
+  unfolding bufferAfter
+  none-written b why e = ap (λ (v : Verdict). writtenOver v (figuresOf f2 file i) b) e
+
+-- ---- path and pole
+
+-- the first seven numbers of a row are its point and the field there, the last two its ground
+abbrev pub placed : List Float → List Float
+placed row = take 7 row ++ drop 27 row
+
+placed-same : (h k : Hour) (i j : Inputs) (g : PathGeometry) (p : ℕ) →
+    ((pt : ControlPoint) → placed (pointRow h i pt) ≡ placed (pointRow k j pt)) →
+    placed (rowAt h i g p) ≡ placed (rowAt k j g p)
+unfolding rowAt
+placed-same h k i j g p f = go (ltb p (g .count))
+  where
+    go : (b : Bool) →
+        placed (cond b (pointRow h i (getD (g .points) p nowhere)) (replicate 29 (decimal 0 1)))
+        ≡
+        placed (cond b (pointRow k j (getD (g .points) p nowhere)) (replicate 29 (decimal 0 1)))
+    go true = f (getD (g .points) p nowhere)
+    go false = refl
+
+point-placed : (f2 f2' file : List ℕ) (i j : Inputs) (pt : ControlPoint) →
+    placed (pointRow (hourOf f2 file i) i pt) ≡ placed (pointRow (hourOf f2' file j) j pt)
+unfolding pointRow numbersOf hourOf groundOf monthlyOf
+point-placed f2 f2' file i j pt = refl
+
+module _ (f2 f2' file : List ℕ) (i j : Inputs) (same-route : i .route ≡ j .route) (same-pole : i .pole ≡ j .pole) where
+  same-path : routeOf i ≡ routeOf j
+  unfolding routeOf
+  same-path =
+      ap (λ (r : Route). pathOf (r .tlat) (r .tlong) (r .rlat) (r .rlong) (r .«long_path») (i .pole)) same-route
+      ∙ ap (λ (p : MagneticPole). pathOf (j .route .tlat) (j .route .tlong) (j .route .rlat) (j .route .rlong) (j .route .«long_path») p) same-pole
+
+  -- the six figures of the path
+  pub same-head : headOf (routeOf i) ≡ headOf (routeOf j)
+  same-head = ap headOf same-path
+
+  -- and of every row the point, the field and the ground, from one month file: whatever the month, the sunspot number, the hour, the factors and the F2 record
+  pub path-and-pole :
+      (p : ℕ) → placed (rowAt (hourOf f2 file i) i (routeOf i) p) ≡ placed (rowAt (hourOf f2' file j) j (routeOf j) p)
+  path-and-pole p =
+      placed-same (hourOf f2 file i) (hourOf f2' file j) i j (routeOf i) p (point-placed f2 f2' file i j)
+      ∙ ap (λ (g : PathGeometry). placed (rowAt (hourOf f2' file j) j g p)) same-path

@@ -1,0 +1,12 @@
+-- One call with the route's fields.
+use borrow.Author.Needs.{needs}
+use Rattle.maps.specs.Figures.{routeOf}
+use Rattle.maps.proofs.figures.path.Statement.{statement}
+use Rattle.maps.proofs.figures.path.Tie as tie
+
+returns : tie.Need-returns
+unfolding routeOf
+returns c = search needs
+
+pub path-spec : {M : Type 1} → statement M
+path-spec = tie.close (tie.spec (λ c κs. search needs) returns)

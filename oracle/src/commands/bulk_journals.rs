@@ -1,0 +1,74 @@
+//! `bulk-journals COUNT SEED PROGRAM`: the port's program `replay` beside the
+//! model over random journals, whole outputs byte by byte.
+
+use crate::commands::journals::counts::Counts;
+use crate::commands::journals::hold_to_demand_3;
+use crate::commands::program::Compared;
+use crate::commands::whole;
+use crate::desks::lent::Lent;
+use crate::desks::programs::{in_full, replay_text, replay_with, CALLS};
+use crate::desks::Worksheet;
+use crate::generator::Generator;
+use crate::journal_kinds::{any_field, bad_inputs, bytes, damaged, files, list, NO_CALLS};
+use crate::month_file::push_words;
+use crate::sheet_kinds::{in_range, one_of};
+
+/// Journals for each pair of files.
+const JOURNALS: u64 = 10;
+
+pub fn run(count: &str, seed: &str, program: &str) -> Result<(), String> {
+    let (count, seed) = (whole(count)?, whole(seed)?);
+    let mut compared = Compared::new(program);
+    let mut counts = Counts::default();
+    for case in 0..count.div_ceil(JOURNALS) {
+        // A seed of its own, so that a case can be found again.
+        let mut random = Generator::new(seed.wrapping_mul(1 << 32) ^ case);
+        let pair = files(&mut random);
+        let month = match random.below(8) {
+            0 => damaged(&mut random, &pair.month),
+            _ => pair.month,
+        };
+        let lent = Lent::new(&pair.daw, &month);
+        let files = [pair.daw, month].concat();
+        for number in 0..JOURNALS.min(count - case * JOURNALS) {
+            let input = journal(&mut random, &files);
+            let replayed = replay_with(&lent, &input);
+            let name = format!("journal {number} of case {case}");
+            let held = hold_to_demand_3(&mut random, &replayed, &lent);
+            held.map_err(|text| format!("{name}: {text}"))?;
+            counts.note(&replayed);
+            compared.note(&name, &input, &replay_text(&replayed, in_full))?;
+        }
+    }
+    counts.print();
+    compared.report()
+}
+
+/// Mostly 40 to 200 calls; some opens are refused, some journals end with what
+/// is no call, some are cut before their calls.
+fn journal(random: &mut Generator, files: &[u8]) -> Vec<u8> {
+    let good = in_range(random).words();
+    let opened = Worksheet::open(good).expect("in range");
+    let field = any_field(random);
+    let inputs = match random.below(16) {
+        0 => bad_inputs(random, field),
+        _ => good,
+    };
+    let count = 40 + random.below(161);
+    let calls = list(random, &opened, count);
+    let last = calls.iter().fold(opened, |sheet, call| sheet.after(call));
+    let mut input = Vec::with_capacity(CALLS);
+    push_words(&mut input, &inputs);
+    input.extend(files);
+    input.extend(bytes(&calls));
+    match random.below(16) {
+        0 | 1 => {
+            let (_, no_call) = one_of(random, &NO_CALLS);
+            input.extend(no_call(random, &last));
+        }
+        2 => input.truncate(random.below(60) as usize),
+        3 => input.truncate(random.below(CALLS as u64 + 8) as usize),
+        _ => {}
+    }
+    input
+}

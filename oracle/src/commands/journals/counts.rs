@@ -1,0 +1,152 @@
+//! How often each call has got each answer.
+
+use crate::desks::lent::Shown;
+use crate::desks::programs::Replayed;
+use crate::desks::{Answer, Call, Edit, Refusal};
+use std::collections::BTreeMap;
+use std::rc::Rc;
+
+const DRAFTS: [&str; 8] = [
+    "change sunspots",
+    "change hour",
+    "change path",
+    "change factors",
+    "change pole",
+    "commit",
+    "cancel",
+    "show a draft",
+];
+
+/// The refusals of fields by a change, and by an open in its order.
+const BY_CHANGES: [(&str, u32, u32); 12] = [
+    ("change sunspots", 2, 2),
+    ("change hour", 3, 3),
+    ("change path", 4, 4),
+    ("change path", 5, 5),
+    ("change path", 4, 6),
+    ("change path", 5, 7),
+    ("change factors", 6, 9),
+    ("change factors", 6, 10),
+    ("change factors", 6, 11),
+    ("change factors", 6, 12),
+    ("change pole", 4, 13),
+    ("change pole", 5, 14),
+];
+const BY_OPEN: [u32; 14] = [1, 2, 3, 4, 5, 4, 5, 7, 6, 6, 6, 6, 4, 5];
+
+#[derive(Default)]
+pub struct Counts {
+    counts: BTreeMap<(&'static str, String), u64>,
+}
+
+impl Counts {
+    pub fn note(&mut self, replayed: &Replayed) {
+        self.add("open", text_of(replayed.opened.as_ref().err()));
+        for (call, answer) in replayed.calls.iter().zip(&replayed.answers) {
+            let text = match answer {
+                Answer::Accepted => text_of(None),
+                Answer::Refused(refusal) => text_of(Some(refusal)),
+                Answer::Points(shown) => points(shown),
+            };
+            self.add(name(call), text);
+        }
+        if replayed.stopped.is_some() {
+            self.add("no call", String::from("stopped"));
+        }
+    }
+
+    /// What the program `sheet` answers.
+    pub fn note_sheet(&mut self, answer: &Result<Rc<Shown>, Refusal>) {
+        let text = match answer {
+            Ok(shown) => points(shown),
+            Err(refusal) => text_of(Some(refusal)),
+        };
+        self.add("sheet", text);
+    }
+
+    fn add(&mut self, name: &'static str, answer: String) {
+        *self.counts.entry((name, answer)).or_insert(0) += 1;
+    }
+
+    pub fn print(&self) {
+        for ((name, answer), count) in &self.counts {
+            println!("{count:>10}  {name}: {answer}");
+        }
+    }
+
+    pub fn of(&self, name: &'static str, answer: &str) -> u64 {
+        let key = (name, answer.to_owned());
+        self.counts.get(&key).copied().unwrap_or(0)
+    }
+
+    /// Every answer that a call can get from good files must have come, those
+    /// of an open at least `opens` times.
+    pub fn refuse_rare(&self, least: u64, opens: u64) -> Result<(), String> {
+        let rare = |(name, answer): &(&'static str, String)| {
+            let least = if *name == "open" { opens } else { least };
+            self.of(name, answer) < least
+        };
+        match possible().iter().find(|key| rare(key)) {
+            Some((name, answer)) => Err(format!("{name}: {answer} is too rare")),
+            None => Ok(()),
+        }
+    }
+}
+
+fn name(call: &Call) -> &'static str {
+    match call {
+        Call::Begin(_) => "begin",
+        Call::Change(_, Edit::Sunspots(_)) => "change sunspots",
+        Call::Change(_, Edit::Hour(_)) => "change hour",
+        Call::Change(_, Edit::Path { .. }) => "change path",
+        Call::Change(_, Edit::Factors(_)) => "change factors",
+        Call::Change(_, Edit::Pole(_)) => "change pole",
+        Call::Commit(_) => "commit",
+        Call::Cancel(_) => "cancel",
+        Call::TakeBack => "take back",
+        Call::Show(0, _) => "show the worksheet",
+        Call::Show(..) => "show a draft",
+    }
+}
+
+fn points(shown: &Shown) -> String {
+    format!("points {}", shown.points)
+}
+
+/// The places of 9 and 10 are many and stand as one.
+fn text_of(refusal: Option<&Refusal>) -> String {
+    match refusal {
+        Some(Refusal {
+            number: number @ (9 | 10),
+            ..
+        }) => format!("refused {number} at a byte"),
+        Some(Refusal { number, place }) => format!("refused {number} {place}"),
+        None => String::from("accepted"),
+    }
+}
+
+/// What each call can answer when its files are good and its buffer is right.
+fn possible() -> Vec<(&'static str, String)> {
+    let refused = |number: u32, place: u32| text_of(Some(&Refusal { number, place }));
+    let accepted = || text_of(None);
+    let mut all = vec![
+        ("open", accepted()),
+        ("begin", accepted()),
+        ("begin", refused(14, 0)),
+        ("begin", refused(15, 0)),
+        ("commit", refused(17, 0)),
+        ("take back", accepted()),
+        ("take back", refused(18, 0)),
+        ("no call", String::from("stopped")),
+    ];
+    all.extend(DRAFTS.map(|name| (name, refused(14, 0))));
+    all.extend(DRAFTS.map(|name| (name, refused(16, 0))));
+    all.extend(DRAFTS[..7].iter().map(|name| (*name, accepted())));
+    for name in ["show the worksheet", "show a draft"] {
+        all.extend([1, 3, 5].map(|points| (name, format!("points {points}"))));
+    }
+    all.extend(BY_CHANGES.map(|(name, number, place)| (name, refused(number, place))));
+    let by_open = (1..).zip(BY_OPEN);
+    all.extend(by_open.map(|(place, number)| ("open", refused(number, place))));
+    all
+}
