@@ -3,3 +3,4 @@
 // other machines'.
 pub mod files;
 pub mod numbers;
+pub mod sheets;

@@ -24,7 +24,7 @@ fn next(fd: i32) -> u32 {
     coefficients::word(&four, 0)
 }
 
-fn index(w: u32) -> usize {
+pub fn index(w: u32) -> usize {
     w as usize
 }
 
@@ -40,7 +40,7 @@ fn load(path: &[u8], buf: &mut [u8]) -> bool {
 }
 
 // A file's descriptor. Where there is no such file that is said, and nothing is compared.
-fn opened(path: &[u8]) -> i32 {
+pub fn opened(path: &[u8]) -> i32 {
     let fd = os::open_read(path);
     if fd < 0 {
         os::fail(path);
@@ -53,7 +53,7 @@ fn is_report(v: Verdict, wanted: u32, place: u32) -> bool {
 }
 
 // The part of a file up to n, or all of it.
-fn cut(s: &[u8], n: usize) -> &[u8] {
+pub fn cut(s: &[u8], n: usize) -> &[u8] {
     if s.len() < n {
         return s;
     }

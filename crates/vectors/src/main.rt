@@ -3,10 +3,12 @@
 mod files;
 mod numbers;
 mod routes;
+mod sheets;
 mod tally;
 
 fn main() {
     numbers::replay();
     files::replay();
     routes::replay();
+    sheets::replay();
 }

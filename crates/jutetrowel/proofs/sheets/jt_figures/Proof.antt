@@ -1,0 +1,15 @@
+-- The fields become inputs, and the answer one number.
+use borrow.Author.Needs.{needs}
+use mathlib.Core.Path.{ap, _∙_}
+use Rattle.jutetrowel.specs.Sheets.{packedShown, inputsOf}
+use Rattle.jutetrowel.proofs.sheets.jt_figures.Statement.{statement}
+use Rattle.jutetrowel.proofs.sheets.jt_figures.Tie as tie
+
+returns : tie.Need-returns
+unfolding inputsOf
+returns c =
+    let f = c .before .before .before .figures .ensures in
+    (c .packed .ensures ∙ ap packedShown (f .0), f .1)
+
+pub jt-figures-spec : {M : Type 1} → statement M
+jt-figures-spec = tie.close (tie.spec (λ c κs. search needs) (λ c κs. search needs) (λ c. search needs) returns)

@@ -1,0 +1,2 @@
+-- The definitions that the contracts of `listing` cite. Assumes nothing.
+pub mod Opening

@@ -1,0 +1,24 @@
+// The worksheet that a program starts from.
+use worksheet::desks::Opened;
+use worksheet::desks::open;
+use worksheet::inputs::FromWords;
+use worksheet::inputs::from_words;
+ghost use mathlib.Core.Path.{_≡_};
+ghost use Rattle.listing.specs.Opening.{openedFrom, openedOf};
+
+fn opened_from(fields: FromWords) -> Opened
+    ensures { λ r. ⌜ r ≡ openedFrom fields ⌝ }
+{
+    match fields {
+        FromWords::Fields(i) => open(i),
+        FromWords::Refused(why) => Opened::Refused(why),
+    }
+}
+
+// The worksheet of 14 little-endian words, or the refusal of the first bad field. Bytes that are not
+// there count as 0.
+pub fn opened(words: &[u8]) -> Opened
+    ensures { λ r. ⌜ r ≡ openedOf (now (words .entry)) ⌝ }
+{
+    opened_from(from_words(words))
+}

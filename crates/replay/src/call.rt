@@ -1,0 +1,152 @@
+// A call as a run of little-endian words: the operation's number, the desk (take-back has none) and
+// the numbers of a change.
+use base::angle::Degrees;
+use base::coefficients::float;
+use base::coefficients::word;
+use base::constants::MagneticPole;
+use libc::STDIN_FILENO;
+use maps::figures::Factors;
+use maps::figures::Route;
+use worksheet::inputs::Edit;
+ghost use Prim.Native.Nat.{_≤_};
+
+pub enum Move {
+    Begin(u32),
+    Change(u32, Edit),
+    Commit(u32),
+    Cancel(u32),
+    TakeBack,
+}
+
+pub enum Call {
+    // The input has ended.
+    End,
+    // An unknown operation, a flag that is neither 0 nor 1, or a call cut short.
+    Bad,
+    Move(Move),
+    // 0 is the worksheet.
+    Show(u32),
+}
+
+// A call and its size in bytes.
+pub struct Next {
+    pub call: Call,
+    pub size: u64,
+}
+
+// How many bytes follow the operation's word; none where it is unknown.
+fn size_of(operation: u32) -> usize
+    ensures { λ r. ⌜ r ≤ 24 ⌝ }
+{
+    match operation {
+        1 | 7 | 8 | 10 => 4,
+        2 | 3 => 8,
+        4 => 24,
+        5 => 20,
+        6 => 12,
+        _ => 0,
+    }
+}
+
+fn path_in(s: &[u8]) -> Edit {
+    Edit::Path(Route {
+        tlat: Degrees(float(s, 4)),
+        tlong: Degrees(float(s, 8)),
+        rlat: Degrees(float(s, 12)),
+        rlong: Degrees(float(s, 16)),
+        long_path: word(s, 20) == 1,
+    })
+}
+
+fn psc_in(s: &[u8]) -> Edit {
+    Edit::Psc(Factors {
+        e: float(s, 4),
+        f1: float(s, 8),
+        f2: float(s, 12),
+        es: float(s, 16),
+    })
+}
+
+fn pole_in(s: &[u8]) -> Edit {
+    Edit::Pole(MagneticPole {
+        lat: Degrees(float(s, 4)),
+        lon: Degrees(float(s, 8)),
+    })
+}
+
+fn change_in(s: &[u8], e: Edit) -> Call {
+    Call::Move(Move::Change(word(s, 0), e))
+}
+
+// A path's flag is 0 or 1.
+fn path_call(s: &[u8]) -> Call {
+    if word(s, 20) > 1 {
+        return Call::Bad;
+    }
+    change_in(s, path_in(s))
+}
+
+// The call of an operation, from the bytes after its word.
+fn call_in(operation: u32, s: &[u8]) -> Call {
+    match operation {
+        1 => Call::Move(Move::Begin(word(s, 0))),
+        2 => change_in(s, Edit::Sunspot(float(s, 4))),
+        3 => change_in(s, Edit::Hour(float(s, 4))),
+        4 => path_call(s),
+        5 => change_in(s, psc_in(s)),
+        6 => change_in(s, pole_in(s)),
+        7 => Call::Move(Move::Commit(word(s, 0))),
+        8 => Call::Move(Move::Cancel(word(s, 0))),
+        9 => Call::Move(Move::TakeBack),
+        10 => Call::Show(word(s, 0)),
+        _ => Call::Bad,
+    }
+}
+
+fn operation_of(head: &[u8; 4]) -> u32 {
+    word(head, 0)
+}
+
+// The rest of a call, whose first word has been read.
+fn rest_call(operation: u32) -> Next
+    ensures { λ r. ⌜ r .size ≤ 28 ⌝ }
+{
+    let mut s = [0u8; 24];
+    let from: usize = 0;
+    let n = size_of(operation);
+    let got = io::read_full(STDIN_FILENO, &mut s[from..n]);
+    let call = if got < n {
+        Call::Bad
+    } else {
+        from_rest(operation, &s)
+    };
+    Next {
+        call: call,
+        size: 4 + n as u64,
+    }
+}
+
+fn from_rest(operation: u32, s: &[u8; 24]) -> Call {
+    call_in(operation, s)
+}
+
+// The next call of the input.
+pub fn next_call() -> Next
+    ensures { λ r. ⌜ r .size ≤ 28 ⌝ }
+{
+    let mut head = [0u8; 4];
+    let got = io::read_full(STDIN_FILENO, &mut head);
+    if got == 0 {
+        return Next {
+            call: Call::End,
+            size: 0,
+        };
+    }
+    if got < 4 {
+        return Next {
+            call: Call::Bad,
+            size: 0,
+        };
+    }
+    rest_call(operation_of(&head))
+}

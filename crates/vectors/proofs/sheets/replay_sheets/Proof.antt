@@ -1,0 +1,29 @@
+-- Every need by search; the loop counts to its end.
+use borrow.Author.Needs.{needs}
+use Prim.Native.Nat.{_-_, _≤_}
+use Rattle.vectors.proofs.sheets.replay_sheets.Statement.{statement}
+use Rattle.vectors.proofs.sheets.replay_sheets.Tie as tie
+
+abbrev Inv-loop : tie.InvT-loop
+Inv-loop fd t₀ left₀ t4 t left = left ≤ left
+
+abbrev μ-loop : tie.MeasureT-loop
+μ-loop fd t₀ left₀ t4 t left = left
+
+pub replay-sheets-spec : {M : Type 1} → statement M
+replay-sheets-spec =
+    tie.close
+    (tie.spec
+    Inv-loop
+    μ-loop
+    (λ c κs. search needs)
+    (λ c κs. search needs)
+    (λ c. search needs)
+    (λ c κs. search needs)
+    (λ c. search needs)
+    (λ c. search needs)
+    (λ c. search needs)
+    (λ c. search needs)
+    (λ c κs. search needs)
+    (λ c κs. search needs)
+    (λ c. search needs))

@@ -1,0 +1,243 @@
+// The sheets: all 151 figures of each sheet of sheets.bin, over the files that it holds; and the
+// refusals of refused-sheets.bin, which leave the buffer as it was.
+use crate::files;
+use crate::tally;
+use crate::tally::Tally;
+use crate::tally::counted;
+use crate::tally::is_float;
+use crate::tally::none;
+use base::angle::Degrees;
+use base::coefficients;
+use base::constants::MagneticPole;
+use base::number;
+use libc::STDOUT_FILENO;
+use maps::figures;
+use maps::figures::Factors;
+use maps::figures::Inputs;
+use maps::figures::Route;
+use maps::figures::Shown;
+ghost use Prim.Native.Nat.{_+_, _*_, _<_, _≤_};
+ghost use lib.ListN.{length};
+
+// The word k of a row.
+fn word(row: &[u8], k: usize) -> u32
+    requires { ⌜ k < 200 ⌝ }
+{
+    coefficients::word(row, 4 * k)
+}
+
+fn float(row: &[u8], k: usize) -> f32
+    requires { ⌜ k < 200 ⌝ }
+{
+    coefficients::float(row, 4 * k)
+}
+
+fn inputs(row: &[u8]) -> Inputs {
+    let route = Route {
+        tlat: Degrees(float(row, 3)),
+        tlong: Degrees(float(row, 4)),
+        rlat: Degrees(float(row, 5)),
+        rlong: Degrees(float(row, 6)),
+        long_path: word(row, 7) != 0,
+    };
+    let psc = Factors {
+        e: float(row, 8),
+        f1: float(row, 9),
+        f2: float(row, 10),
+        es: float(row, 11),
+    };
+    let pole = MagneticPole {
+        lat: Degrees(float(row, 12)),
+        lon: Degrees(float(row, 13)),
+    };
+    Inputs {
+        month: word(row, 0),
+        ssn: float(row, 1),
+        gmt: float(row, 2),
+        route,
+        psc,
+        pole,
+    }
+}
+
+// Whether the buffer holds a row's figures.
+fn is_figures(out: &[f32; 151], row: &[u8]) -> bool {
+    let mut k = 0usize;
+    while k < 151 {
+        if !is_float(out[k], word(row, 15 + k)) {
+            return false;
+        }
+        k += 1;
+    }
+    true
+}
+
+// What a showing answers: a refusal's number and place, or 0 and the points.
+struct Spoken {
+    number: u32,
+    place: u32,
+}
+
+fn told(shown: Shown) -> Spoken {
+    match shown {
+        Shown::Points(count) => Spoken {
+            number: 0,
+            place: count,
+        },
+        Shown::Refused(why) => Spoken {
+            number: why.number(),
+            place: why.place(),
+        },
+    }
+}
+
+// The buffer is lent with what no sheet has, and all of it must be overwritten.
+fn is_sheet(row: &[u8; 664], record: &[u8; 7904], month: &[u8; 38552]) -> bool {
+    let mut out = [-12345.0f32; 151];
+    let t = told(figures::figures(inputs(row), record, month, &mut out));
+    t.number == 0 && t.place == word(row, 14) && is_figures(&out, row)
+}
+
+// The next word of a file; 0 where it has ended.
+fn next(fd: i32) -> u32 {
+    let mut four = [0u8; 4];
+    io::read_full(fd, &mut four);
+    coefficients::word(&four, 0)
+}
+
+// A pair of files and the sheets made of it.
+fn section(fd: i32, t: Tally) -> Tally {
+    let mut t = t;
+    let mut record = [0u8; 7904];
+    io::read_full(fd, &mut record);
+    let mut month = [0u8; 38552];
+    io::read_full(fd, &mut month);
+    let mut left = next(fd);
+    while left > 0 {
+        let mut row = [0u8; 664];
+        io::read_full(fd, &mut row);
+        t = counted(t, is_sheet(&row, &record, &month));
+        left -= 1;
+    }
+    t
+}
+
+fn replay_sheets(fd: i32) {
+    let mut t = none();
+    let mut left = next(fd);
+    while left > 0 {
+        t = section(fd, t);
+        left -= 1;
+    }
+    io::write_all(STDOUT_FILENO, b"sheets");
+    tally::print(t);
+}
+
+// Inputs in range.
+fn in_range() -> Inputs {
+    Inputs {
+        month: 4,
+        ssn: 70.0,
+        gmt: 12.0,
+        route: Route {
+            tlat: Degrees(53.5),
+            tlong: Degrees(8.1),
+            rlat: Degrees(64.1),
+            rlong: Degrees(-21.9),
+            long_path: false,
+        },
+        psc: Factors {
+            e: 1.0,
+            f1: 1.0,
+            f2: 1.0,
+            es: 0.7,
+        },
+        pole: MagneticPole::built_in(),
+    }
+}
+
+fn is_as_lent(out: &[f32; 200]) -> bool {
+    let mut k = 0usize;
+    while k < 200 {
+        if out[k] != -12345.0 {
+            return false;
+        }
+        k += 1;
+    }
+    true
+}
+
+// The answer of a showing over files cut to these lengths.
+fn shown_of(
+    record: &[u8; 7904],
+    record_length: usize,
+    month: &[u8; 38552],
+    month_length: usize,
+    out: &mut [f32],
+) -> Spoken {
+    told(figures::figures(
+        in_range(),
+        files::cut(record, record_length),
+        files::cut(month, month_length),
+        out,
+    ))
+}
+
+// Files cut to a length, one byte of the month file changed, and a buffer of some length.
+fn is_refused(fd: i32, record: &[u8; 7904], month: [u8; 38552]) -> bool {
+    let record_length = files::index(next(fd));
+    let month_length = files::index(next(fd));
+    let at = files::index(next(fd));
+    let b = (next(fd) % 256) as u8;
+    let size = files::index(next(fd));
+    let number = next(fd);
+    let place = next(fd);
+    let mut damaged = month;
+    if at < 38552 {
+        damaged[at] = b;
+    }
+    if size > 200 {
+        return false;
+    }
+    let mut out = [-12345.0f32; 200];
+    let from = 0usize;
+    let t = shown_of(
+        record,
+        record_length,
+        &damaged,
+        month_length,
+        &mut out[from..size],
+    );
+    if number == 0 {
+        return t.number == 0 && t.place > 0;
+    }
+    t.number == number && t.place == place && is_as_lent(&out)
+}
+
+fn replay_refused(fd: i32) {
+    let mut t = none();
+    let mut record = [0u8; 7904];
+    io::read_full(fd, &mut record);
+    let mut month = [0u8; 38552];
+    io::read_full(fd, &mut month);
+    let mut left = next(fd);
+    while left > 0 {
+        t = counted(t, is_refused(fd, &record, month));
+        left -= 1;
+    }
+    io::write_all(STDOUT_FILENO, b"refused sheets");
+    tally::print(t);
+}
+
+pub fn replay() {
+    let fd = files::opened(b"sheets.bin");
+    if fd >= 0 {
+        replay_sheets(fd);
+        libc::close(fd);
+    }
+    let fd = files::opened(b"refused-sheets.bin");
+    if fd >= 0 {
+        replay_refused(fd);
+        libc::close(fd);
+    }
+}

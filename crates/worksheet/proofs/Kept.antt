@@ -1,0 +1,280 @@
+-- What the shorter list holds: every accepted commit and take-back and every showing of 0, in their order, each commit with its own calls just before it, and nothing else. By going through the full list. Assumes nothing.
+use Prim.Native.Nat.{ℕ}
+use mathlib.Core.Bool.{Bool, true, false, cond, not, _&&_, false≢true}
+use mathlib.Core.List.{List, [], _∷_, _++_, reverse, reverseAux, append-nil, append-assoc, reverse-cons, reverse-reverse, List·Memᴰ, List·Memᴰ·not-nil, List·Memᴰ·append-cases, List·Memᴰ·eq-of-singleton}
+use mathlib.Core.Logic.{_⊎_, inl, inr}
+use mathlib.Core.Path.{_≡_, refl, sym, ap, ap₂, subst, _∙_}
+use lib.Dec.{eqb}
+use borrow.Author.Tests.{eqb-true}
+use Rattle.base.specs.declared.refusal.Verdict.the-variants.{Accepted}
+use Rattle.worksheet.specs.declared.desks.Worksheet.{Worksheet}
+use Rattle.worksheet.specs.Desks.{deskCheck}
+use Rattle.worksheet.specs.Journal.{Call, begin, commit, cancel, change, takeBack, show, Entry, accepted, step, run, isBegin, isOwn, begins, belongs, own, keptFor, shorter, keptOf, keep, none, isSettled, settled}
+use Rattle.worksheet.proofs.Effects.{refused-not-accepted, committed}
+
+-- ---- lists
+
+keep-append : (p : Entry → Bool) (l m : List Entry) → keep p (l ++ m) ≡ keep p l ++ keep p m
+unfolding keep
+keep-append p [] m = refl
+keep-append p (x ∷ l) m = go (p x) (keep-append p l m)
+  where
+    go : (b : Bool) → keep p (l ++ m) ≡ keep p l ++ keep p m
+        → cond b (x ∷ keep p (l ++ m)) (keep p (l ++ m)) ≡ cond b (x ∷ keep p l) (keep p l) ++ keep p m
+    go true e = ap (λ (k : List Entry). x ∷ k) e
+    go false e = e
+
+-- the entry alone, or nothing
+abbrev onlyIf : Bool → Entry → List Entry
+onlyIf b x = cond b (x ∷ []) []
+
+keep-first : (b : Bool) (x : Entry) (l : List Entry) → cond b (x ∷ l) l ≡ onlyIf b x ++ l
+keep-first true x l = refl
+keep-first false x l = refl
+
+keep-one : (p : Entry → Bool) (b : Bool) (x : Entry) → p x ≡ b → keep p (x ∷ []) ≡ onlyIf b x
+unfolding keep
+keep-one p b x e = ap (λ (z : Bool). onlyIf z x) e
+
+-- ---- own calls are no settled ones
+
+begin-unsettled : (n : ℕ) (c : Call) (good : Bool) → isBegin n c good ≡ true → isSettled c good ≡ false
+begin-unsettled n (begin m) good e = refl
+begin-unsettled n (commit m) good e = absurd (false≢true e)
+begin-unsettled n (cancel m) good e = refl
+begin-unsettled n (change m k) good e = refl
+begin-unsettled n takeBack good e = absurd (false≢true e)
+begin-unsettled n (show m lent) good e = absurd (false≢true e)
+
+own-call-unsettled : (n : ℕ) (c : Call) (good : Bool) → eqb n 0 ≡ false → isOwn n c good ≡ true → isSettled c good ≡ false
+own-call-unsettled n (begin m) good z e = refl
+own-call-unsettled n (commit m) good z e = absurd (false≢true e)
+own-call-unsettled n (cancel m) good z e = refl
+own-call-unsettled n (change m k) good z e = refl
+own-call-unsettled n takeBack good z e = absurd (false≢true e)
+own-call-unsettled n (show m lent) good z e = ap (λ (k : ℕ). eqb k 0) (eqb-true m n e) ∙ z
+
+own-unsettled : (n : ℕ) → eqb n 0 ≡ false → (past : List Entry) → keep settled (own n past) ≡ []
+unfolding own keep
+own-unsettled n z [] = refl
+own-unsettled n z (x ∷ past) = go (begins n x) (belongs n x) refl refl (own-unsettled n z past)
+  where
+    go : (b o : Bool) → begins n x ≡ b → belongs n x ≡ o → keep settled (own n past) ≡ []
+        → keep settled (cond b (x ∷ []) (cond o (own n past ++ (x ∷ [])) (own n past))) ≡ []
+    go true o p q h = keep-one settled false x (begin-unsettled n (x .call) (accepted (x .answer)) p)
+    go false true p q h =
+        keep-append settled (own n past) (x ∷ [])
+        ∙ ap₂ _++_ h (keep-one settled false x (own-call-unsettled n (x .call) (accepted (x .answer)) z q))
+    go false false p q h = h
+
+desk-not-zero : (n : ℕ) → deskCheck n ≡ Accepted → eqb n 0 ≡ false
+unfolding deskCheck
+desk-not-zero n h = go (eqb n 0) refl
+  where
+    go : (b : Bool) → eqb n 0 ≡ b → b ≡ false
+    go true e = absurd (refused-not-accepted (sym (ap deskCheck (eqb-true n 0 e)) ∙ h))
+    go false e = refl
+
+-- ---- KEPT IN ORDER: of the accepted commits and take-backs and the showings of 0, the shorter list has all, in their order
+
+module _ (f2 file : List ℕ) where
+  block : (past : List Entry) (c : Call) (w : Worksheet) →
+      let x : Entry = record { call = c; answer = step f2 file c w .answer } in
+      keep settled (keptFor past c x) ≡ onlyIf (settled x) x
+  unfolding keptFor keep
+  block past (begin n) w = refl
+  block past (cancel n) w = refl
+  block past (change n e) w = refl
+  block past (show n lent) w = go (eqb n 0) refl
+    where
+      x : Entry
+      x = record { call = show n lent; answer = step f2 file (show n lent) w .answer }
+
+      go : (b : Bool) → eqb n 0 ≡ b → keep settled (onlyIf b x) ≡ onlyIf b x
+      go true e = keep-one settled true x e
+      go false e = refl
+  block past takeBack w = go (accepted (step f2 file takeBack w .answer)) refl
+    where
+      x : Entry
+      x = record { call = takeBack; answer = step f2 file takeBack w .answer }
+
+      go : (b : Bool) → accepted (x .answer) ≡ b → keep settled (onlyIf b x) ≡ onlyIf b x
+      go true e = keep-one settled true x e
+      go false e = refl
+  block past (commit n) w = go (accepted (step f2 file (commit n) w .answer)) refl
+    where
+      x : Entry
+      x = record { call = commit n; answer = step f2 file (commit n) w .answer }
+
+      go : (b : Bool) → accepted (x .answer) ≡ b → keep settled (cond b (own n past ++ (x ∷ [])) []) ≡ onlyIf b x
+      go true e =
+          keep-append settled (own n past) (x ∷ [])
+          ∙ ap₂ _++_ (own-unsettled n (desk-not-zero n (committed f2 file n w e .desk)) past) (keep-one settled true x e)
+      go false e = refl
+
+  in-order : (cs : List Call) (past : List Entry) (w : Worksheet)
+      → keep settled (shorter past (run f2 file cs w .entries)) ≡ keep settled (run f2 file cs w .entries)
+  unfolding run shorter keep
+  in-order [] past w = refl
+  in-order (c ∷ cs) past w =
+      let s = step f2 file c w in
+      let x : Entry = record { call = c; answer = s .answer } in
+      let later = run f2 file cs (s .sheet) .entries in
+      keep-append settled (keptFor past c x) (shorter (x ∷ past) later)
+      ∙ ap₂ _++_ (block past c w) (in-order cs (x ∷ past) (s .sheet))
+      ∙ sym (keep-first (settled x) x (keep settled later))
+
+  pub kept-in-order : (w : Worksheet) (cs : List Call) → keep settled (keptOf f2 file w cs) ≡ keep settled (run f2 file cs w .entries)
+  unfolding keptOf
+  kept-in-order w cs = in-order cs [] w
+
+-- ---- JUST BEFORE: the shorter list goes entry by entry, and own calls stand just before their commit
+
+shorter-append : (past l m : List Entry) → shorter past (l ++ m) ≡ shorter past l ++ shorter (reverseAux l past) m
+unfolding shorter
+shorter-append past [] m = refl
+shorter-append past (x ∷ l) m =
+    ap (λ (k : List Entry). keptFor past (x .call) x ++ k) (shorter-append (x ∷ past) l m)
+    ∙ sym (append-assoc (keptFor past (x .call) x) (shorter (x ∷ past) l) (shorter (reverseAux l (x ∷ past)) m))
+
+pub just-before : (n : ℕ) (before after : List Entry) (x : Entry) → x .call ≡ commit n → accepted (x .answer) ≡ true
+    → shorter [] (before ++ (x ∷ after)) ≡ shorter [] before ++ (own n (reverse before) ++ (x ∷ shorter (x ∷ reverse before) after))
+unfolding shorter keptFor
+just-before n before after x c good =
+    let past = reverse before in
+    let later = shorter (x ∷ past) after in
+    shorter-append [] before (x ∷ after)
+    ∙ ap (λ (k : List Entry). shorter [] before ++ k)
+    (ap (λ (z : Call). keptFor past z x ++ later) c
+    ∙ ap (λ (z : Bool). cond z (own n past ++ (x ∷ [])) [] ++ later) good
+    ∙ append-assoc (own n past) (x ∷ []) later)
+
+-- ---- NOTHING ELSE
+
+infix 20 _∈_
+abbrev pub _∈_ : Entry → List Entry → Type 0
+y ∈ l = List·Memᴰ y l
+
+-- an own call is an accepted begin of its desk, or belongs to it
+pub own-member : (n : ℕ) (y : Entry) (past : List Entry) → y ∈ (own n past) → (begins n y ≡ true) ⊎ (belongs n y ≡ true)
+unfolding own
+own-member n y [] h = absurd (List·Memᴰ·not-nil h)
+own-member n y (x ∷ past) h = go (begins n x) (belongs n x) refl refl (own-member n y past) h
+  where
+    is-x : y ∈ (x ∷ []) → y ≡ x
+    is-x m = List·Memᴰ·eq-of-singleton m
+
+    go : (b o : Bool) → begins n x ≡ b → belongs n x ≡ o
+        → (y ∈ (own n past) → (begins n y ≡ true) ⊎ (belongs n y ≡ true))
+        → y ∈ (cond b (x ∷ []) (cond o (own n past ++ (x ∷ [])) (own n past))) → (begins n y ≡ true) ⊎ (belongs n y ≡ true)
+    go true o p q below m = inl (ap (begins n) (is-x m) ∙ p)
+    go false true p q below m = either (List·Memᴰ·append-cases (own n past) m)
+      where
+        either : y ∈ (own n past) ⊎ y ∈ (x ∷ []) → (begins n y ≡ true) ⊎ (belongs n y ≡ true)
+        either (inl k) = below k
+        either (inr k) = inr (ap (belongs n) (is-x k) ∙ q)
+    go false false p q below m = below m
+
+-- y is an own call of an accepted commit of the full list
+pub record OwnCall (full : List Entry) (y : Entry) : Type 0 where
+  pub desk : ℕ
+  pub before : List Entry
+  pub its-commit : Entry
+  pub after : List Entry
+  pub split : full ≡ before ++ (its-commit ∷ after)
+  pub is-commit : its-commit .call ≡ commit desk
+  pub good : accepted (its-commit .answer) ≡ true
+  pub is-own : y ∈ (own desk (reverse before))
+
+in-block : (past later : List Entry) (x y : Entry) → y ∈ (keptFor past (x .call) x) → (settled y ≡ true) ⊎ OwnCall (reverse past ++ (x ∷ later)) y
+unfolding keptFor
+in-block past later x y h = of (x .call) refl h
+  where
+    Good : Type 0
+    Good = (settled y ≡ true) ⊎ OwnCall (reverse past ++ (x ∷ later)) y
+
+    as-x : settled x ≡ true → y ∈ (x ∷ []) → Good
+    as-x e m = inl (ap settled (List·Memᴰ·eq-of-singleton m) ∙ e)
+
+    if-x : (b : Bool) → (b ≡ true → settled x ≡ true) → y ∈ (onlyIf b x) → Good
+    if-x true e m = as-x (e refl) m
+    if-x false e m = absurd (List·Memᴰ·not-nil m)
+
+    committed-by : (n : ℕ) → x .call ≡ commit n → (b : Bool) → accepted (x .answer) ≡ b → y ∈ (cond b (own n past ++ (x ∷ [])) []) → Good
+    committed-by n c true e m = either (List·Memᴰ·append-cases (own n past) m)
+      where
+        either : y ∈ (own n past) ⊎ y ∈ (x ∷ []) → Good
+        either (inl k) = inr (record {
+          desk = n;
+          before = reverse past;
+          its-commit = x;
+          after = later;
+          split = refl;
+          is-commit = c;
+          good = e;
+          is-own = subst (λ (l : List Entry). y ∈ (own n l)) (sym (reverse-reverse past)) k;
+        })
+        either (inr k) = as-x (ap (λ (z : Call). isSettled z (accepted (x .answer))) c ∙ e) k
+    committed-by n c false e m = absurd (List·Memᴰ·not-nil m)
+
+    of : (c : Call) → x .call ≡ c → y ∈ (keptFor past c x) → Good
+    of (begin n) e m = absurd (List·Memᴰ·not-nil m)
+    of (cancel n) e m = absurd (List·Memᴰ·not-nil m)
+    of (change n k) e m = absurd (List·Memᴰ·not-nil m)
+    of takeBack e m = if-x (accepted (x .answer)) (λ g. ap (λ (z : Call). isSettled z (accepted (x .answer))) e ∙ g) m
+    of (show n lent) e m = if-x (eqb n 0) (λ g. ap (λ (z : Call). isSettled z (accepted (x .answer))) e ∙ g) m
+    of (commit n) e m = committed-by n e (accepted (x .answer)) refl m
+
+all-blocks : (past l : List Entry) (y : Entry) → y ∈ (shorter past l) → (settled y ≡ true) ⊎ OwnCall (reverse past ++ l) y
+unfolding shorter
+all-blocks past [] y h = absurd (List·Memᴰ·not-nil h)
+all-blocks past (x ∷ later) y h = go (all-blocks (x ∷ past) later y) (List·Memᴰ·append-cases (keptFor past (x .call) x) h)
+  where
+    same : reverse (x ∷ past) ++ later ≡ reverse past ++ (x ∷ later)
+    same = ap (λ (k : List Entry). k ++ later) (reverse-cons x past) ∙ append-assoc (reverse past) (x ∷ []) later
+
+    go : (y ∈ (shorter (x ∷ past) later) → (settled y ≡ true) ⊎ OwnCall (reverse (x ∷ past) ++ later) y)
+        → y ∈ (keptFor past (x .call) x) ⊎ y ∈ (shorter (x ∷ past) later) → (settled y ≡ true) ⊎ OwnCall (reverse past ++ (x ∷ later)) y
+    go below (inl m) = in-block past later x y m
+    go below (inr m) = subst (λ (k : List Entry). (settled y ≡ true) ⊎ OwnCall k y) same (below m)
+
+pub nothing-else : (full : List Entry) (y : Entry) → y ∈ (shorter [] full) → (settled y ≡ true) ⊎ OwnCall full y
+nothing-else full y h = all-blocks [] full y h
+
+-- ---- OWN CALLS: the last accepted begin, and what belongs to the desk since
+
+pub none-first : (p : Entry → Bool) (x : Entry) (l : List Entry) → none p (x ∷ l) ≡ true → (p x ≡ false) × (none p l ≡ true)
+unfolding none
+none-first p x l h = go (p x) (none p l) h
+  where
+    go : (a b : Bool) → (not a && b) ≡ true → (a ≡ false) × (b ≡ true)
+    go true b e = absurd (false≢true e)
+    go false b e = (refl, e)
+
+pub own-calls : (n : ℕ) (late : List Entry) (b : Entry) (front : List Entry) → begins n b ≡ true → none (begins n) late ≡ true
+    → own n (late ++ (b ∷ front)) ≡ b ∷ keep (belongs n) (reverse late)
+unfolding own keep
+own-calls n [] b front h q = ap (λ (z : Bool). cond z (b ∷ []) (cond (belongs n b) (own n front ++ (b ∷ [])) (own n front))) h
+own-calls n (x ∷ late) b front h q =
+    let f = none-first (begins n) x late q in
+    ap (λ (z : Bool). cond z (x ∷ []) (cond (belongs n x) (own n l ++ (x ∷ [])) (own n l))) (f .0)
+    ∙ ap (λ (k : List Entry). cond (belongs n x) (k ++ (x ∷ [])) k) (own-calls n late b front h (f .1))
+    ∙ pull (belongs n x) refl
+  where
+    l : List Entry
+    l = late ++ (b ∷ front)
+
+    since : List Entry
+    since = keep (belongs n) (reverse late)
+
+    one-more : (o : Bool) → cond o (b ∷ (since ++ (x ∷ []))) (b ∷ since) ≡ b ∷ (since ++ onlyIf o x)
+    one-more true = refl
+    one-more false = ap (λ (k : List Entry). b ∷ k) (sym (append-nil since))
+
+    pull : (o : Bool) → belongs n x ≡ o → cond o (b ∷ (since ++ (x ∷ []))) (b ∷ since) ≡ b ∷ keep (belongs n) (reverse (x ∷ late))
+    pull o e =
+        one-more o
+        ∙ ap (λ (k : List Entry). b ∷ k)
+        (ap (λ (k : List Entry). since ++ k) (sym (keep-one (belongs n) o x e))
+        ∙ sym (keep-append (belongs n) (reverse late) (x ∷ []))
+        ∙ ap (keep (belongs n)) (sym (reverse-cons x late)))

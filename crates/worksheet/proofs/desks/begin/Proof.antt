@@ -1,0 +1,28 @@
+-- Check and worksheet are the definition's, call by call.
+use borrow.Author.Needs.{needs}
+use mathlib.Core.Path.{_∙_, ap, ap₂}
+use Rattle.worksheet.specs.Inputs.{_then_}
+use Rattle.worksheet.specs.Desks.{closedCheck, beginCheck, beginOf}
+use Rattle.worksheet.proofs.Verdicts.{decided-as}
+use Rattle.worksheet.proofs.desks.begin.Statement.{statement}
+use Rattle.worksheet.proofs.desks.begin.Tie as tie
+
+returns : tie.Need-returns
+unfolding beginOf beginCheck
+returns c =
+    decided-as _ (c .decided .ensures)
+    (c .before .before .then .ensures
+    ∙ ap₂ _then_ (c .before .before .before .before .before .desk-check .ensures) (c .before .before .before .closed-check .ensures ∙ ap closedCheck (c .before .before .before .before .draft-at .ensures)))
+    (c .before .with-draft .ensures)
+
+pub begin-spec : {M : Type 1} → statement M
+begin-spec =
+    tie.close
+    (tie.spec
+    (λ c κs. search needs)
+    (λ c κs. search needs)
+    (λ c κs. search needs)
+    (λ c κs. search needs)
+    (λ c κs. search needs)
+    (λ c κs. search needs)
+    returns)

@@ -1,0 +1,17 @@
+-- A word of at most 1 is 0 or 1.
+use borrow.Author.Needs.{needs}
+use Rattle.worksheet.specs.Inputs.{flagCheck}
+use Rattle.worksheet.proofs.Verdicts.{by-test, is-flag}
+use Rattle.worksheet.proofs.inputs.flag_check.Statement.{statement}
+use Rattle.worksheet.proofs.inputs.flag_check.Tie as tie
+
+returns : tie.Need-returns
+unfolding flagCheck
+returns c = by-test _ (c .refuse-unless .ensures) (is-flag (c .before .args .flag))
+
+pub flag-check-spec : {M : Type 1} → statement M
+flag-check-spec =
+    tie.close
+    (tie.spec
+    (λ c κs. search needs)
+    returns)

@@ -1,0 +1,20 @@
+-- The ends of the range are the decimals, by computation.
+use borrow.Author.Needs.{needs}
+use lib.Ieee.{ofBits, round}
+use Rattle.base.specs.Single.{decimal}
+use Rattle.worksheet.specs.Inputs.{hourCheck}
+use Rattle.worksheet.proofs.Verdicts.{by-test}
+use Rattle.worksheet.proofs.inputs.hour_check.Statement.{statement}
+use Rattle.worksheet.proofs.inputs.hour_check.Tie as tie
+
+returns : tie.Need-returns
+unfolding hourCheck decimal round ofBits
+returns c = by-test _ (c .refuse-unless .ensures) (c .before .is-to .ensures)
+
+pub hour-check-spec : {M : Type 1} → statement M
+hour-check-spec =
+    tie.close
+    (tie.spec
+    (λ c κs. search needs)
+    (λ c κs. search needs)
+    returns)

@@ -1,0 +1,16 @@
+-- Of inputs the flag is good.
+use borrow.Author.Needs.{needs}
+use Rattle.worksheet.specs.Inputs.{inputsCheck}
+use Rattle.worksheet.proofs.inputs.inputs_check.Statement.{statement}
+use Rattle.worksheet.proofs.inputs.inputs_check.Tie as tie
+
+returns : tie.Need-returns
+unfolding inputsCheck
+returns c = c .fields-check .ensures
+
+pub inputs-check-spec : {M : Type 1} → statement M
+inputs-check-spec =
+    tie.close
+    (tie.spec
+    (λ c κs. search needs)
+    returns)

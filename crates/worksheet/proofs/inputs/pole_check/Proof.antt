@@ -1,0 +1,18 @@
+-- Each verdict is its definition's.
+use borrow.Author.Needs.{needs}
+use Rattle.worksheet.specs.Inputs.{poleCheck}
+use Rattle.worksheet.proofs.inputs.pole_check.Statement.{statement}
+use Rattle.worksheet.proofs.inputs.pole_check.Tie as tie
+
+returns : tie.Need-returns
+unfolding poleCheck
+returns c = cc
+
+pub pole-check-spec : {M : Type 1} → statement M
+pole-check-spec =
+    tie.close
+    (tie.spec
+    (λ c κs. search needs)
+    (λ c κs. search needs)
+    (λ c κs. search needs)
+    returns)

@@ -1,0 +1,22 @@
+-- Each verdict is its definition's.
+use borrow.Author.Needs.{needs}
+use Rattle.worksheet.specs.Inputs.{routeCheck}
+use Rattle.worksheet.proofs.inputs.route_check.Statement.{statement}
+use Rattle.worksheet.proofs.inputs.route_check.Tie as tie
+
+returns : tie.Need-returns
+unfolding routeCheck
+returns c = cc
+
+pub route-check-spec : {M : Type 1} → statement M
+route-check-spec =
+    tie.close
+    (tie.spec
+    (λ c κs. search needs)
+    (λ c κs. search needs)
+    (λ c κs. search needs)
+    (λ c κs. search needs)
+    (λ c κs. search needs)
+    (λ c κs. search needs)
+    (λ c κs. search needs)
+    returns)

@@ -1,0 +1,4 @@
+// The planner's worksheet: one set of inputs, four desks that draft changes to it, and its showings.
+pub mod desks;
+pub mod inputs;
+pub mod showing;
