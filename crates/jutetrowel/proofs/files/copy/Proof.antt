@@ -4,21 +4,13 @@ use mathlib.Core.Path.{_≡_, refl, sym, ap, _∙_}
 use mathlib.Core.List.{List}
 use Prim.Native.Nat.{ℕ, _≤_, _<_, _-_}
 use native.Mathlib.Omega.{arith}
-use lib.ListN.{length, getD, set}
-use lib.Seq.{ext-getD}
-use lib.Ieee.{Float, nan}
-use Rattle.base.specs.Fill.{fill, run}
-use Rattle.base.proofs.Fills.{fill-first, fill-all, length-run, run-at}
+use lib.ListN.{length, set}
+use lib.Ieee.{Float}
+use Rattle.base.specs.Fill.{fill}
+use Rattle.base.proofs.Fills.{fill-first, fill-all}
+use Rattle.maps.proofs.Written.{elements, all-elements}
 use Rattle.jutetrowel.proofs.files.copy.Statement.{statement}
 use Rattle.jutetrowel.proofs.files.copy.Tie as tie
-
-abbrev elements : List Float → ℕ → Float
-elements l k = getD l k nan
-
-all-elements : (l : List Float) → run (elements l) (length l) ≡ l
-all-elements l =
-    let n = length-run (elements l) (length l) in
-    ext-getD nan (run (elements l) (length l)) l n (λ k h. run-at (elements l) (length l) k nan (omega arith))
 
 abbrev Inv-loop : tie.InvT-loop
 Inv-loop from to₀ i₀ to i = (i ≤ length from) × (length to ≡ length to₀) × (to ≡ fill (elements from) 0 to₀ i)
