@@ -37,7 +37,8 @@ pub fn print_points(count: u32) {
     print(b"\n");
 }
 
-fn glyph(d: u32) -> u8
+// A digit, up to 15.
+pub fn glyph(d: u32) -> u8
     requires { ⌜ d < 16 ⌝ }
 {
     if d < 10 { 48 + d as u8 } else { 87 + d as u8 }

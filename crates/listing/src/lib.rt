@@ -1,5 +1,7 @@
-// What the programs share: a worksheet from the words of their input, and answers as lines of text.
+// What the programs share: a worksheet and calls from the words of their input, and answers as lines of
+// text.
 pub mod answer;
+pub mod call;
 pub mod decimal;
 pub mod opening;
 pub mod page;

@@ -1,37 +1,26 @@
 // The desks' journal: an open and the calls that follow it, from standard input, with the answer to
 // each on standard output. The input has the 14 words, the F2 record and the month file of `sheet`,
 // then calls until it ends.
-mod call;
+mod calls;
 
-use call::Call;
-use call::Move;
-use call::next_call;
+use calls::next_call;
 use libc::STDIN_FILENO;
 use listing::answer::print;
 use listing::answer::print_figures;
 use listing::answer::print_points;
 use listing::answer::print_refusal;
 use listing::answer::print_verdict;
+use listing::call::Call;
+use listing::call::Move;
+use listing::call::moved;
 use listing::opening::opened;
 use maps::figures::Shown;
-use worksheet::desks;
 use worksheet::desks::Opened;
-use worksheet::desks::Outcome;
 use worksheet::desks::Worksheet;
 use worksheet::showing::show;
 
 // The first byte of the first call: 56 of words, 7,904 of record, 38,552 of month file.
 const START: u64 = 46512;
-
-fn moved(w: Worksheet, m: Move) -> Outcome {
-    match m {
-        Move::Begin(desk) => desks::begin(w, desk),
-        Move::Change(desk, e) => desks::change(w, desk, e),
-        Move::Commit(desk) => desks::commit(w, desk),
-        Move::Cancel(desk) => desks::cancel(w, desk),
-        Move::TakeBack => desks::take_back(w),
-    }
-}
 
 fn answer_move(w: Worksheet, m: Move) -> Worksheet {
     let o = moved(w, m);
@@ -96,7 +85,7 @@ fn answer_all(w: Worksheet, record: &[u8], month: &[u8]) {
             return;
         }
         w = answered(w, call, record, month);
-        at += next.size;
+        at += next.size as u64;
     }
 }
 

@@ -1,7 +1,6 @@
 -- The shorter list and the changes in force worked out, an example for each clause of document 01's demand 3: by computation, for all files, opened inputs and buffers. Assumes nothing.
 use Prim.Native.Nat.{ℕ}
-use mathlib.Core.Bool.{false}
-use mathlib.Core.List.{List, [], _∷_, reverse}
+use mathlib.Core.List.{List, [], _∷_}
 use mathlib.Core.Path.{_≡_, refl}
 use lib.Ieee.{Float, round, le}
 use Rattle.base.specs.declared.refusal.Refusal.the-variants.{Hour as BadHour, Desk, Drafted, NoDraft, Stale as IsStale, NothingEarlier}

@@ -1,7 +1,7 @@
 -- What the shorter list holds: every accepted commit and take-back and every showing of 0, in their order, each commit with its own calls just before it, and nothing else. By going through the full list. Assumes nothing.
 use Prim.Native.Nat.{ℕ}
 use mathlib.Core.Bool.{Bool, true, false, cond, not, _&&_, false≢true}
-use mathlib.Core.List.{List, [], _∷_, _++_, reverse, reverseAux, append-nil, append-assoc, reverse-cons, reverse-reverse, List·Memᴰ, List·Memᴰ·not-nil, List·Memᴰ·append-cases, List·Memᴰ·eq-of-singleton}
+use mathlib.Core.List.{List, [], _∷_, _++_, reverse, reverseAux, append-nil, append-assoc, reverse-cons, reverse-reverse, List·Memᴰ, List·Memᴰ·head, List·Memᴰ·tail, List·Memᴰ·not-nil, List·Memᴰ·cases-cons, List·Memᴰ·append-cases, List·Memᴰ·eq-of-singleton}
 use mathlib.Core.Logic.{_⊎_, inl, inr}
 use mathlib.Core.Path.{_≡_, refl, sym, ap, ap₂, subst, _∙_}
 use lib.Dec.{eqb}
@@ -175,7 +175,38 @@ own-member n y (x ∷ past) h = go (begins n x) (belongs n x) refl refl (own-mem
         either (inr k) = inr (ap (belongs n) (is-x k) ∙ q)
     go false false p q below m = below m
 
--- y is an own call of an accepted commit of the full list
+-- and it stands before the commit
+own-among : (n : ℕ) (y : Entry) (past : List Entry) → y ∈ (own n past) → y ∈ past
+unfolding own
+own-among n y [] h = absurd (List·Memᴰ·not-nil h)
+own-among n y (x ∷ past) h = go (begins n x) (belongs n x) (own-among n y past) h
+  where
+    first : y ∈ (x ∷ []) → y ∈ (x ∷ past)
+    first m = List·Memᴰ·head (List·Memᴰ·eq-of-singleton m)
+
+    go : (b o : Bool) → (y ∈ (own n past) → y ∈ past) → y ∈ (cond b (x ∷ []) (cond o (own n past ++ (x ∷ [])) (own n past))) → y ∈ (x ∷ past)
+    go true o below m = first m
+    go false true below m = either (List·Memᴰ·append-cases (own n past) m)
+      where
+        either : y ∈ (own n past) ⊎ y ∈ (x ∷ []) → y ∈ (x ∷ past)
+        either (inl k) = List·Memᴰ·tail (below k)
+        either (inr k) = first k
+    go false false below m = List·Memᴰ·tail (below m)
+
+among-reverse : (y : Entry) (l r : List Entry) → (y ∈ l) ⊎ (y ∈ r) → y ∈ (reverseAux l r)
+among-reverse y [] r (inl m) = absurd (List·Memᴰ·not-nil m)
+among-reverse y [] r (inr m) = m
+among-reverse y (x ∷ l) r h = among-reverse y l (x ∷ r) (shift h)
+  where
+    of : (y ≡ x) ⊎ (y ∈ l) → (y ∈ l) ⊎ (y ∈ (x ∷ r))
+    of (inl e) = inr (List·Memᴰ·head e)
+    of (inr m) = inl m
+
+    shift : (y ∈ (x ∷ l)) ⊎ (y ∈ r) → (y ∈ l) ⊎ (y ∈ (x ∷ r))
+    shift (inl m) = of (List·Memᴰ·cases-cons m)
+    shift (inr m) = inr (List·Memᴰ·tail m)
+
+-- y is an own call of an accepted commit of the full list, and stands before it there
 pub record OwnCall (full : List Entry) (y : Entry) : Type 0 where
   pub desk : ℕ
   pub before : List Entry
@@ -183,8 +214,10 @@ pub record OwnCall (full : List Entry) (y : Entry) : Type 0 where
   pub after : List Entry
   pub split : full ≡ before ++ (its-commit ∷ after)
   pub is-commit : its-commit .call ≡ commit desk
-  pub good : accepted (its-commit .answer) ≡ true
+  pub committed : accepted (its-commit .answer) ≡ true
   pub is-own : y ∈ (own desk (reverse before))
+  pub stands-before : y ∈ before
+  pub begins-or-belongs : (begins desk y ≡ true) ⊎ (belongs desk y ≡ true)
 
 in-block : (past later : List Entry) (x y : Entry) → y ∈ (keptFor past (x .call) x) → (settled y ≡ true) ⊎ OwnCall (reverse past ++ (x ∷ later)) y
 unfolding keptFor
@@ -211,8 +244,10 @@ in-block past later x y h = of (x .call) refl h
           after = later;
           split = refl;
           is-commit = c;
-          good = e;
+          committed = e;
           is-own = subst (λ (l : List Entry). y ∈ (own n l)) (sym (reverse-reverse past)) k;
+          stands-before = among-reverse y past [] (inl (own-among n y past k));
+          begins-or-belongs = own-member n y past k;
         })
         either (inr k) = as-x (ap (λ (z : Call). isSettled z (accepted (x .answer))) c ∙ e) k
     committed-by n c false e m = absurd (List·Memᴰ·not-nil m)

@@ -99,6 +99,7 @@ abbrev pub belongs : ℕ → Entry → Bool
 belongs n x = isOwn n (x .call) (accepted (x .answer))
 
 -- the own calls of a commit of desk n: 'the last accepted begin of its desk before it', and that desk's 'accepted changes' and showings 'between the two', 'all in their order'
+-- (an accepted commit of a run has such a begin: `undisturbed-draft`)
 unfoldable pub own : ℕ → List Entry → List Entry
 own n [] = []
 own n (x ∷ past) = cond (begins n x) (x ∷ []) (cond (belongs n x) (own n past ++ (x ∷ [])) (own n past))

@@ -1,12 +1,19 @@
--- Check and worksheet are the definition's.
+-- Check and worksheet are the definition's, call by call.
 use borrow.Author.Needs.{needs}
-use Rattle.worksheet.specs.Desks.{cancelOf, cancelCheck}
+use mathlib.Core.Path.{_∙_, ap, ap₂}
+use Rattle.worksheet.specs.Inputs.{_then_}
+use Rattle.worksheet.specs.Desks.{draftCheck, cancelCheck, cancelOf}
+use Rattle.worksheet.proofs.Verdicts.{decided-as}
 use Rattle.worksheet.proofs.desks.cancel.Statement.{statement}
 use Rattle.worksheet.proofs.desks.cancel.Tie as tie
 
 returns : tie.Need-returns
 unfolding cancelOf cancelCheck
-returns c = cc
+returns c =
+    decided-as _ (c .decided .ensures)
+    (c .before .before .then .ensures
+    ∙ ap₂ _then_ (c .before .before .before .before .before .desk-check .ensures) (c .before .before .before .draft-check .ensures ∙ ap draftCheck (c .before .before .before .before .draft-at .ensures)))
+    (c .before .with-draft .ensures)
 
 pub cancel-spec : {M : Type 1} → statement M
 cancel-spec =

@@ -1,7 +1,6 @@
 -- By the draft.
 use borrow.Author.Needs.{needs}
 use mathlib.Core.Path.{sym, ap, _∙_}
-use Rattle.maps.specs.declared.figures.Inputs.{Inputs}
 use Rattle.worksheet.specs.declared.desks.Draft.{Draft}
 use Rattle.worksheet.specs.declared.desks.Draft.the-variants.{Fresh, Stale}
 use Rattle.worksheet.specs.Desks.{editedDraft}

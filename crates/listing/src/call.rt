@@ -4,9 +4,11 @@ use base::angle::Degrees;
 use base::coefficients::float;
 use base::coefficients::word;
 use base::constants::MagneticPole;
-use libc::STDIN_FILENO;
 use maps::figures::Factors;
 use maps::figures::Route;
+use worksheet::desks;
+use worksheet::desks::Outcome;
+use worksheet::desks::Worksheet;
 use worksheet::inputs::Edit;
 ghost use Prim.Native.Nat.{_≤_};
 
@@ -31,11 +33,11 @@ pub enum Call {
 // A call and its size in bytes.
 pub struct Next {
     pub call: Call,
-    pub size: u64,
+    pub size: usize,
 }
 
 // How many bytes follow the operation's word; none where it is unknown.
-fn size_of(operation: u32) -> usize
+pub fn size_of(operation: u32) -> usize
     ensures { λ r. ⌜ r ≤ 24 ⌝ }
 {
     match operation {
@@ -87,7 +89,7 @@ fn path_call(s: &[u8]) -> Call {
 }
 
 // The call of an operation, from the bytes after its word.
-fn call_in(operation: u32, s: &[u8]) -> Call {
+pub fn call_in(operation: u32, s: &[u8]) -> Call {
     match operation {
         1 => Call::Move(Move::Begin(word(s, 0))),
         2 => change_in(s, Edit::Sunspot(float(s, 4))),
@@ -103,50 +105,13 @@ fn call_in(operation: u32, s: &[u8]) -> Call {
     }
 }
 
-fn operation_of(head: &[u8; 4]) -> u32 {
-    word(head, 0)
-}
-
-// The rest of a call, whose first word has been read.
-fn rest_call(operation: u32) -> Next
-    ensures { λ r. ⌜ r .size ≤ 28 ⌝ }
-{
-    let mut s = [0u8; 24];
-    let from: usize = 0;
-    let n = size_of(operation);
-    let got = io::read_full(STDIN_FILENO, &mut s[from..n]);
-    let call = if got < n {
-        Call::Bad
-    } else {
-        from_rest(operation, &s)
-    };
-    Next {
-        call: call,
-        size: 4 + n as u64,
+// What a call that shows nothing answers and leaves.
+pub fn moved(w: Worksheet, m: Move) -> Outcome {
+    match m {
+        Move::Begin(desk) => desks::begin(w, desk),
+        Move::Change(desk, e) => desks::change(w, desk, e),
+        Move::Commit(desk) => desks::commit(w, desk),
+        Move::Cancel(desk) => desks::cancel(w, desk),
+        Move::TakeBack => desks::take_back(w),
     }
-}
-
-fn from_rest(operation: u32, s: &[u8; 24]) -> Call {
-    call_in(operation, s)
-}
-
-// The next call of the input.
-pub fn next_call() -> Next
-    ensures { λ r. ⌜ r .size ≤ 28 ⌝ }
-{
-    let mut head = [0u8; 4];
-    let got = io::read_full(STDIN_FILENO, &mut head);
-    if got == 0 {
-        return Next {
-            call: Call::End,
-            size: 0,
-        };
-    }
-    if got < 4 {
-        return Next {
-            call: Call::Bad,
-            size: 0,
-        };
-    }
-    rest_call(operation_of(&head))
 }

@@ -1,0 +1,56 @@
+// The calls of standard input.
+use base::coefficients::word;
+use libc::STDIN_FILENO;
+use listing::call::Call;
+use listing::call::Next;
+use listing::call::call_in;
+use listing::call::size_of;
+ghost use Prim.Native.Nat.{_≤_};
+
+fn operation_of(head: &[u8; 4]) -> u32 {
+    word(head, 0)
+}
+
+// The rest of a call, whose first word has been read.
+fn rest_call(operation: u32) -> Next
+    ensures { λ r. ⌜ r .size ≤ 28 ⌝ }
+{
+    let mut s = [0u8; 24];
+    let from: usize = 0;
+    let n = size_of(operation);
+    let got = io::read_full(STDIN_FILENO, &mut s[from..n]);
+    let call = if got < n {
+        Call::Bad
+    } else {
+        from_rest(operation, &s)
+    };
+    Next {
+        call: call,
+        size: 4 + n,
+    }
+}
+
+fn from_rest(operation: u32, s: &[u8; 24]) -> Call {
+    call_in(operation, s)
+}
+
+// The next call of the input.
+pub fn next_call() -> Next
+    ensures { λ r. ⌜ r .size ≤ 28 ⌝ }
+{
+    let mut head = [0u8; 4];
+    let got = io::read_full(STDIN_FILENO, &mut head);
+    if got == 0 {
+        return Next {
+            call: Call::End,
+            size: 0,
+        };
+    }
+    if got < 4 {
+        return Next {
+            call: Call::Bad,
+            size: 0,
+        };
+    }
+    rest_call(operation_of(&head))
+}
