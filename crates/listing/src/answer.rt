@@ -3,7 +3,9 @@ use base::number;
 use base::refusal::Refusal;
 use base::refusal::Verdict;
 use libc::STDOUT_FILENO;
-ghost use Prim.Native.Nat.{_+_, _<_, _≤_};
+ghost use mathlib.Core.Path.{_≡_};
+ghost use Prim.Native.Nat.{_+_, _≤_};
+ghost use Rattle.listing.specs.Answer.{glyphOf};
 
 pub fn print(text: &[u8]) {
     io::write_all(STDOUT_FILENO, text);
@@ -37,10 +39,11 @@ pub fn print_points(count: u32) {
     print(b"\n");
 }
 
-// A digit, up to 15.
+// The hexadecimal digit of d, of its last one where d has more.
 pub fn glyph(d: u32) -> u8
-    requires { ⌜ d < 16 ⌝ }
+    ensures { λ r. ⌜ r ≡ glyphOf d ⌝ }
 {
+    let d = d % 16;
     if d < 10 { 48 + d as u8 } else { 87 + d as u8 }
 }
 

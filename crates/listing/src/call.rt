@@ -10,7 +10,9 @@ use worksheet::desks;
 use worksheet::desks::Outcome;
 use worksheet::desks::Worksheet;
 use worksheet::inputs::Edit;
+ghost use mathlib.Core.Path.{_≡_};
 ghost use Prim.Native.Nat.{_≤_};
+ghost use Rattle.listing.specs.Calls.{movedBy};
 
 pub enum Move {
     Begin(u32),
@@ -106,7 +108,9 @@ pub fn call_in(operation: u32, s: &[u8]) -> Call {
 }
 
 // What a call that shows nothing answers and leaves.
-pub fn moved(w: Worksheet, m: Move) -> Outcome {
+pub fn moved(w: Worksheet, m: Move) -> Outcome
+    ensures { λ r. ⌜ r ≡ movedBy w m ⌝ }
+{
     match m {
         Move::Begin(desk) => desks::begin(w, desk),
         Move::Change(desk, e) => desks::change(w, desk, e),
