@@ -6,6 +6,7 @@ pub mod Constants
 pub mod Angle
 pub mod Elementary
 pub mod Refusal
+pub mod Ranges
 pub mod Fill
 pub mod Words
 pub mod MonthFile

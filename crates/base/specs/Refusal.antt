@@ -1,5 +1,6 @@
 -- Document 01's refusals: the number and the place of each case. Assumes nothing.
 use Prim.Native.Nat.{ℕ}
+use mathlib.Core.Bool.{Bool, cond}
 use Rattle.base.specs.declared.refusal.Refusal.{Refusal}
 use Rattle.base.specs.declared.refusal.Refusal.the-variants.{Month, Sunspot, Hour, Latitude, Longitude, Factor, Flag, Record, Ended, Marker, Index, Figures, Table, Desk, Drafted, NoDraft, Stale, NothingEarlier}
 use Rattle.base.specs.declared.refusal.Report.{Report}
@@ -34,3 +35,12 @@ reportOf NothingEarlier = (18, 0)
 abbrev pub verdictReport : Verdict → ℕ × ℕ
 verdictReport Accepted = (0, 0)
 verdictReport (Refused why) = reportOf why
+
+abbrev pub refuseUnless : Bool → Refusal → Verdict
+refuseUnless good why = cond good Accepted (Refused why)
+
+-- the second check, where the first one accepts: the first refusal decides
+infixr 30 _then_
+abbrev pub _then_ : Verdict → Verdict → Verdict
+Accepted then next = next
+Refused why then next = Refused why

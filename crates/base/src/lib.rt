@@ -4,4 +4,5 @@ pub mod coefficients;
 pub mod constants;
 pub mod elementary;
 pub mod number;
+pub mod ranges;
 pub mod refusal;

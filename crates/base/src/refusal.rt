@@ -1,6 +1,6 @@
 // Why a call is refused: a name for each refusal of document 01, with its number and place.
 ghost use mathlib.Core.Path.{_≡_};
-ghost use Rattle.base.specs.Refusal.{pairOf, reportOf, verdictReport};
+ghost use Rattle.base.specs.Refusal.{pairOf, reportOf, verdictReport, refuseUnless, _then_};
 
 // Of a field that stands more than once, and of a place in a file or the number of a map, the case
 // carries which.
@@ -99,5 +99,25 @@ impl Verdict {
         ensures { λ r. ⌜ r ≡ verdictReport self .1 ⌝ }
     {
         self.report().1
+    }
+}
+
+pub fn refuse_unless(good: bool, why: Refusal) -> Verdict
+    ensures { λ r. ⌜ r ≡ refuseUnless good why ⌝ }
+{
+    if good {
+        Verdict::Accepted
+    } else {
+        Verdict::Refused(why)
+    }
+}
+
+// The first refusal of two verdicts.
+pub fn then(first: Verdict, next: Verdict) -> Verdict
+    ensures { λ r. ⌜ r ≡ (first then next) ⌝ }
+{
+    match first {
+        Verdict::Accepted => next,
+        Verdict::Refused(why) => Verdict::Refused(why),
     }
 }

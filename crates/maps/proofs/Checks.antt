@@ -9,15 +9,16 @@ use Rattle.base.specs.declared.refusal.Refusal.{Refusal}
 use Rattle.base.specs.declared.refusal.Verdict.{Verdict}
 use Rattle.base.specs.declared.refusal.Verdict.the-variants.{Accepted, Refused}
 use Rattle.base.specs.declared.refusal.Refusal.the-variants.{Record, Figures}
+use Rattle.base.specs.Refusal.{_then_}
 use Rattle.base.specs.MonthFile.{monthFileCheck}
 use Rattle.base.specs.Index.{indexOf, indexCheck}
 use Rattle.base.proofs.Records.{refused-accepted}
 use Rattle.base.proofs.Indexing.{good-index}
 use Rattle.maps.specs.Virtim.{GoodTable}
-use Rattle.maps.specs.Ionosphere.{andThen, fileCheck, filesCheck}
+use Rattle.maps.specs.Ionosphere.{fileCheck, filesCheck}
 use Rattle.maps.specs.Figures.{figuresCheck}
 
-then-second : (a b : Verdict) → andThen a b ≡ Accepted → b ≡ Accepted
+then-second : (a b : Verdict) → (a then b) ≡ Accepted → b ≡ Accepted
 then-second Accepted b e = e
 then-second (Refused why) b e = refused-accepted e
 

@@ -10,6 +10,7 @@ use Rattle.base.specs.declared.constants.MagneticPole.{MagneticPole}
 use Rattle.base.specs.declared.refusal.Verdict.{Verdict}
 use Rattle.base.specs.declared.refusal.Verdict.the-variants.{Accepted, Refused}
 use Rattle.base.specs.declared.refusal.Refusal.the-variants.{Record}
+use Rattle.base.specs.Refusal.{_then_}
 use Rattle.base.specs.Single.{decimal}
 use Rattle.base.specs.Elementary.{cos32Of}
 use Rattle.base.specs.MonthFile.{monthFileCheck}
@@ -29,14 +30,9 @@ use Rattle.maps.specs.Layers.{monthlyOf, layersOf}
 
 -- ---- what is refused
 
--- the second check, where the first one accepts
-abbrev pub andThen : Verdict → Verdict → Verdict
-andThen Accepted v = v
-andThen (Refused why) v = Refused why
-
 -- '9, 10, 11'
 unfoldable pub fileCheck : List ℕ → Verdict
-fileCheck file = andThen (monthFileCheck file) (indexCheck file)
+fileCheck file = monthFileCheck file then indexCheck file
 
 -- '8 (F2 record under 7,904 bytes), 9, 10, 11'
 unfoldable pub filesCheck : List ℕ → List ℕ → Verdict

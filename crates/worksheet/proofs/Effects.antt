@@ -15,7 +15,8 @@ use Rattle.worksheet.specs.declared.desks.Earlier.{Earlier}
 use Rattle.worksheet.specs.declared.desks.Earlier.the-variants.{Nothing, Set}
 use Rattle.worksheet.specs.declared.desks.Outcome.{Outcome}
 use Rattle.worksheet.specs.declared.desks.Worksheet.{Worksheet}
-use Rattle.worksheet.specs.Inputs.{_then_, editCheck, edited}
+use Rattle.base.specs.Refusal.{_then_}
+use Rattle.worksheet.specs.Inputs.{editCheck, edited}
 use Rattle.worksheet.specs.Desks.{draftAt, withDraft, inputsOf, movedTo, outcome, deskCheck, closedCheck, draftCheck, freshCheck, earlierCheck, beginCheck, beginOf, changeCheck, editedDraft, changeOf, commitCheck, commitOf, cancelCheck, cancelOf, setOf, takeBackOf}
 use Rattle.worksheet.specs.Journal.{Call, begin, commit, cancel, change, takeBack, show, told, accepted, Step, stepOf, step}
 use Rattle.worksheet.proofs.Drafts.{FreshAt, closed-not-fresh, stale-not-fresh}

@@ -10,7 +10,8 @@ use Rattle.maps.specs.declared.figures.Inputs.{Inputs}
 use Rattle.maps.specs.declared.figures.Shown.the-variants.{Refused as NotShown}
 use Rattle.worksheet.specs.declared.inputs.Edit.{Edit}
 use Rattle.worksheet.specs.declared.inputs.Edit.the-variants.{Sunspot, Hour}
-use Rattle.worksheet.specs.Inputs.{monthCheck, sunspotCheck, hourCheck, fieldsCheck, inputsCheck, editCheck}
+use Rattle.base.specs.Ranges.{hourCheck}
+use Rattle.worksheet.specs.Inputs.{monthCheck, sunspotCheck, fieldsCheck, inputsCheck, editCheck}
 use Rattle.worksheet.specs.Desks.{draftAt, withDraft, inputsOf, staleOf, movedTo, outcome, deskCheck, closedCheck, draftCheck, freshCheck, earlierCheck, freshSheet, beginCheck, beginOf, changeCheck, editedDraft, changeOf, commitCheck, commitOf, cancelCheck, cancelOf, setOf, takeBackOf}
 use Rattle.worksheet.specs.Showing.{inputsShown, askedCheck, showCheck, showOf, showBuffer}
 use Rattle.worksheet.specs.Journal.{Call, begin, commit, cancel, change, takeBack, show, Answer, told, shown, Entry, step, run, own, keptFor, shorter, callsOf, keptOf}

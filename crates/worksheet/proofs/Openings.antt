@@ -13,7 +13,9 @@ use Rattle.base.specs.Words.{wordAt}
 use Rattle.maps.specs.declared.figures.Inputs.{Inputs}
 use Rattle.worksheet.specs.declared.inputs.FromWords.the-variants.{Fields, Refused as BadFields}
 use Rattle.worksheet.specs.declared.desks.Opened.the-variants.{Sheet}
-use Rattle.worksheet.specs.Inputs.{monthCheck, sunspotCheck, hourCheck, latitudeCheck, longitudeCheck, factorCheck, flagCheck, _then_, routeCheck, factorsCheck, poleCheck, fieldsCheck, inputsCheck, inputsIn, wordsCheck, fieldsIf, fromWords}
+use Rattle.base.specs.Refusal.{_then_}
+use Rattle.base.specs.Ranges.{hourCheck, latitudeCheck, longitudeCheck}
+use Rattle.worksheet.specs.Inputs.{monthCheck, sunspotCheck, factorCheck, flagCheck, routeCheck, factorsCheck, poleCheck, fieldsCheck, inputsCheck, inputsIn, wordsCheck, fieldsIf, fromWords}
 use Rattle.worksheet.specs.Desks.{freshSheet, openedIf, openOf}
 use Rattle.worksheet.proofs.Effects.{then-both}
 

@@ -17,7 +17,8 @@ use Rattle.worksheet.specs.declared.desks.Draft.the-variants.{Closed, Fr
 use Rattle.worksheet.specs.declared.desks.Earlier.the-variants.{Nothing, Set}
 use Rattle.worksheet.specs.declared.desks.Opened.the-variants.{Sheet}
 use Rattle.worksheet.specs.declared.desks.Worksheet.{Worksheet}
-use Rattle.worksheet.specs.Inputs.{_then_, inputsCheck, edited}
+use Rattle.base.specs.Refusal.{_then_}
+use Rattle.worksheet.specs.Inputs.{inputsCheck, edited}
 use Rattle.worksheet.specs.Desks.{draftAt, withDraft, inputsOf, movedTo, deskCheck, draftCheck, freshSheet, openedIf, openOf, editedDraft}
 use Rattle.worksheet.specs.Showing.{inputsShown, askedCheck, showCheck, shownIf, bufferIf, showOf, showBuffer}
 use Rattle.worksheet.specs.Journal.{Call, begin, commit, cancel, change, takeBack, show, shown, Step, step, Demand3}

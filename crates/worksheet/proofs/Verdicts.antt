@@ -9,12 +9,8 @@ use Rattle.base.specs.declared.refusal.Refusal.{Refusal}
 use Rattle.base.specs.declared.refusal.Verdict.{Verdict}
 use Rattle.worksheet.specs.declared.desks.Outcome.{Outcome}
 use Rattle.worksheet.specs.declared.desks.Worksheet.{Worksheet}
-use Rattle.worksheet.specs.Inputs.{refuseUnless}
+use Rattle.base.specs.Refusal.{refuseUnless}
 use Rattle.worksheet.specs.Desks.{outcome}
-
--- a verdict by a test that is another test
-pub by-test : {v : Verdict} {b b' : Bool} (why : Refusal) → v ≡ refuseUnless b why → b ≡ b' → v ≡ refuseUnless b' why
-by-test why p q = p ∙ ap (λ (z : Bool). refuseUnless z why) q
 
 -- a word of at most 1 is 0 or 1
 pub is-flag : (w : ℕ) → leb w 1 ≡ (eqb w 0 || eqb w 1)

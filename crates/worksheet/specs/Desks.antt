@@ -15,7 +15,8 @@ use Rattle.worksheet.specs.declared.desks.Worksheet.{Worksheet}
 use Rattle.worksheet.specs.declared.desks.Outcome.{Outcome}
 use Rattle.worksheet.specs.declared.desks.Opened.{Opened}
 use Rattle.worksheet.specs.declared.desks.Opened.the-variants.{Sheet, Refused as NotOpened}
-use Rattle.worksheet.specs.Inputs.{refuseUnless, _then_, inputsCheck, editCheck, edited}
+use Rattle.base.specs.Refusal.{refuseUnless, _then_}
+use Rattle.worksheet.specs.Inputs.{inputsCheck, editCheck, edited}
 
 -- ---- 'a draft or none for each desk 1 to 4'
 

@@ -1,16 +1,17 @@
 -- Document 01, At the desks: the 14 fields of the inputs, their ranges, the first bad field's refusal, and changes. Assumes nothing.
 use Prim.Native.Nat.{ℕ}
-use mathlib.Core.Bool.{Bool, cond, _&&_, _||_}
+use mathlib.Core.Bool.{Bool, _&&_, _||_}
 use mathlib.Core.List.{List}
 use lib.Dec.{eqb, leb}
-use lib.Ieee.{Float, le}
+use lib.Ieee.{Float}
 use Rattle.base.specs.declared.angle.Degrees.{Degrees}
 use Rattle.base.specs.declared.constants.MagneticPole.{MagneticPole}
-use Rattle.base.specs.declared.refusal.Refusal.{Refusal}
-use Rattle.base.specs.declared.refusal.Refusal.the-variants.{Month, Sunspot as BadSunspot, Hour as BadHour, Latitude, Longitude, Factor, Flag}
+use Rattle.base.specs.declared.refusal.Refusal.the-variants.{Month, Sunspot as BadSunspot, Factor, Flag}
 use Rattle.base.specs.declared.refusal.Verdict.{Verdict}
 use Rattle.base.specs.declared.refusal.Verdict.the-variants.{Accepted, Refused}
-use Rattle.base.specs.Single.{decimal, minusDecimal}
+use Rattle.base.specs.Refusal.{refuseUnless, _then_}
+use Rattle.base.specs.Ranges.{isTo, hourCheck, latitudeCheck, longitudeCheck}
+use Rattle.base.specs.Single.{decimal}
 use Rattle.base.specs.Words.{wordAt, floatAt}
 use Rattle.maps.specs.declared.figures.Factors.{Factors}
 use Rattle.maps.specs.declared.figures.Inputs.{Inputs}
@@ -21,13 +22,6 @@ use Rattle.worksheet.specs.declared.inputs.FromWords.{FromWords}
 use Rattle.worksheet.specs.declared.inputs.FromWords.the-variants.{Fields, Refused as BadFields}
 
 -- ---- the fields and their ranges
-
--- 'Ends are included; NaN is outside'
-abbrev pub isTo : Float → Float → Float → Bool
-isTo low high x = le low x && le x high
-
-abbrev pub refuseUnless : Bool → Refusal → Verdict
-refuseUnless good why = cond good Accepted (Refused why)
 
 -- 'month 1 to 12'
 abbrev pub isMonth : ℕ → Bool
@@ -40,17 +34,6 @@ monthCheck m = refuseUnless (isMonth m) Month
 unfoldable pub sunspotCheck : Float → Verdict
 sunspotCheck x = refuseUnless (isTo (decimal 0 0) (decimal 300 0) x) BadSunspot
 
--- 'hour 0 to 24 (GMT)'
-unfoldable pub hourCheck : Float → Verdict
-hourCheck x = refuseUnless (isTo (decimal 0 0) (decimal 24 0) x) BadHour
-
--- 'degrees, -90 to 90 and -180 to 180'; 'The place is the field's number, 1 to 14'
-unfoldable pub latitudeCheck : ℕ → Degrees → Verdict
-latitudeCheck field x = refuseUnless (isTo (minusDecimal 90 0) (decimal 90 0) (x .0)) (Latitude field)
-
-unfoldable pub longitudeCheck : ℕ → Degrees → Verdict
-longitudeCheck field x = refuseUnless (isTo (minusDecimal 180 0) (decimal 180 0) (x .0)) (Longitude field)
-
 -- 'four factors 0.125 to 8 (`psc`)'
 unfoldable pub factorCheck : ℕ → Float → Verdict
 factorCheck field x = refuseUnless (isTo (decimal 125 3) (decimal 8 0) x) (Factor field)
@@ -60,11 +43,6 @@ unfoldable pub flagCheck : ℕ → Verdict
 flagCheck word = refuseUnless (eqb word 0 || eqb word 1) Flag
 
 -- ---- 'The first bad field decides'
-
-infixr 30 _then_
-abbrev pub _then_ : Verdict → Verdict → Verdict
-Accepted then next = next
-Refused why then next = Refused why
 
 -- 'transmitter latitude, longitude, receiver latitude, longitude'
 unfoldable pub routeCheck : Route → Verdict

@@ -11,7 +11,8 @@ use Rattle.maps.specs.declared.figures.Shown.{Shown}
 use Rattle.maps.specs.declared.figures.Shown.the-variants.{Refused as NotShown}
 use Rattle.maps.specs.Figures.{shownOf, bufferAfter}
 use Rattle.worksheet.specs.declared.desks.Worksheet.{Worksheet}
-use Rattle.worksheet.specs.Inputs.{_then_, inputsCheck}
+use Rattle.base.specs.Refusal.{_then_}
+use Rattle.worksheet.specs.Inputs.{inputsCheck}
 use Rattle.worksheet.specs.Desks.{draftAt, inputsOf, deskCheck, draftCheck}
 
 -- 'takes desk 1 to 4, or 0 for the worksheet'; 'A stale draft is shown all the same'

@@ -4,13 +4,19 @@ use base::angle::Degrees;
 use base::coefficients::float;
 use base::coefficients::word;
 use base::constants::MagneticPole;
+use base::ranges::hour_check;
+use base::ranges::is_to;
+use base::ranges::latitude_check;
+use base::ranges::longitude_check;
 use base::refusal::Refusal;
 use base::refusal::Verdict;
+use base::refusal::refuse_unless;
+use base::refusal::then;
 use maps::figures::Factors;
 use maps::figures::Inputs;
 use maps::figures::Route;
 ghost use mathlib.Core.Path.{_≡_};
-ghost use Rattle.worksheet.specs.Inputs.{isTo, refuseUnless, isMonth, monthCheck, sunspotCheck, hourCheck, latitudeCheck, longitudeCheck, factorCheck, flagCheck, _then_, routeCheck, factorsCheck, poleCheck, fieldsCheck, inputsCheck, editCheck, edited, degreesAt, routeIn, factorsIn, poleIn, inputsIn, wordsCheck, fieldsIf, fromWords};
+ghost use Rattle.worksheet.specs.Inputs.{isMonth, monthCheck, sunspotCheck, factorCheck, flagCheck, routeCheck, factorsCheck, poleCheck, fieldsCheck, inputsCheck, editCheck, edited, degreesAt, routeIn, factorsIn, poleIn, inputsIn, wordsCheck, fieldsIf, fromWords};
 
 // A change, with all its numbers; a path is fields 4 to 8, the flag included.
 pub enum Edit {
@@ -25,33 +31,6 @@ pub enum Edit {
 pub enum FromWords {
     Fields(Inputs),
     Refused(Refusal),
-}
-
-// Ends are included; a NaN is outside.
-fn is_to(low: f32, high: f32, x: f32) -> bool
-    ensures { λ r. ⌜ r ≡ isTo low high x ⌝ }
-{
-    if low <= x { x <= high } else { false }
-}
-
-pub(crate) fn refuse_unless(good: bool, why: Refusal) -> Verdict
-    ensures { λ r. ⌜ r ≡ refuseUnless good why ⌝ }
-{
-    if good {
-        Verdict::Accepted
-    } else {
-        Verdict::Refused(why)
-    }
-}
-
-// The first refusal of two verdicts.
-pub(crate) fn then(first: Verdict, next: Verdict) -> Verdict
-    ensures { λ r. ⌜ r ≡ (first then next) ⌝ }
-{
-    match first {
-        Verdict::Accepted => next,
-        Verdict::Refused(why) => Verdict::Refused(why),
-    }
 }
 
 fn is_month(m: u32) -> bool
@@ -70,24 +49,6 @@ fn sunspot_check(x: f32) -> Verdict
     ensures { λ r. ⌜ r ≡ sunspotCheck x ⌝ }
 {
     refuse_unless(is_to(0.0, 300.0, x), Refusal::Sunspot)
-}
-
-fn hour_check(x: f32) -> Verdict
-    ensures { λ r. ⌜ r ≡ hourCheck x ⌝ }
-{
-    refuse_unless(is_to(0.0, 24.0, x), Refusal::Hour)
-}
-
-fn latitude_check(field: u32, x: Degrees) -> Verdict
-    ensures { λ r. ⌜ r ≡ latitudeCheck field x ⌝ }
-{
-    refuse_unless(is_to(-90.0, 90.0, x.0), Refusal::Latitude(field))
-}
-
-fn longitude_check(field: u32, x: Degrees) -> Verdict
-    ensures { λ r. ⌜ r ≡ longitudeCheck field x ⌝ }
-{
-    refuse_unless(is_to(-180.0, 180.0, x.0), Refusal::Longitude(field))
 }
 
 fn factor_check(field: u32, x: f32) -> Verdict

@@ -3,7 +3,8 @@ use borrow.Author.Needs.{needs}
 use mathlib.Core.Path.{_≡_, sym, ap, _∙_}
 use Rattle.base.specs.declared.refusal.Verdict.{Verdict}
 use Rattle.base.specs.Index.{indexCheck}
-use Rattle.maps.specs.Ionosphere.{andThen, fileCheck}
+use Rattle.base.specs.Refusal.{_then_}
+use Rattle.maps.specs.Ionosphere.{fileCheck}
 use Rattle.maps.proofs.ionosphere.file_check.Statement.{statement}
 use Rattle.maps.proofs.ionosphere.file_check.Tie as tie
 
@@ -12,13 +13,13 @@ unfolding fileCheck
 returns c =
     let file = c .before .before .before .before .before .args .file .now in
     c .index-check .ensures
-    ∙ sym (ap (λ (v : Verdict). andThen v (indexCheck file)) (sym (c .before .before .before .month-file-check .ensures) ∙ c .before .enum-told .given .1))
+    ∙ sym (ap (λ (v : Verdict). v then indexCheck file) (sym (c .before .before .before .month-file-check .ensures) ∙ c .before .enum-told .given .1))
 
 returns-2 : tie.Need-returns-2
 unfolding fileCheck
 returns-2 c =
     let file = c .before .before .before .before .before .args .file .now in
-    sym (ap (λ (v : Verdict). andThen v (indexCheck file)) (sym (c .before .before .before .month-file-check .ensures) ∙ c .before .walked .given .1))
+    sym (ap (λ (v : Verdict). v then indexCheck file) (sym (c .before .before .before .month-file-check .ensures) ∙ c .before .walked .given .1))
 
 pub file-check-spec : {M : Type 1} → statement M
 file-check-spec =

@@ -2,7 +2,7 @@
 use borrow.Author.Needs.{needs}
 use mathlib.Core.Path.{_∙_, ap, ap₂}
 use Rattle.worksheet.specs.declared.desks.Draft.{Draft}
-use Rattle.worksheet.specs.Inputs.{_then_}
+use Rattle.base.specs.Refusal.{_then_}
 use Rattle.worksheet.specs.Desks.{withDraft, draftCheck, editedDraft, changeCheck, changeOf}
 use Rattle.worksheet.proofs.Verdicts.{decided-as}
 use Rattle.worksheet.proofs.desks.change.Statement.{statement}

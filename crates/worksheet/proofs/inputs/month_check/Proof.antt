@@ -1,7 +1,7 @@
 -- By the verdict on the test.
 use borrow.Author.Needs.{needs}
 use Rattle.worksheet.specs.Inputs.{monthCheck}
-use Rattle.worksheet.proofs.Verdicts.{by-test}
+use Rattle.base.proofs.Refusals.{by-test}
 use Rattle.worksheet.proofs.inputs.month_check.Statement.{statement}
 use Rattle.worksheet.proofs.inputs.month_check.Tie as tie
 

@@ -1,7 +1,7 @@
 -- By whether the worksheet is asked for.
 use borrow.Author.Needs.{needs}
 use mathlib.Core.Path.{_∙_, ap, ap₂}
-use Rattle.worksheet.specs.Inputs.{_then_}
+use Rattle.base.specs.Refusal.{_then_}
 use Rattle.worksheet.specs.Desks.{draftCheck}
 use Rattle.worksheet.specs.Showing.{askedCheck}
 use Rattle.worksheet.proofs.Showings.{asked-sheet, asked-desk}

@@ -1,6 +1,6 @@
 -- By the test.
-use Rattle.worksheet.proofs.inputs.refuse_unless.Statement.{statement}
-use Rattle.worksheet.proofs.inputs.refuse_unless.Tie as tie
+use Rattle.base.proofs.refusal.refuse_unless.Statement.{statement}
+use Rattle.base.proofs.refusal.refuse_unless.Tie as tie
 
 returns : tie.Need-returns
 returns c = simp (c .if1 .taken)

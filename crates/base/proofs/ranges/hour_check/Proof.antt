@@ -1,11 +1,11 @@
 -- The ends of the range are the decimals, by computation.
 use borrow.Author.Needs.{needs}
 use lib.Ieee.{ofBits, round}
 use Rattle.base.specs.Single.{decimal}
-use Rattle.worksheet.specs.Inputs.{hourCheck}
-use Rattle.worksheet.proofs.Verdicts.{by-test}
-use Rattle.worksheet.proofs.inputs.hour_check.Statement.{statement}
-use Rattle.worksheet.proofs.inputs.hour_check.Tie as tie
+use Rattle.base.specs.Ranges.{hourCheck}
+use Rattle.base.proofs.Refusals.{by-test}
+use Rattle.base.proofs.ranges.hour_check.Statement.{statement}
+use Rattle.base.proofs.ranges.hour_check.Tie as tie
 
 returns : tie.Need-returns
 unfolding hourCheck decimal round ofBits

@@ -1,10 +1,10 @@
 -- By the first verdict.
 use borrow.Author.Needs.{needs}
 use mathlib.Core.Path.{sym, ap}
 use Rattle.base.specs.declared.refusal.Verdict.{Verdict}
-use Rattle.worksheet.specs.Inputs.{_then_}
-use Rattle.worksheet.proofs.inputs.then.Statement.{statement}
-use Rattle.worksheet.proofs.inputs.then.Tie as tie
+use Rattle.base.specs.Refusal.{_then_}
+use Rattle.base.proofs.refusal.then.Statement.{statement}
+use Rattle.base.proofs.refusal.then.Tie as tie
 
 returns-2 : tie.Need-returns-2
 returns-2 c = sym (ap (λ (v : Verdict). v then c .before .before .before .args .next) (c .before .first .given .1))

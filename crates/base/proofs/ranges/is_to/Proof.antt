@@ -1,6 +1,6 @@
 -- By the two tests.
-use Rattle.worksheet.proofs.inputs.is_to.Statement.{statement}
-use Rattle.worksheet.proofs.inputs.is_to.Tie as tie
+use Rattle.base.proofs.ranges.is_to.Statement.{statement}
+use Rattle.base.proofs.ranges.is_to.Tie as tie
 
 returns : tie.Need-returns
 returns c = simp (c .if1 .taken)

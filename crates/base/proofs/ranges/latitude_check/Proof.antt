@@ -1,11 +1,11 @@
 -- The ends of the range are the decimals, by computation.
 use borrow.Author.Needs.{needs}
 use lib.Ieee.{ofBits, round, neg}
 use Rattle.base.specs.Single.{decimal, minusDecimal}
-use Rattle.worksheet.specs.Inputs.{latitudeCheck}
-use Rattle.worksheet.proofs.Verdicts.{by-test}
-use Rattle.worksheet.proofs.inputs.latitude_check.Statement.{statement}
-use Rattle.worksheet.proofs.inputs.latitude_check.Tie as tie
+use Rattle.base.specs.Ranges.{latitudeCheck}
+use Rattle.base.proofs.Refusals.{by-test}
+use Rattle.base.proofs.ranges.latitude_check.Statement.{statement}
+use Rattle.base.proofs.ranges.latitude_check.Tie as tie
 
 returns : tie.Need-returns
 unfolding latitudeCheck decimal minusDecimal round ofBits neg
