@@ -14,6 +14,7 @@ use Rattle.base.specs.declared.refusal.Verdict.the-variants.{Accepted, Refused}
 use Rattle.base.specs.Single.{decimal}
 use Rattle.maps.specs.declared.figures.Inputs.{Inputs}
 use Rattle.maps.specs.declared.figures.Route.{Route}
+use Rattle.maps.specs.declared.figures.Shown.the-variants.{Points, Refused as NotShown}
 use Rattle.base.specs.declared.constants.MagneticPole.{MagneticPole}
 use Rattle.maps.specs.declared.geometry.ControlPoint.{ControlPoint}
 use Rattle.maps.specs.declared.geometry.PathGeometry.{PathGeometry}
@@ -64,6 +65,23 @@ module _ (f2 file : List ℕ) (i : Inputs) where
   pub none-written : (b : List Float) (why : Refusal) → figuresCheck f2 file (length b) ≡ Refused why → bufferAfter f2 file i b ≡ b
   unfolding bufferAfter
   none-written b why e = ap (λ (v : Verdict). writtenOver v (figuresOf f2 file i) b) e
+
+  -- the same by the answer: a count is the path's, with every figure in the buffer; a refusal leaves the buffer
+  pub counted-written : (b : List Float) (count : ℕ) → shownOf f2 file i b ≡ Points count → (count ≡ routeOf i .count) × (bufferAfter f2 file i b ≡ figuresOf f2 file i)
+  unfolding shownOf bufferAfter
+  counted-written b count h = go (figuresCheck f2 file (length b)) h
+    where
+      go : (v : Verdict) → answerOf v (routeOf i .count) ≡ Points count → (count ≡ routeOf i .count) × (writtenOver v (figuresOf f2 file i) b ≡ figuresOf f2 file i)
+      go Accepted e = (cc, refl)
+      go (Refused why) e = let z : _≡_ {A = ℕ} 0 1 = cc in absurd (omega arith)
+
+  pub refused-left : (b : List Float) (why : Refusal) → shownOf f2 file i b ≡ NotShown why → bufferAfter f2 file i b ≡ b
+  unfolding shownOf bufferAfter
+  refused-left b why h = go (figuresCheck f2 file (length b)) h
+    where
+      go : (v : Verdict) → answerOf v (routeOf i .count) ≡ NotShown why → writtenOver v (figuresOf f2 file i) b ≡ b
+      go Accepted e = let z : _≡_ {A = ℕ} 0 1 = cc in absurd (omega arith)
+      go (Refused other) e = refl
 
 -- ---- path and pole
 

@@ -13,6 +13,7 @@ use Rattle.base.specs.declared.refusal.Verdict.the-variants.{Accepted, Refused}
 use Rattle.maps.specs.declared.figures.Inputs.{Inputs}
 use Rattle.maps.specs.declared.figures.Shown.the-variants.{Points}
 use Rattle.maps.specs.Figures.{shownOf, bufferAfter}
+use Rattle.maps.proofs.Alone.{counted-written}
 use Rattle.worksheet.specs.declared.inputs.Edit.{Edit}
 use Rattle.worksheet.specs.declared.desks.Opened.the-variants.{Sheet}
 use Rattle.worksheet.specs.declared.desks.Worksheet.{Worksheet}
@@ -93,26 +94,30 @@ at-holds f2 file i w opened before x a =
 
 -- an accepted showing of the worksheet s
 shown-figures : (f2 file : List ℕ) (s : Worksheet) (lent after : List Float) (count : ℕ)
-    → shown (Points count) after ≡ step f2 file (show 0 lent) s .answer → FiguresOf f2 file (s .inputs) lent count after
+    → shown (Points count) after ≡ step f2 file (show 0 lent) s .answer → FiguresOf f2 file (s .inputs) count after
 unfolding step showOf showBuffer inputsShown
 shown-figures f2 file s lent after count h = go (showCheck 0 s) h
   where
     go : (v : Verdict) → shown (Points count) after ≡ shown (shownIf v (shownOf f2 file (s .inputs) lent)) (bufferIf v (bufferAfter f2 file (s .inputs) lent) lent)
-        → FiguresOf f2 file (s .inputs) lent count after
-    go Accepted e = record { points = (cc); whole = (cc) }
+        → FiguresOf f2 file (s .inputs) count after
+    go Accepted e =
+        let p : shownOf f2 file (s .inputs) lent ≡ Points count = cc in
+        let q : after ≡ bufferAfter f2 file (s .inputs) lent = cc in
+        let all = counted-written f2 file (s .inputs) lent count p in
+        record { points = all .0; whole = q ∙ all .1 }
     go (Refused why) e = let z : _≡_ {A = ℕ} 0 1 = cc in absurd (omega arith)
 
 -- For every record and month file, every worksheet that open gives and every list of calls: each accepted showing of the worksheet, with the entries before it, gave the number of points and the whole figures of the inputs in force after those entries.
 pub insurers-line : (f2 file : List ℕ) (opened : Inputs) (w : Worksheet) → openOf opened ≡ Sheet w
     → (cs : List Call) (before later : List Entry) (lent figures : List Float) (count : ℕ)
     → run f2 file cs w .entries ≡ before ++ (record { call = show 0 lent; answer = shown (Points count) figures } ∷ later)
-    → FiguresOf f2 file (inForce opened before) lent count figures
+    → FiguresOf f2 file (inForce opened before) count figures
 unfolding inForce
 insurers-line f2 file opened w given cs before later lent figures count h =
     let x : Entry = record { call = show 0 lent; answer = shown (Points count) figures } in
     let a = run-split f2 file cs w before x later h in
     let s = run f2 file (a .calls) w .sheet in
-    subst (λ (j : Inputs). FiguresOf f2 file j lent count figures)
+    subst (λ (j : Inputs). FiguresOf f2 file j count figures)
     (at-holds f2 file opened w given before x a .at-present ∙ ap (changed opened) (walked-all before))
     (shown-figures f2 file s lent figures count (ap (λ (y : Entry). y .answer) (a .there)))
 

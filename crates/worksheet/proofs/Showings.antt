@@ -13,6 +13,7 @@ use Rattle.maps.specs.declared.figures.Inputs.{Inputs}
 use Rattle.maps.specs.declared.figures.Shown.{Shown}
 use Rattle.maps.specs.declared.figures.Shown.the-variants.{Refused as NotShown}
 use Rattle.maps.specs.Figures.{shownOf, bufferAfter}
+use Rattle.maps.proofs.Alone.{refused-left}
 use Rattle.worksheet.specs.declared.desks.Worksheet.{Worksheet}
 use Rattle.worksheet.specs.Showing.{inputsShown, showCheck, shownIf, bufferIf, showOf, showBuffer}
 
@@ -42,14 +43,12 @@ asked-sheet n x y e = sym (ap (λ (z : Bool). cond z x y) (eq-eqb n 0 e))
 pub asked-desk : {A : Type 0} (n : ℕ) (x y : A) → (n ≡ 0 → ⊥) → y ≡ cond (eqb n 0) x y
 asked-desk n x y h = sym (ap (λ (z : Bool). cond z x y) (ne-eqb n 0 h))
 
--- A REFUSED SHOWING LEAVES THE BUFFER, given that the figures' own refusals do
-module _ (f2 file : List ℕ)
-    (kept : (i : Inputs) (lent : List Float) (why : Refusal) → shownOf f2 file i lent ≡ NotShown why → bufferAfter f2 file i lent ≡ lent) where
-  pub refused-buffer : (n : ℕ) (lent : List Float) (w : Worksheet) (why : Refusal) → showOf f2 file n lent w ≡ NotShown why → showBuffer f2 file n lent w ≡ lent
-  unfolding showOf showBuffer
-  refused-buffer n lent w why h = go (showCheck n w) h
-    where
-      go : (v : Verdict) → shownIf v (shownOf f2 file (inputsShown n w) lent) ≡ NotShown why
-          → bufferIf v (bufferAfter f2 file (inputsShown n w) lent) lent ≡ lent
-      go Accepted e = kept (inputsShown n w) lent why e
-      go (Refused r) e = refl
+-- A REFUSED SHOWING LEAVES THE BUFFER
+pub refused-buffer : (f2 file : List ℕ) (n : ℕ) (lent : List Float) (w : Worksheet) (why : Refusal) → showOf f2 file n lent w ≡ NotShown why → showBuffer f2 file n lent w ≡ lent
+unfolding showOf showBuffer
+refused-buffer f2 file n lent w why h = go (showCheck n w) h
+  where
+    go : (v : Verdict) → shownIf v (shownOf f2 file (inputsShown n w) lent) ≡ NotShown why
+        → bufferIf v (bufferAfter f2 file (inputsShown n w) lent) lent ≡ lent
+    go Accepted e = refused-left f2 file (inputsShown n w) lent why e
+    go (Refused other) e = refl

@@ -6,8 +6,7 @@ use mathlib.Core.Path.{_≡_}
 use lib.Dec.{eqb}
 use lib.Ieee.{Float}
 use Rattle.maps.specs.declared.figures.Inputs.{Inputs}
-use Rattle.maps.specs.declared.figures.Shown.the-variants.{Points}
-use Rattle.maps.specs.Figures.{shownOf, bufferAfter}
+use Rattle.maps.specs.Figures.{routeOf, figuresOf}
 use Rattle.worksheet.specs.declared.inputs.Edit.{Edit}
 use Rattle.worksheet.specs.Inputs.{edited}
 use Rattle.worksheet.specs.Journal.{Call, begin, commit, cancel, change, takeBack, show, Entry, accepted, begins, belongs, own, keep, none}
@@ -71,9 +70,9 @@ inForce opened entries = changed opened (standing [] entries)
 
 module _ (f2 file : List ℕ) where
   -- a showing's number of points and its whole figures are those of one set of inputs
-  pub record FiguresOf (i : Inputs) (lent : List Float) (count : ℕ) (figures : List Float) : Type 0 where
-    pub points : Points count ≡ shownOf f2 file i lent
-    pub whole : figures ≡ bufferAfter f2 file i lent
+  pub record FiguresOf (i : Inputs) (count : ℕ) (figures : List Float) : Type 0 where
+    pub points : count ≡ routeOf i .count
+    pub whole : figures ≡ figuresOf f2 file i
 
 -- ---- a commit's draft started from the inputs in force, and nothing came between
 
