@@ -27,6 +27,7 @@ pub mod Entries
 pub mod Walks
 pub mod Records
 pub mod Places
+pub mod Parts
 pub mod Ladders
 pub mod Indexing
 pub mod Maps

@@ -1,9 +1,15 @@
--- The 20 tables of the month file: where each stands, from the records' sizes and the shapes of the Rust's arrays. Assumes nothing.
+-- The 20 tables of the month file: where each stands, from the records' sizes and the shapes of the Rust's arrays; and document 01's Table. Assumes nothing.
 use mathlib.Core.Path.{_≡_}
 use Prim.Native.Nat.{ℕ, _+_, _-_, _*_, _/_, _≤_}
-use mathlib.Core.List.{List, [], _∷_, _++_}
-use lib.ListN.{getD}
-use Rattle.base.specs.MonthFile.{sizes}
+use mathlib.Core.Bool.{cond}
+use mathlib.Core.List.{List, [], _∷_, _++_, map}
+use lib.Dec.{leb, eqb}
+use lib.ListN.{length, getD}
+use denote.Ref.{RefT, now}
+use Rattle.base.specs.declared.refusal.Refusal.the-variants.{Record, Table as NoTable}
+use Rattle.base.specs.declared.refusal.Verdict.{Verdict}
+use Rattle.base.specs.declared.refusal.Verdict.the-variants.{Refused}
+use Rattle.base.specs.MonthFile.{Part, emptyPart, accepted, sizes, monthFileCheck}
 
 -- ---- shapes
 
@@ -143,3 +149,32 @@ PackedRecords at end [] (ts ∷ rs) = ⊥
 PackedRecords at end (n ∷ ns) [] = ⊥
 PackedRecords at end (n ∷ ns) (ts ∷ rs) =
     (bytesOf ts ≡ n) × Packed (at + 4) (at + 4 + n) ts × PackedRecords (at + n + 8) end ns rs
+
+-- ---- Table
+
+-- 'number 0 (F2 planes)': the planes are `XF2COF(13,76,2)`
+abbrev pub f2Planes : Part
+f2Planes = record { from = 0; size = 4 * product (13 ∷ 76 ∷ 2 ∷ []) }
+
+abbrev pub bytesIn : Table → Part
+bytesIn t = record { from = t .from; size = 4 * t .words }
+
+-- the part of a number in the file that holds it; of no bytes above 20
+unfoldable pub partOf : ℕ → Part
+partOf number = getD (f2Planes ∷ map bytesIn tables) number emptyPart
+
+-- 'It refuses 13 (number above 20), 8, 9, 10, both files being checked for every number'; of the F2 record 'bytes after 7,904 ignored'
+unfoldable pub tableCheck : ℕ → List ℕ → List ℕ → Verdict
+tableCheck number f2 month =
+    cond (leb number 20)
+    (cond (leb 7904 (length f2)) (monthFileCheck month) (Refused Record))
+    (Refused NoTable)
+
+-- 'Where this or Table refuses, the part handed back is empty'
+unfoldable pub tablePart : ℕ → List ℕ → List ℕ → Part
+tablePart number f2 month = cond (accepted (tableCheck number f2 month)) (partOf number) emptyPart
+
+-- 'a part of the lent file that holds them'; refused, 'at the start of the first file lent'
+unfoldable pub tableFile : ℕ → RefT (List ℕ) → RefT (List ℕ) → RefT (List ℕ)
+tableFile number f2 month =
+    cond (accepted (tableCheck number (now f2) (now month))) (cond (eqb number 0) f2 month) f2

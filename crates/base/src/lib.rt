@@ -6,3 +6,4 @@ pub mod elementary;
 pub mod number;
 pub mod ranges;
 pub mod refusal;
+pub mod tables;

@@ -1,0 +1,46 @@
+-- The source's rows are the parts' starts and sizes, by computation over the whole table; a reading of one is a reading of the other.
+use borrow.Author.Needs.{needs}
+use mathlib.Core.Path.{_≡_, sym, ap}
+use mathlib.Core.List.{List, [], _∷_, map}
+use Prim.Native.Nat.{ℕ}
+use lib.ListN.{getD, List·getD-map}
+use Rattle.base.specs.MonthFile.{Part}
+use Rattle.base.specs.Tables.{tables, f2Planes, bytesIn, partOf}
+use Rattle.base.proofs.Parts.{no-part}
+use Rattle.base.proofs.tables.table_place.Statement.{statement}
+use Rattle.base.proofs.tables.table_place.Tie as tie
+
+-- to a row of the source's table and back
+abbrev row : Part → List ℕ
+row p = p .from ∷ p .size ∷ []
+
+abbrev of-row : List ℕ → Part
+of-row l = record { from = getD l 0 0; size = getD l 1 0 }
+
+abbrev rows : List (List ℕ)
+rows = map row (f2Planes ∷ map bytesIn tables)
+
+of-rows : (k : ℕ) → partOf k ≡ of-row (getD rows k [])
+unfolding partOf
+of-rows k = List·getD-map of-row rows k []
+
+returns : tie.Need-returns
+returns c =
+    let e = no-part (c .before .args .number) (c .if1 .taken) in
+    (sym (ap (λ (p : Part). p .from) e), sym (ap (λ (p : Part). p .size) e))
+
+returns-2 : tie.Need-returns-2
+returns-2 c =
+    let e = of-rows (c .before .before .args .number) in
+    (sym (ap (λ (p : Part). p .from) e), sym (ap (λ (p : Part). p .size) e))
+
+pub table-place-spec : {M : Type 1} → statement M
+table-place-spec =
+    tie.close
+    (tie.spec
+    returns
+    (λ c. search needs)
+    (λ c. search needs)
+    (λ c. search needs)
+    (λ c. search needs)
+    returns-2)
