@@ -33,3 +33,4 @@ pub mod Indexing
 pub mod Maps
 pub mod Points
 pub mod Blends
+pub mod Later

@@ -14,3 +14,4 @@ pub mod Checks
 pub mod Written
 pub mod Typed
 pub mod Alone
+pub mod Ignored

@@ -1,0 +1,101 @@
+-- Document 01's 'later bytes are ignored', of the record and of the month file: files that agree in their first 7,904 and 38,552 bytes have the same check,
+-- the same answer and the same figures. Everything that a sheet reads lies among those bytes. Assumes nothing.
+use mathlib.Core.Path.{_≡_, sym, ap, _∙_}
+use mathlib.Core.Bool.{cond}
+use mathlib.Core.List.{List, [], _∷_}
+use Prim.Native.Nat.{ℕ, _+_, _*_, _≤_}
+use native.Mathlib.Omega.{arith}
+use lib.Dec.{leb, eqb, lit≤}
+use lib.ListN.{length}
+use lib.Ieee.{Float}
+use borrow.Author.Tests.{le-leb}
+use Rattle.base.specs.declared.refusal.Refusal.the-variants.{Record, Figures}
+use Rattle.base.specs.declared.refusal.Verdict.{Verdict}
+use Rattle.base.specs.declared.refusal.Verdict.the-variants.{Accepted, Refused}
+use Rattle.base.specs.Single.{_⊕_, _⊗_}
+use Rattle.base.specs.Refusal.{_then_}
+use Rattle.base.specs.Tables.{placeOf, achi, bchi, anew, bnew, abmap}
+use Rattle.base.specs.Words.{floatAt}
+use Rattle.base.proofs.Later.{Alike, float-alike, file-alike, check-alike, index-alike, cofion-alike, hmym-alike, fakmap-alike}
+use Rattle.maps.specs.declared.figures.Inputs.{Inputs}
+use Rattle.maps.specs.declared.ionosphere.layers.Monthly.{Monthly}
+use Rattle.maps.specs.Virtim.{virtimOf}
+use Rattle.maps.specs.Layers.{sunOf, termOf, abmapAt, monthlyOf}
+use Rattle.maps.specs.Ionosphere.{fileCheck, filesCheck, hourMapsOf, writtenOver}
+use Rattle.maps.specs.Figures.{figuresCheck, Hour, hour, hourOf, figuresTo, routeOf, figuresOf, answerOf, shownOf, bufferAfter}
+
+module _ (f g s t : List ℕ) (b : Alike 7904 f g) (a : Alike 38552 s t) where
+  term-alike : (x y k : ℕ) (ssn : Float) → placeOf x + 4 * k + 4 ≤ 38552 → placeOf y + 4 * k + 4 ≤ 38552 → termOf s x y k ssn ≡ termOf t x y k ssn
+  unfolding termOf
+  term-alike x y k ssn p q =
+      let u = float-alike 38552 s t a (placeOf x + 4 * k) p in
+      let v = float-alike 38552 s t a (placeOf y + 4 * k) q in
+      λ i. u i ⊕ v i ⊗ ssn
+
+  abmap-alike : (c k : ℕ) → placeOf abmap + 4 * (c * 2 + k) + 4 ≤ 38552 → abmapAt s c k ≡ abmapAt t c k
+  unfolding abmapAt
+  abmap-alike c k p = float-alike 38552 s t a (placeOf abmap + 4 * (c * 2 + k)) p
+
+  monthly-alike : (month : ℕ) (ssn : Float) → monthlyOf s month ssn ≡ monthlyOf t month ssn
+  unfolding monthlyOf
+  monthly-alike month ssn =
+      let chi0 = term-alike achi bchi 0 ssn (lit≤ tt) (lit≤ tt) in
+      let chi1 = term-alike achi bchi 1 ssn (lit≤ tt) (lit≤ tt) in
+      let new0 = term-alike anew bnew 0 ssn (lit≤ tt) (lit≤ tt) in
+      let new1 = term-alike anew bnew 1 ssn (lit≤ tt) (lit≤ tt) in
+      let new2 = term-alike anew bnew 2 ssn (lit≤ tt) (lit≤ tt) in
+      let m00 = abmap-alike 0 0 (lit≤ tt) in
+      let m01 = abmap-alike 0 1 (lit≤ tt) in
+      let m10 = abmap-alike 1 0 (lit≤ tt) in
+      let m11 = abmap-alike 1 1 (lit≤ tt) in
+      λ i.
+      record {
+        sun = sunOf month;
+        chi0 = chi0 i;
+        chi1 = chi1 i;
+        new0 = new0 i;
+        new1 = new1 i;
+        new2 = new2 i;
+        «land_alf» = m00 i;
+        «land_bet» = m01 i;
+        «ratio_alf» = m10 i;
+        «ratio_bet» = m11 i;
+      }
+
+  files-alike : filesCheck f s ≡ filesCheck g t
+  unfolding filesCheck fileCheck
+  files-alike =
+      let p = b .here in
+      let q = b .there in
+      let l : leb 7904 (length f) ≡ leb 7904 (length g) = le-leb 7904 (length f) p ∙ sym (le-leb 7904 (length g) q) in
+      let walked = file-alike s t a in
+      let index = check-alike 38552 s t a (lit≤ tt) in
+      λ i. cond (l i) (walked i then index i) (Refused Record)
+
+  module _ (x : Inputs) where
+    hour-alike : hourOf f s x ≡ hourOf g t x
+    unfolding hourOf hourMapsOf
+    hour-alike =
+        let cof = cofion-alike s t a f g b (x .ssn) in
+        let index = index-alike 38552 s t a (lit≤ tt) in
+        let monthly = monthly-alike (x .month) (x .ssn) in
+        let hmym = hmym-alike s t a (x .ssn) in
+        let fakmap = fakmap-alike s t a in
+        λ i. hour (virtimOf (cof i) (index i) (x .gmt)) (index i) (monthly i) (hmym i) (fakmap i)
+
+    pub later-figures : figuresOf f s x ≡ figuresOf g t x
+    unfolding figuresOf
+    later-figures = ap (λ (h : Hour). figuresTo h x (routeOf x) 5) hour-alike
+
+    module _ (out : List Float) where
+      check-same : figuresCheck f s (length out) ≡ figuresCheck g t (length out)
+      unfolding figuresCheck
+      check-same = ap (λ (v : Verdict). cond (eqb (length out) 151) v (Refused Figures)) files-alike
+
+      pub later-answer : shownOf f s x out ≡ shownOf g t x out
+      unfolding shownOf
+      later-answer = ap (λ (v : Verdict). answerOf v (routeOf x .count)) check-same
+
+      pub later-buffer : bufferAfter f s x out ≡ bufferAfter g t x out
+      unfolding bufferAfter
+      later-buffer = let c = check-same in let l = later-figures in λ i. writtenOver (c i) (l i) out
