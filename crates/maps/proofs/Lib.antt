@@ -8,6 +8,7 @@ pub mod MapSeries
 pub mod Refills
 pub mod NoisySums
 pub mod Clock
+pub mod WholeSums
 pub mod Sines
 pub mod Longitudes
 pub mod Checks

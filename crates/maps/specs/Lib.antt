@@ -6,5 +6,6 @@ pub mod Virtim
 pub mod Versy
 pub mod Noisy
 pub mod Layers
+pub mod Clocks
 pub mod Ionosphere
 pub mod Figures

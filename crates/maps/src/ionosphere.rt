@@ -1,5 +1,6 @@
 // The ionosphere at each control point for one hour: ionosphere.rs, a module for each of the Fortran
 // routines that it has in one file, and here what works over lent files.
+pub mod clocks;
 pub mod layers;
 pub mod noisy;
 pub mod versy;

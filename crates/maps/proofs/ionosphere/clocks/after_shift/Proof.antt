@@ -1,0 +1,20 @@
+-- Its callees and the literals are the definition's.
+use borrow.Author.Needs.{needs}
+use lib.Ieee.{ofBits, round}
+use Rattle.base.specs.Single.{decimal}
+use Rattle.maps.specs.Clocks.{afterShift}
+use Rattle.maps.proofs.ionosphere.clocks.after_shift.Statement.{statement}
+use Rattle.maps.proofs.ionosphere.clocks.after_shift.Tie as tie
+
+returns : tie.Need-returns
+unfolding afterShift decimal round ofBits
+returns c = rw (c .fisw-of .ensures, c .before .whole-of2 .ensures, c .before .before .whole-of .ensures)
+
+pub after-shift-spec : {M : Type 1} → statement M
+after-shift-spec =
+    tie.close
+    (tie.spec
+    (λ c κs. search needs)
+    (λ c κs. search needs)
+    (λ c κs. search needs)
+    returns)

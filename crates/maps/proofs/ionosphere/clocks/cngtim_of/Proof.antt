@@ -1,0 +1,38 @@
+-- By whether the longitude is 0; else each callee is its definition.
+use borrow.Author.Needs.{needs}
+use mathlib.Core.Path.{_≡_, sym, ap, _∙_}
+use lib.Ieee.{Float, ofBits, round}
+use Rattle.base.specs.Single.{decimal}
+use Rattle.base.proofs.Picks.{cond-true, cond-false}
+use Rattle.maps.specs.declared.ionosphere.clocks.Shifted.{Shifted}
+use Rattle.maps.specs.Clocks.{thetaOf, afterShift, forLoop, cngdayOf, wraps, cngtimOf}
+use Rattle.maps.proofs.ionosphere.clocks.cngtim_of.Statement.{statement}
+use Rattle.maps.proofs.ionosphere.clocks.cngtim_of.Tie as tie
+
+returns : tie.Need-returns
+unfolding cngtimOf decimal round ofBits
+returns c = sym (cond-true _ _ (c .if1 .taken))
+
+returns-2 : tie.Need-returns-2
+unfolding cngtimOf decimal round ofBits
+returns-2 c =
+    rw (
+      c .cngday-of .ensures,
+      c .before .wrapped .ensures,
+      c .before .before .for-loop .ensures,
+      c .before .before .before .after-shift .ensures,
+      c .before .before .before .before .theta-of .ensures,
+    )
+    (sym (cond-false _ _ (c .before .before .before .before .before .if1 .left)))
+
+pub cngtim-of-spec : {M : Type 1} → statement M
+cngtim-of-spec =
+    tie.close
+    (tie.spec
+    returns
+    (λ c κs. search needs)
+    (λ c κs. search needs)
+    (λ c κs. search needs)
+    (λ c κs. search needs)
+    (λ c κs. search needs)
+    returns-2)

@@ -1,0 +1,22 @@
+-- By the verdict.
+use borrow.Author.Needs.{needs}
+use mathlib.Core.Path.{sym, ap}
+use Rattle.base.specs.declared.refusal.Verdict.{Verdict}
+use Rattle.maps.specs.Clocks.{movedIf}
+use Rattle.maps.proofs.ionosphere.clocks.moved_if.Statement.{statement}
+use Rattle.maps.proofs.ionosphere.clocks.moved_if.Tie as tie
+
+returns : tie.Need-returns
+returns c = sym (ap (λ (v : Verdict). movedIf v (c .before .before .args .shifted)) (c .enum-told .given .1))
+
+returns-2 : tie.Need-returns-2
+returns-2 c = sym (ap (λ (v : Verdict). movedIf v (c .before .before .before .args .shifted)) (c .before .verdict .given .1))
+
+pub moved-if-spec : {M : Type 1} → statement M
+moved-if-spec =
+    tie.close
+    (tie.spec
+    (λ c. search needs)
+    (λ c. search needs)
+    returns
+    returns-2)
