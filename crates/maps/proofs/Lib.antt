@@ -9,6 +9,9 @@ pub mod Refills
 pub mod NoisySums
 pub mod Clock
 pub mod WholeSums
+pub mod WholeParts
+pub mod Offsets
+pub mod Wraps
 pub mod Sines
 pub mod Longitudes
 pub mod Checks
