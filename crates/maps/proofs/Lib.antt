@@ -12,6 +12,7 @@ pub mod WholeSums
 pub mod WholeParts
 pub mod Offsets
 pub mod Wraps
+pub mod Points
 pub mod Sines
 pub mod Longitudes
 pub mod Checks
