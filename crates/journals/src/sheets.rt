@@ -10,10 +10,10 @@ use crate::tally::none;
 use crate::tally::print_line;
 use crate::wanted::say_figures;
 use crate::wanted::say_refusal;
-use listing::opening;
 use maps::figures::Shown;
 use worksheet::desks::Opened;
 use worksheet::desks::Worksheet;
+use worksheet::opening;
 use worksheet::showing::show;
 ghost use Prim.Native.Nat.{_≤_};
 

@@ -1,7 +1,5 @@
-// What the programs share: a worksheet and calls from the words of their input, and answers as lines of
-// text.
+// What the programs share: calls from the words of their input, and answers as lines of text.
 pub mod answer;
 pub mod call;
 pub mod decimal;
-pub mod opening;
 pub mod page;

@@ -13,10 +13,10 @@ use listing::answer::print_verdict;
 use listing::call::Call;
 use listing::call::Move;
 use listing::call::moved;
-use listing::opening::opened;
 use maps::figures::Shown;
 use worksheet::desks::Opened;
 use worksheet::desks::Worksheet;
+use worksheet::opening::opened;
 use worksheet::showing::show;
 
 // The first byte of the first call: 56 of words, 7,904 of record, 38,552 of month file.

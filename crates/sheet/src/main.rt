@@ -3,11 +3,11 @@
 use libc::STDIN_FILENO;
 use listing::answer::print_figures;
 use listing::answer::print_refusal;
-use listing::opening::opened;
 use listing::page::print_page;
 use maps::figures::Shown;
 use worksheet::desks::Opened;
 use worksheet::desks::Worksheet;
+use worksheet::opening::opened;
 use worksheet::showing::show;
 
 fn print_sheet(page: bool, count: u32, figures: &[f32; 151]) {

@@ -1,9 +1,9 @@
 -- By what the two calls ensure.
 use borrow.Author.Needs.{needs}
 use mathlib.Core.Path.{ap, _∙_}
-use Rattle.listing.specs.Opening.{openedFrom, openedOf}
-use Rattle.listing.proofs.opening.opened.Statement.{statement}
-use Rattle.listing.proofs.opening.opened.Tie as tie
+use Rattle.worksheet.specs.Opening.{openedFrom, openedOf}
+use Rattle.worksheet.proofs.opening.opened.Statement.{statement}
+use Rattle.worksheet.proofs.opening.opened.Tie as tie
 
 returns : tie.Need-returns
 unfolding openedOf

@@ -1,10 +1,10 @@
 // The worksheet that a program starts from.
-use worksheet::desks::Opened;
-use worksheet::desks::open;
-use worksheet::inputs::FromWords;
-use worksheet::inputs::from_words;
+use crate::desks::Opened;
+use crate::desks::open;
+use crate::inputs::FromWords;
+use crate::inputs::from_words;
 ghost use mathlib.Core.Path.{_≡_};
-ghost use Rattle.listing.specs.Opening.{openedFrom, openedOf};
+ghost use Rattle.worksheet.specs.Opening.{openedFrom, openedOf};
 
 fn opened_from(fields: FromWords) -> Opened
     ensures { λ r. ⌜ r ≡ openedFrom fields ⌝ }

@@ -1,9 +1,9 @@
 -- By what the words gave.
 use borrow.Author.Needs.{needs}
 use mathlib.Core.Path.{sym, ap, _∙_}
-use Rattle.listing.specs.Opening.{openedFrom}
-use Rattle.listing.proofs.opening.opened_from.Statement.{statement}
-use Rattle.listing.proofs.opening.opened_from.Tie as tie
+use Rattle.worksheet.specs.Opening.{openedFrom}
+use Rattle.worksheet.proofs.opening.opened_from.Statement.{statement}
+use Rattle.worksheet.proofs.opening.opened_from.Tie as tie
 
 returns : tie.Need-returns
 returns c = c .«open» .ensures ∙ sym (ap openedFrom (c .before .before .fields .given .1))
