@@ -2,6 +2,23 @@
 
 use crate::reference_sheets::Sheet;
 
+/// A refusal's number and place; 0 and 0 where nothing is refused.
+#[repr(C)]
+#[derive(Clone, Copy, Debug, PartialEq)]
+pub struct Answer {
+    pub number: u32,
+    pub place: u32,
+}
+
+/// The number of points, or 0 and a refusal's number and place.
+#[repr(C)]
+#[derive(Clone, Copy, Debug, PartialEq)]
+pub struct Showing {
+    pub points: u32,
+    pub number: u32,
+    pub place: u32,
+}
+
 macro_rules! exports {
     ($($symbol:literal $name:ident($($argument:ident: $type:ty),+) -> $answer:ty;)+) => {
         extern "C" {
@@ -38,8 +55,8 @@ exports! {
 
 // A slice is lent as its start and its number of elements.
 exports! {
-    "jt_month_file_check" month_file_check(file: *const u8, length: usize) -> u64;
-    "jt_index_check" index_check(file: *const u8, length: usize) -> u64;
+    "jt_month_file_check" month_file_check(file: *const u8, length: usize) -> Answer;
+    "jt_index_check" index_check(file: *const u8, length: usize) -> Answer;
     "jt_cofion" cofion(
         record: *const u8, record_length: usize, file: *const u8, length: usize,
         ssn: f32, out: *mut f32, out_length: usize
@@ -56,12 +73,11 @@ exports! {
         pole_lat: f32, pole_lon: f32,
         record: *const u8, record_length: usize, file: *const u8, length: usize,
         out: *mut f32, out_length: usize
-    ) -> u64;
+    ) -> Showing;
 }
 
-/// The figures of a sheet. The answer is the number of points or, in the upper
-/// half, a refusal's number, with its place in the lower.
-pub fn sheet(sheet: &Sheet, record: &[u8], file: &[u8], out: &mut [f32]) -> u64 {
+/// The figures of a sheet.
+pub fn sheet(sheet: &Sheet, record: &[u8], file: &[u8], out: &mut [f32]) -> Showing {
     let Sheet {
         month,
         ssn,

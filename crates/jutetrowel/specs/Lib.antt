@@ -1,3 +1,4 @@
 -- What the exported functions say beyond the crates below. Assumes nothing.
+pub mod Answers
 pub mod Given
 pub mod Sheets

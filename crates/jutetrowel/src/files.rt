@@ -1,34 +1,52 @@
 // The files of `base::coefficients`.
+use crate::answers::Answer;
+use crate::answers::Span;
+use crate::answers::answered;
 use base::coefficients;
 use base::refusal::Verdict;
 ghost use mathlib.Core.Path.{_≡_};
 ghost use Prim.Native.Nat.{_≤_};
 ghost use lib.ListN.{length};
-ghost use Rattle.base.specs.Refusal.{verdictReport};
-ghost use Rattle.base.specs.MonthFile.{monthFileCheck};
+ghost use Rattle.base.specs.MonthFile.{monthFileCheck, monthRecordCheck, monthPart};
 ghost use Rattle.base.specs.Index.{indexCheck};
 ghost use Rattle.base.specs.Blend.{cofionOf, hmymOf};
-ghost use Rattle.jutetrowel.specs.Given.{packedOf, givenTo, wasGiven};
+ghost use Rattle.jutetrowel.specs.Answers.{answerOf, spanOf};
+ghost use Rattle.jutetrowel.specs.Given.{givenTo, wasGiven};
 
-// A check's number in the upper 32 bits, its place in the lower.
-fn packed(v: Verdict) -> u64
-    ensures { λ r. ⌜ r ≡ packedOf (verdictReport v) ⌝ }
+#[no_mangle]
+pub extern "C" fn jt_month_file_check(s: &[u8]) -> Answer
+    ensures { λ r. ⌜ r ≡ answerOf (monthFileCheck (now (s .entry))) ⌝ }
 {
-    (v.number() as u64) * 4294967296 + (v.place() as u64)
+    answered(coefficients::month_file_check(s))
 }
 
 #[no_mangle]
-pub extern "C" fn jt_month_file_check(s: &[u8]) -> u64
-    ensures { λ r. ⌜ r ≡ packedOf (verdictReport (monthFileCheck (now (s .entry)))) ⌝ }
+pub extern "C" fn jt_index_check(month: &[u8]) -> Answer
+    ensures { λ r. ⌜ r ≡ answerOf (indexCheck (now (month .entry))) ⌝ }
 {
-    packed(coefficients::month_file_check(s))
+    answered(coefficients::index_check(month))
 }
 
+// Where a month's record lies in the `.daw` file.
 #[no_mangle]
-pub extern "C" fn jt_index_check(month: &[u8]) -> u64
-    ensures { λ r. ⌜ r ≡ packedOf (verdictReport (indexCheck (now (month .entry)))) ⌝ }
+pub extern "C" fn jt_month_record(daw: &[u8], month: u32) -> Span
+    ensures { λ r. ⌜ r ≡ spanOf (monthRecordCheck (now (daw .entry)) month) (monthPart (now (daw .entry)) month) ⌝ }
 {
-    packed(coefficients::index_check(month))
+    let verdict = coefficients::month_record_check(daw, month);
+    match verdict {
+        Verdict::Accepted => Span {
+            start: (month as usize - 1) * 7904,
+            size: 7904,
+            number: 0,
+            place: 0,
+        },
+        Verdict::Refused(why) => Span {
+            start: 0,
+            size: 0,
+            number: why.number(),
+            place: why.place(),
+        },
+    }
 }
 
 // The numbers of one list put into another of the same length.

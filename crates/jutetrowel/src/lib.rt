@@ -1,6 +1,6 @@
 // The library for programs in other languages: each function is one of the crates below it, over
-// numbers and slices. The arithmetic, the files and the figures stand here so that they can be
-// compared with other machines'.
+// numbers and slices.
+pub mod answers;
 pub mod files;
 pub mod numbers;
 pub mod sheets;

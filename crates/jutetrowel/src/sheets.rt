@@ -1,34 +1,20 @@
-// The figures of `maps::figures`.
+// The figures of `maps::figures`, and a whole sheet as the program `sheet` gives it.
+use crate::answers::Showing;
+use crate::answers::shown_as;
 use base::angle::Degrees;
 use base::constants::MagneticPole;
-use base::refusal::Refusal;
 use maps::figures;
 use maps::figures::Factors;
 use maps::figures::Inputs;
 use maps::figures::Route;
 use maps::figures::Shown;
+use worksheet::desks::Opened;
+use worksheet::opening::opened;
+use worksheet::showing::show;
 ghost use mathlib.Core.Path.{_≡_};
-ghost use Rattle.base.specs.Refusal.{reportOf};
 ghost use Rattle.maps.specs.Figures.{shownOf, bufferAfter};
-ghost use Rattle.jutetrowel.specs.Given.{packedOf};
-ghost use Rattle.jutetrowel.specs.Sheets.{packedShown, inputsOf};
-
-// A refusal's number in the upper 32 bits, its place in the lower.
-fn refused(why: Refusal) -> u64
-    ensures { λ r. ⌜ r ≡ packedOf (reportOf why) ⌝ }
-{
-    (why.number() as u64) * 4294967296 + (why.place() as u64)
-}
-
-// The number of points, or a refusal.
-fn packed(shown: Shown) -> u64
-    ensures { λ r. ⌜ r ≡ packedShown shown ⌝ }
-{
-    match shown {
-        Shown::Points(count) => count as u64,
-        Shown::Refused(why) => refused(why),
-    }
-}
+ghost use Rattle.jutetrowel.specs.Answers.{showingOf};
+ghost use Rattle.jutetrowel.specs.Sheets.{inputsOf, sheetOf, sheetBuffer};
 
 // The figures of a sheet, its fields one by one; a flag that is not 0 is the long way round.
 #[no_mangle]
@@ -50,8 +36,8 @@ pub extern "C" fn jt_figures(
     f2: &[u8],
     file: &[u8],
     out: &mut [f32],
-) -> u64
-    ensures { λ r. ⌜ (let i = inputsOf month ssn gmt tlat tlong rlat rlong «long_path» «psc_e» «psc_f1» «psc_f2» «psc_es» «pole_lat» «pole_lon» in (r ≡ packedShown (shownOf (now (f2 .entry)) (now (file .entry)) i (now (out .entry)))) × (now (out .exit) ≡ bufferAfter (now (f2 .entry)) (now (file .entry)) i (now (out .entry)))) ⌝ }
+) -> Showing
+    ensures { λ r. ⌜ (let i = inputsOf month ssn gmt tlat tlong rlat rlong «long_path» «psc_e» «psc_f1» «psc_f2» «psc_es» «pole_lat» «pole_lon» in (r ≡ showingOf (shownOf (now (f2 .entry)) (now (file .entry)) i (now (out .entry)))) × (now (out .exit) ≡ bufferAfter (now (f2 .entry)) (now (file .entry)) i (now (out .entry)))) ⌝ }
 {
     let route = Route {
         tlat: Degrees(tlat),
@@ -78,5 +64,18 @@ pub extern "C" fn jt_figures(
         psc,
         pole,
     };
-    packed(figures::figures(i, f2, file, out))
+    shown_as(figures::figures(i, f2, file, out))
+}
+
+// A whole sheet: 14 little-endian words, an F2 record and a month file, as the program `sheet` reads
+// them.
+#[no_mangle]
+pub extern "C" fn jt_sheet(words: &[u8], f2: &[u8], file: &[u8], out: &mut [f32]) -> Showing
+    ensures { λ r. ⌜ (r ≡ showingOf (sheetOf (now (words .entry)) (now (f2 .entry)) (now (file .entry)) (now (out .entry)))) × (now (out .exit) ≡ sheetBuffer (now (words .entry)) (now (f2 .entry)) (now (file .entry)) (now (out .entry))) ⌝ }
+{
+    let sheet = opened(words);
+    match sheet {
+        Opened::Sheet(w) => shown_as(show(w, 0, f2, file, out)),
+        Opened::Refused(why) => shown_as(Shown::Refused(why)),
+    }
 }

@@ -18,7 +18,7 @@ mod linked {
     use crate::data_files::{calm, ladders::near_good, wild, Pair};
     use crate::generator::Generator;
     use crate::index_check;
-    use crate::port;
+    use crate::port::{self, Answer};
     use crate::reference_files::{blends, put, walk};
     use crate::voacap::coefficients::parse_month_file;
 
@@ -88,19 +88,19 @@ mod linked {
         index_check::answer(&raw.ikim)
     }
 
-    fn refusal(ours: u64, wanted: (u32, u32)) -> Option<String> {
-        let ours = ((ours >> 32) as u32, ours as u32);
+    fn refusal(ours: Answer, wanted: (u32, u32)) -> Option<String> {
+        let ours = (ours.number, ours.place);
         let text = |(number, place): (u32, u32)| format!("{number} at {place}");
         (ours != wanted).then(|| format!("port {}, wanted {}", text(ours), text(wanted)))
     }
 
-    fn port_check(file: &[u8]) -> u64 {
+    fn port_check(file: &[u8]) -> Answer {
         // SAFETY: start and length of one slice, which is only read.
         unsafe { port::month_file_check(file.as_ptr(), file.len()) }
     }
 
     /// The whole month file is lent, as to the other functions.
-    fn port_index(file: &[u8]) -> u64 {
+    fn port_index(file: &[u8]) -> Answer {
         // SAFETY: start and length of one slice, which is only read.
         unsafe { port::index_check(file.as_ptr(), file.len()) }
     }

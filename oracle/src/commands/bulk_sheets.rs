@@ -19,7 +19,7 @@ mod linked {
     use crate::data_files::{calm, wild, Pair};
     use crate::generator::Generator;
     use crate::index_check::IndexTable;
-    use crate::port;
+    use crate::port::{self, Showing};
     use crate::reference_sheets::{put_all_months, refusal, showing, Sheet, FIGURES};
     use crate::sheet_kinds::{any_bits, in_range, one_of, outside};
     use crate::voacap::coefficients::F2_RECORD_BYTES;
@@ -150,13 +150,17 @@ mod linked {
             match refusal(self.record, &self.file, self.buffer) {
                 (0, 0) => (false, self.shown(answer, &out, &lent)),
                 (number, place) => {
-                    let wanted = u64::from(number) << 32 | u64::from(place);
+                    let wanted = Showing {
+                        points: 0,
+                        number,
+                        place,
+                    };
                     (true, untouched(wanted, answer, &out, &lent))
                 }
             }
         }
 
-        fn shown(&self, answer: u64, out: &[u32], lent: &[u32]) -> Option<String> {
+        fn shown(&self, answer: Showing, out: &[u32], lent: &[u32]) -> Option<String> {
             if self.is_damaged() {
                 put_all_months(self.record, &self.file);
             }
@@ -168,7 +172,12 @@ mod linked {
             for word in &mut out[GUARD..end] {
                 *word = f32::from_bits(*word).to_word() as u32;
             }
-            differing_answer(answer, figures.points.into())
+            let points = Showing {
+                points: figures.points,
+                number: 0,
+                place: 0,
+            };
+            differing_answer(answer, points)
                 .or_else(|| differing_words(&out, &wanted, "Rust"))
         }
     }
@@ -186,14 +195,18 @@ mod linked {
     }
 
     /// A refusal leaves the buffer as it was, the bits of NaNs included.
-    fn untouched(wanted: u64, answer: u64, out: &[u32], lent: &[u32]) -> Option<String> {
+    fn untouched(wanted: Showing, answer: Showing, out: &[u32], lent: &[u32]) -> Option<String> {
         differing_answer(answer, wanted).or_else(|| differing_words(out, lent, "lent"))
     }
 
-    fn differing_answer(ours: u64, wanted: u64) -> Option<String> {
-        let text = |answer: u64| match (answer >> 32, answer as u32) {
-            (0, points) => format!("{points} points"),
-            (number, place) => format!("refused {number} {place}"),
+    fn differing_answer(ours: Showing, wanted: Showing) -> Option<String> {
+        let text = |answer: Showing| match answer {
+            Showing {
+                points,
+                number: 0,
+                place: 0,
+            } => format!("{points} points"),
+            Showing { number, place, .. } => format!("refused {number} {place}"),
         };
         (ours != wanted).then(|| format!("port: {}, wanted: {}", text(ours), text(wanted)))
     }

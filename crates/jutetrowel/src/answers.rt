@@ -1,0 +1,63 @@
+// How answers cross to another language: whole numbers in structs that C lays out alike.
+use base::refusal::Refusal;
+use base::refusal::Verdict;
+use maps::figures::Shown;
+ghost use mathlib.Core.Path.{_≡_};
+ghost use Rattle.base.specs.declared.refusal.Verdict.the-variants.{Refused};
+ghost use Rattle.jutetrowel.specs.Answers.{answerOf, showingOf};
+
+// Document 01's number of a refusal, and its place; 0 and 0 where nothing is refused.
+#[repr(C)]
+pub struct Answer {
+    pub number: u32,
+    pub place: u32,
+}
+
+// How many points a sheet has; where it is refused 0, with the refusal's number and place.
+#[repr(C)]
+pub struct Showing {
+    pub points: u32,
+    pub number: u32,
+    pub place: u32,
+}
+
+// Where a part of a lent file starts, and its bytes; refused, both 0.
+#[repr(C)]
+pub struct Span {
+    pub start: usize,
+    pub size: usize,
+    pub number: u32,
+    pub place: u32,
+}
+
+pub(crate) fn answered(v: Verdict) -> Answer
+    ensures { λ r. ⌜ r ≡ answerOf v ⌝ }
+{
+    Answer {
+        number: v.number(),
+        place: v.place(),
+    }
+}
+
+pub(crate) fn refused(why: Refusal) -> Answer
+    ensures { λ r. ⌜ r ≡ answerOf (Refused why) ⌝ }
+{
+    answered(Verdict::Refused(why))
+}
+
+pub(crate) fn shown_as(shown: Shown) -> Showing
+    ensures { λ r. ⌜ r ≡ showingOf shown ⌝ }
+{
+    match shown {
+        Shown::Points(count) => Showing {
+            points: count,
+            number: 0,
+            place: 0,
+        },
+        Shown::Refused(why) => Showing {
+            points: 0,
+            number: why.number(),
+            place: why.place(),
+        },
+    }
+}
