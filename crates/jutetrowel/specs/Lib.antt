@@ -2,3 +2,4 @@
 pub mod Answers
 pub mod Given
 pub mod Sheets
+pub mod Words

@@ -1,0 +1,14 @@
+-- The change, with these numbers.
+use borrow.Author.Needs.{needs}
+use Rattle.jutetrowel.proofs.desks.jt_change_sunspot.Statement.{statement}
+use Rattle.jutetrowel.proofs.desks.jt_change_sunspot.Tie as tie
+
+returns : tie.Need-returns
+returns c = c .changed .ensures
+
+pub jt-change-sunspot-spec : {M : Type 1} → statement M
+jt-change-sunspot-spec =
+    tie.close
+    (tie.spec
+    (λ c κs. search needs)
+    returns)
