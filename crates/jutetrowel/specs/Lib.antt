@@ -3,3 +3,4 @@ pub mod Answers
 pub mod Given
 pub mod Sheets
 pub mod Words
+pub mod Layers

@@ -3,6 +3,7 @@
 pub mod answers;
 pub mod desks;
 pub mod files;
+pub mod layers;
 pub mod numbers;
 pub mod sheets;
 mod words;
