@@ -12,7 +12,7 @@ use worksheet::desks::Worksheet;
 use worksheet::inputs::Edit;
 ghost use mathlib.Core.Path.{_≡_};
 ghost use Prim.Native.Nat.{_≤_};
-ghost use Rattle.listing.specs.Calls.{movedBy};
+ghost use Rattle.listing.specs.Calls.{pathEdit, pscEdit, poleEdit, changeIn, pathCall, sizeOf, callIn, movedBy};
 
 pub enum Move {
     Begin(u32),
@@ -38,21 +38,22 @@ pub struct Next {
     pub size: usize,
 }
 
+// By the operation's number, of which 0 is none.
+const SIZES: [usize; 11] = [0, 4, 8, 8, 24, 20, 12, 4, 4, 0, 4];
+
 // How many bytes follow the operation's word; none where it is unknown.
 pub fn size_of(operation: u32) -> usize
-    ensures { λ r. ⌜ r ≤ 24 ⌝ }
+    ensures { λ r. ⌜ (r ≡ sizeOf operation) × (r ≤ 24) ⌝ }
 {
-    match operation {
-        1 | 7 | 8 | 10 => 4,
-        2 | 3 => 8,
-        4 => 24,
-        5 => 20,
-        6 => 12,
-        _ => 0,
+    if 10 < operation {
+        return 0;
     }
+    SIZES[operation as usize]
 }
 
-fn path_in(s: &[u8]) -> Edit {
+fn path_in(s: &[u8]) -> Edit
+    ensures { λ r. ⌜ r ≡ pathEdit (now (s .entry)) ⌝ }
+{
     Edit::Path(Route {
         tlat: Degrees(float(s, 4)),
         tlong: Degrees(float(s, 8)),
@@ -62,7 +63,9 @@ fn path_in(s: &[u8]) -> Edit {
     })
 }
 
-fn psc_in(s: &[u8]) -> Edit {
+fn psc_in(s: &[u8]) -> Edit
+    ensures { λ r. ⌜ r ≡ pscEdit (now (s .entry)) ⌝ }
+{
     Edit::Psc(Factors {
         e: float(s, 4),
         f1: float(s, 8),
@@ -71,19 +74,25 @@ fn psc_in(s: &[u8]) -> Edit {
     })
 }
 
-fn pole_in(s: &[u8]) -> Edit {
+fn pole_in(s: &[u8]) -> Edit
+    ensures { λ r. ⌜ r ≡ poleEdit (now (s .entry)) ⌝ }
+{
     Edit::Pole(MagneticPole {
         lat: Degrees(float(s, 4)),
         lon: Degrees(float(s, 8)),
     })
 }
 
-fn change_in(s: &[u8], e: Edit) -> Call {
+fn change_in(s: &[u8], e: Edit) -> Call
+    ensures { λ r. ⌜ r ≡ changeIn (now (s .entry)) e ⌝ }
+{
     Call::Move(Move::Change(word(s, 0), e))
 }
 
 // A path's flag is 0 or 1.
-fn path_call(s: &[u8]) -> Call {
+fn path_call(s: &[u8]) -> Call
+    ensures { λ r. ⌜ r ≡ pathCall (now (s .entry)) ⌝ }
+{
     if word(s, 20) > 1 {
         return Call::Bad;
     }
@@ -91,7 +100,9 @@ fn path_call(s: &[u8]) -> Call {
 }
 
 // The call of an operation, from the bytes after its word.
-pub fn call_in(operation: u32, s: &[u8]) -> Call {
+pub fn call_in(operation: u32, s: &[u8]) -> Call
+    ensures { λ r. ⌜ r ≡ callIn operation (now (s .entry)) ⌝ }
+{
     match operation {
         1 => Call::Move(Move::Begin(word(s, 0))),
         2 => change_in(s, Edit::Sunspot(float(s, 4))),
