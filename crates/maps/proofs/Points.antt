@@ -1,8 +1,7 @@
 -- Document 01, Known points: the rows of the clocks beside those of the files, and one theorem that covers (a) to (l). Assumes nothing.
-use mathlib.Core.Path.{_≡_, refl}
+use mathlib.Core.Path.{refl}
 use mathlib.Core.List.{List, [], _∷_, _++_}
 use lib.Ieee.{round, neg, add, sub, mul, div, lt, eq, le, ofInt, toSigned}
-use Rattle.base.specs.declared.angle.Degrees.{Degrees}
 use Rattle.base.specs.Single.{decimal, minusDecimal}
 use Rattle.base.specs.Ranges.{hourCheck, longitudeCheck}
 use Rattle.base.proofs.Points.{Row, _is_, All, points, known as files-known, all-append}

@@ -1,6 +1,6 @@
 -- Both whole numbers are the definition's, and 23.99999999 is 24.
 use borrow.Author.Needs.{needs}
-use mathlib.Core.Path.{_≡_, ap, _∙_}
+use mathlib.Core.Path.{_≡_, _∙_}
 use lib.IntN.{ℤ, _+ℤ_}
 use lib.Ieee.{binary32, ofInt, ofBits, round}
 use Rattle.base.specs.Single.{decimal}

@@ -1,11 +1,10 @@
 -- By whether the longitude is 0; else each callee is its definition.
 use borrow.Author.Needs.{needs}
-use mathlib.Core.Path.{_≡_, sym, ap, _∙_}
-use lib.Ieee.{Float, ofBits, round}
+use mathlib.Core.Path.{sym}
+use lib.Ieee.{ofBits, round}
 use Rattle.base.specs.Single.{decimal}
 use Rattle.base.proofs.Picks.{cond-true, cond-false}
-use Rattle.maps.specs.declared.ionosphere.clocks.Shifted.{Shifted}
-use Rattle.maps.specs.Clocks.{thetaOf, afterShift, forLoop, cngdayOf, wraps, cngtimOf}
+use Rattle.maps.specs.Clocks.{cngtimOf}
 use Rattle.maps.proofs.ionosphere.clocks.cngtim_of.Statement.{statement}
 use Rattle.maps.proofs.ionosphere.clocks.cngtim_of.Tie as tie
 
