@@ -1,11 +1,11 @@
 -- Table: what is refused, what is known where nothing is, and that the part handed back lies in the file that holds it, by one test over all the places. Assumes nothing.
 use mathlib.Core.Path.{_≡_, refl, sym, ap, _∙_}
 use mathlib.Core.Bool.{Bool, true, false, cond}
-use mathlib.Core.List.{List, [], _∷_, map}
-use Prim.Native.Nat.{ℕ, _+_, _*_, _≤_, _<_}
+use mathlib.Core.List.{List, _∷_, map}
+use Prim.Native.Nat.{ℕ, _+_, _≤_, _<_}
 use native.Mathlib.Omega.{arith}
 use native.Mathlib.Decide.{decLt}
-use lib.Dec.{leb, eqb, leb→le}
+use lib.Dec.{leb, leb→le}
 use lib.ListN.{length, getD, List·getD-map, List·getD-eq-default}
 use denote.Ref.{RefT, now}
 use borrow.Author.Tests.{le-leb, lt-leb, leb-true, eq-eqb, ne-eqb}

@@ -8,8 +8,7 @@ use native.Mathlib.Decide.{decLt}
 use lib.ListN.{List·getD-eq-default}
 use lib.Ieee.{Float}
 use Rattle.worksheet.specs.declared.inputs.Edit.the-variants.{Sunspot, Hour}
-use Rattle.listing.specs.declared.call.Call.{Call}
-use Rattle.listing.specs.declared.call.Call.the-variants.{Bad, Move as Moving, Show}
+use Rattle.listing.specs.declared.call.Call.the-variants.{Move as Moving, Show}
 use Rattle.listing.specs.declared.call.Move.the-variants.{Begin, Commit, Cancel}
 use Rattle.listing.specs.Calls.{Operation, unknown, operations, changeIn, callIn}
 use Rattle.listing.proofs.call.call_in.Statement.{statement}
