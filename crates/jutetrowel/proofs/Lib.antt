@@ -1,2 +1,4 @@
 -- Laws that belong to no one function. Assumes nothing.
 pub mod Stored
+pub mod Returned
+pub mod Carried

@@ -4,7 +4,8 @@ use base::refusal::Verdict;
 use maps::figures::Shown;
 ghost use mathlib.Core.Path.{_≡_};
 ghost use Rattle.base.specs.declared.refusal.Verdict.the-variants.{Refused};
-ghost use Rattle.jutetrowel.specs.Answers.{answerOf, showingOf};
+ghost use Rattle.base.specs.MonthFile.{emptyPart};
+ghost use Rattle.jutetrowel.specs.Answers.{answerOf, showingOf, spanOf};
 
 // Document 01's number of a refusal, and its place; 0 and 0 where nothing is refused.
 #[repr(C)]
@@ -59,5 +60,16 @@ pub(crate) fn shown_as(shown: Shown) -> Showing
             number: why.number(),
             place: why.place(),
         },
+    }
+}
+
+pub(crate) fn no_span(why: Refusal) -> Span
+    ensures { λ r. ⌜ r ≡ spanOf (Refused why) emptyPart ⌝ }
+{
+    Span {
+        start: 0,
+        size: 0,
+        number: why.number(),
+        place: why.place(),
     }
 }

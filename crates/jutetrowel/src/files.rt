@@ -1,13 +1,16 @@
-// The files of `base::coefficients`.
+// The files of `base::coefficients`, and the tables of `base::tables`.
 use crate::answers::Answer;
 use crate::answers::Span;
 use crate::answers::answered;
+use crate::answers::no_span;
 use base::coefficients;
 use base::refusal::Verdict;
+use base::tables;
 ghost use mathlib.Core.Path.{_≡_};
 ghost use Prim.Native.Nat.{_≤_};
 ghost use lib.ListN.{length};
 ghost use Rattle.base.specs.MonthFile.{monthFileCheck, monthRecordCheck, monthPart};
+ghost use Rattle.base.specs.Tables.{tableCheck, tablePart};
 ghost use Rattle.base.specs.Index.{indexCheck};
 ghost use Rattle.base.specs.Blend.{cofionOf, hmymOf};
 ghost use Rattle.jutetrowel.specs.Answers.{answerOf, spanOf};
@@ -40,12 +43,27 @@ pub extern "C" fn jt_month_record(daw: &[u8], month: u32) -> Span
             number: 0,
             place: 0,
         },
-        Verdict::Refused(why) => Span {
-            start: 0,
-            size: 0,
-            number: why.number(),
-            place: why.place(),
-        },
+        Verdict::Refused(why) => no_span(why),
+    }
+}
+
+// Where a table lies: number 0 in the F2 record, 1 to 20 in the month file.
+#[no_mangle]
+pub extern "C" fn jt_table(number: u32, f2: &[u8], month: &[u8]) -> Span
+    ensures { λ r. ⌜ r ≡ spanOf (tableCheck number (now (f2 .entry)) (now (month .entry))) (tablePart number (now (f2 .entry)) (now (month .entry))) ⌝ }
+{
+    let verdict = tables::table_check(number, f2, month);
+    match verdict {
+        Verdict::Accepted => {
+            let at = tables::table_place(number);
+            Span {
+                start: at.start,
+                size: at.size,
+                number: 0,
+                place: 0,
+            }
+        }
+        Verdict::Refused(why) => no_span(why),
     }
 }
 

@@ -1,6 +1,7 @@
 // The library for programs in other languages: each function is one of the crates below it, over
 // numbers and slices. A worksheet is 90 words that the caller lends.
 pub mod answers;
+pub mod clocks;
 pub mod desks;
 pub mod files;
 pub mod layers;

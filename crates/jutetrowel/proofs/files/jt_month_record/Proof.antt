@@ -1,6 +1,6 @@
 -- By the check: an accepted month has its part from the first byte of its record.
 use borrow.Author.Needs.{needs}
-use mathlib.Core.Path.{refl, sym, ap, _∙_}
+use mathlib.Core.Path.{sym, ap, _∙_}
 use native.Mathlib.Omega.{arith}
 use Rattle.base.specs.MonthFile.{emptyPart, monthStart, monthRecordCheck}
 use Rattle.base.proofs.Records.{MonthThere, month-known, month-part, month-none}
@@ -29,14 +29,12 @@ returns c =
     ∙ ap (λ (x : Verdict). spanOf x (record { from = monthStart (a .month); size = 7904 })) (sym e ∙ v))
 
 returns-2 : tie.Need-returns-2
-unfolding spanOf
 returns-2 c =
-    let a = c .before .before .before .before .before .before .before .args in
-    let e = c .before .before .before .before .before .month-record-check .ensures in
-    let v = c .before .before .before .verdict .given .1 in
-    let n = c .before .number .ensures in
-    let p = c .place .ensures in
-    (λ t. record { start = 0; size = 0; number = n t; place = p t })
+    let b = c .before .before in
+    let a = b .before .before .before .before .args in
+    let e = b .before .before .month-record-check .ensures in
+    let v = b .verdict .given .1 in
+    c .no-span .ensures
     ∙ sym
     (ap (spanOf (monthRecordCheck (a .daw .now) (a .month))) (month-none (a .daw .now) (a .month) e v)
     ∙ ap (λ (x : Verdict). spanOf x emptyPart) (sym e ∙ v))
@@ -50,7 +48,6 @@ jt-month-record-spec =
     sub-t7
     mul-t8
     (λ c. search needs)
-    (λ c κs. search needs)
     (λ c κs. search needs)
     returns
     returns-2)

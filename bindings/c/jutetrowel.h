@@ -1,0 +1,198 @@
+/*
+ * Jutetrowel's static library, libjutetrowel.a, for C (C99 or later) and C++ on x86-64 with the
+ * System V calling convention. docs/LIBRARY.md says how to build and link it and what is assumed of a
+ * caller; docs/REFUSALS.md has the refusals and docs/CONTRACTS.md what is proved of each function.
+ *
+ * A pointer and the size_t after it are a lent array: that many elements, valid and aligned, for as
+ * long as the call lasts. No pointer is null, not even one to no elements. What a call writes overlaps
+ * nothing else that it is lent. A refused call writes nothing.
+ */
+#ifndef JUTETROWEL_H
+#define JUTETROWEL_H
+
+#include <stddef.h>
+#include <stdint.h>
+
+#ifdef __cplusplus
+extern "C" {
+#endif
+
+/* The words of a sheet's 14 fields, in bytes; the figures of a sheet; the bytes of an F2 record and of
+ * a month file; the 32-bit words of a worksheet. */
+#define JT_INPUT_BYTES 56
+#define JT_FIGURES 151
+#define JT_RECORD_BYTES 7904
+#define JT_MONTH_FILE_BYTES 38552
+#define JT_WORKSHEET_WORDS 90
+
+/* A refusal's number and place; 0 and 0 where nothing is refused. */
+typedef struct {
+    uint32_t number;
+    uint32_t place;
+} jt_answer;
+
+/* How many points a sheet has (1, 3 or 5); refused, 0 with the refusal's number and place. */
+typedef struct {
+    uint32_t points;
+    uint32_t number;
+    uint32_t place;
+} jt_showing;
+
+/* A part of a lent file, in bytes from its start; refused, 0 and 0 with the refusal's number and
+ * place. */
+typedef struct {
+    size_t start;
+    size_t size;
+    uint32_t number;
+    uint32_t place;
+} jt_span;
+
+/* A time and its change of day, -1, 0 or 1; refused, both +0. */
+typedef struct {
+    float time;
+    float day;
+    uint32_t number;
+    uint32_t place;
+} jt_clock_answer;
+
+/* An hour in universal time, and in local time at the transmitter and at the receiver; refused, all
+ * +0. */
+typedef struct {
+    float gmt;
+    float lmt_tx;
+    float gmtr;
+    uint32_t number;
+    uint32_t place;
+} jt_hours_answer;
+
+/* A local time; refused, +0. */
+typedef struct {
+    float time;
+    uint32_t number;
+    uint32_t place;
+} jt_local_answer;
+
+/* ---- Sheets ----
+ *
+ * The 14 fields, in this order: month, sunspot number, hour (GMT), transmitter latitude and longitude,
+ * receiver latitude and longitude, long-path flag, four factors, pole latitude and longitude. As
+ * words they are 4 bytes each, little-endian: month and flag whole numbers, the others the bits of a
+ * float. Bytes that are not there count as 0, later ones are ignored.
+ *
+ * f2 is the month's F2 record (JT_RECORD_BYTES; later bytes are ignored), file the month file. The
+ * figures are six for the path and 29 for each of five points, +0 where there is no such point. */
+
+/* A whole sheet from words: every field is checked, then the buffer, then the files. */
+jt_showing jt_sheet(const uint8_t *words, size_t words_size, const uint8_t *f2, size_t f2_size,
+                    const uint8_t *file, size_t file_size, float *out, size_t out_count);
+
+/* A sheet's figures from its fields one by one. No field is checked: only the buffer and the files
+ * are. A flag that is not 0 is the long way round. */
+jt_showing jt_figures(uint32_t month, float ssn, float gmt, float tlat, float tlong, float rlat,
+                      float rlong, uint32_t long_path, float psc_e, float psc_f1, float psc_f2,
+                      float psc_es, float pole_lat, float pole_lon, const uint8_t *f2,
+                      size_t f2_size, const uint8_t *file, size_t file_size, float *out,
+                      size_t out_count);
+
+/* ---- The worksheet of four desks ----
+ *
+ * Its value is 90 words that the caller keeps: six sets of 15, which are the inputs, the earlier set
+ * and the drafts of desks 1 to 4. A set's first word says what there is (inputs: not looked at; earlier
+ * set: 0 none; draft: 0 closed, 1 fresh, else stale), and the 14 fields follow, month and flag as
+ * whole numbers, the others as the bits of a float. Any 90 words are some worksheet. A worksheet has
+ * one form as it is written: first words 1, 0 or 1, and 0, 1 or 2; a set that is not there all 0; any
+ * NaN 7fc00000. */
+
+/* Opens a worksheet from a sheet's words: all desks closed, nothing to take back. */
+jt_answer jt_open(const uint8_t *words, size_t words_size, uint32_t sheet[JT_WORKSHEET_WORDS]);
+
+/* A fresh draft for a desk, a copy of the worksheet's inputs. */
+jt_answer jt_begin(uint32_t sheet[JT_WORKSHEET_WORDS], uint32_t desk);
+
+/* A change of a desk's draft. */
+jt_answer jt_change_sunspot(uint32_t sheet[JT_WORKSHEET_WORDS], uint32_t desk, float ssn);
+jt_answer jt_change_hour(uint32_t sheet[JT_WORKSHEET_WORDS], uint32_t desk, float gmt);
+jt_answer jt_change_path(uint32_t sheet[JT_WORKSHEET_WORDS], uint32_t desk, float tlat, float tlong,
+                         float rlat, float rlong, uint32_t long_path);
+jt_answer jt_change_factors(uint32_t sheet[JT_WORKSHEET_WORDS], uint32_t desk, float psc_e,
+                            float psc_f1, float psc_f2, float psc_es);
+jt_answer jt_change_pole(uint32_t sheet[JT_WORKSHEET_WORDS], uint32_t desk, float pole_lat,
+                         float pole_lon);
+
+/* The draft becomes the inputs, these the earlier set; every other open draft turns stale. */
+jt_answer jt_commit(uint32_t sheet[JT_WORKSHEET_WORDS], uint32_t desk);
+
+/* The draft goes, nothing else moves. */
+jt_answer jt_cancel(uint32_t sheet[JT_WORKSHEET_WORDS], uint32_t desk);
+
+/* The earlier set returns; every open draft turns stale. */
+jt_answer jt_take_back(uint32_t sheet[JT_WORKSHEET_WORDS]);
+
+/* The figures of a desk's draft, stale or not, or of the worksheet for desk 0. */
+jt_showing jt_show(const uint32_t sheet[JT_WORKSHEET_WORDS], uint32_t desk, const uint8_t *f2,
+                   size_t f2_size, const uint8_t *file, size_t file_size, float *out,
+                   size_t out_count);
+
+/* ---- Files ---- */
+
+/* Where a month's record lies in a .daw file. */
+jt_span jt_month_record(const uint8_t *daw, size_t daw_size, uint32_t month);
+
+/* Where a table lies: number 0, the F2 planes, in the F2 record; 1 to 20, ikim to xercof in the file's
+ * order, in the month file. Both files are checked for every number. */
+jt_span jt_table(uint32_t number, const uint8_t *f2, size_t f2_size, const uint8_t *file,
+                 size_t file_size);
+
+/* The month file's form, and its index table. */
+jt_answer jt_month_file_check(const uint8_t *file, size_t file_size);
+jt_answer jt_index_check(const uint8_t *file, size_t file_size);
+
+/* The blended coefficients at a sunspot number into a buffer of exactly 2,604, and those of the
+ * height map into one of exactly 464: 1, or 0 where the buffer has another size. */
+uint32_t jt_cofion(const uint8_t *f2, size_t f2_size, const uint8_t *file, size_t file_size,
+                   float ssn, float *out, size_t out_count);
+uint32_t jt_hmym(const uint8_t *file, size_t file_size, float ssn, float *out, size_t out_count);
+
+/* ---- Clocks: times in hours, longitudes in degrees ---- */
+
+/* A universal time made local at a longitude, and a local time made universal. */
+jt_clock_answer jt_cngtim_to_local(float time, float lon);
+jt_clock_answer jt_cngtim_to_universal(float time, float lon);
+
+/* A whole hour at both ends of a path; where local is not 0 it is the transmitter's local time. */
+jt_hours_answer jt_geotim(uint32_t hour, uint32_t local, float tlong, float rlong);
+
+/* The local time at one place for a universal time. */
+jt_local_answer jt_geotim_clck(float gmt, float lon);
+
+/* ---- Arithmetic, in document 01's steps ---- */
+
+float jt_abs32(float x);
+double jt_abs64(double x);
+float jt_min(float a, float b);
+float jt_max(float a, float b);
+double jt_widen(float x);
+float jt_narrow(double x);
+float jt_sqrt32(float x);
+double jt_sqrt64(double x);
+int32_t jt_to_i32(float x);
+float jt_from_i32(int32_t n);
+uint64_t jt_to_u64(double x);
+float jt_sin32(float x);
+float jt_cos32(float x);
+float jt_atan32(float x);
+float jt_acos32(float x);
+float jt_exp32(float x);
+float jt_ln32(float x);
+double jt_sin64(double x);
+double jt_cos64(double x);
+double jt_atan64(double x);
+double jt_acos64(double x);
+double jt_exp64(double x);
+double jt_ln64(double x);
+
+#ifdef __cplusplus
+}
+#endif
+
+#endif

@@ -1,0 +1,77 @@
+//! The worksheet of four desks, its value in the 90 words of bindings/c/jutetrowel.h.
+
+use crate::{answered, raw, shown, Factors, Inputs, Path, Pole, Refusal, Sheet};
+
+/// 32-bit words of a worksheet.
+pub const WORDS: usize = 90;
+
+/// A change of a draft, with all its numbers.
+#[derive(Clone, Copy, Debug, PartialEq)]
+pub enum Change {
+    Sunspots(f32),
+    Hour(f32),
+    Path(Path),
+    Factors(Factors),
+    Pole(Pole),
+}
+
+/// One set of inputs, an earlier one or none, and a draft or none for each desk. A call that is
+/// refused leaves it as it was.
+#[derive(Clone, Debug, PartialEq, Eq)]
+pub struct Worksheet([u32; WORDS]);
+
+impl Worksheet {
+    /// A worksheet with all desks closed and nothing to take back.
+    pub fn open(inputs: &Inputs) -> Result<Self, Refusal> {
+        Self::open_words(&inputs.words())
+    }
+
+    /// The same, from words as the program `sheet` reads them.
+    pub fn open_words(words: &[u8]) -> Result<Self, Refusal> {
+        let mut sheet = [0; WORDS];
+        answered(raw::open(words, &mut sheet)).map(|()| Self(sheet))
+    }
+
+    /// Any 90 words are some worksheet.
+    pub fn from_words(words: [u32; WORDS]) -> Self {
+        Self(words)
+    }
+
+    pub fn words(&self) -> &[u32; WORDS] {
+        &self.0
+    }
+
+    pub fn begin(&mut self, desk: u32) -> Result<(), Refusal> {
+        answered(raw::begin(&mut self.0, desk))
+    }
+
+    pub fn change(&mut self, desk: u32, change: Change) -> Result<(), Refusal> {
+        let sheet = &mut self.0;
+        answered(match change {
+            Change::Sunspots(x) => raw::change_sunspot(sheet, desk, x),
+            Change::Hour(x) => raw::change_hour(sheet, desk, x),
+            Change::Path(p) => {
+                raw::change_path(sheet, desk, p.tlat, p.tlong, p.rlat, p.rlong, p.long.into())
+            }
+            Change::Factors(p) => raw::change_factors(sheet, desk, p.e, p.f1, p.f2, p.es),
+            Change::Pole(p) => raw::change_pole(sheet, desk, p.lat, p.lon),
+        })
+    }
+
+    pub fn commit(&mut self, desk: u32) -> Result<(), Refusal> {
+        answered(raw::commit(&mut self.0, desk))
+    }
+
+    pub fn cancel(&mut self, desk: u32) -> Result<(), Refusal> {
+        answered(raw::cancel(&mut self.0, desk))
+    }
+
+    pub fn take_back(&mut self) -> Result<(), Refusal> {
+        answered(raw::take_back(&mut self.0))
+    }
+
+    /// The figures of a desk's draft, or of the worksheet for desk 0.
+    pub fn show(&self, desk: u32, f2: &[u8], month_file: &[u8]) -> Result<Sheet, Refusal> {
+        shown(|out| raw::show(&self.0, desk, f2, month_file, out))
+    }
+}

@@ -1,0 +1,40 @@
+//! The repository's data, and files read piece by piece.
+
+use std::path::Path;
+
+pub const WORDS: usize = 56;
+pub const RECORD: usize = 7904;
+pub const MONTH_FILE: usize = 38552;
+
+/// A file of the repository.
+pub fn data(path: &str) -> Vec<u8> {
+    let root = Path::new(env!("CARGO_MANIFEST_DIR")).join("../..");
+    std::fs::read(root.join(path)).unwrap_or_else(|e| panic!("{path}: {e}"))
+}
+
+/// What is left of a file to read.
+pub struct Reader<'a>(pub &'a [u8]);
+
+impl<'a> Reader<'a> {
+    pub fn bytes(&mut self, n: usize) -> &'a [u8] {
+        let (piece, rest) = self.0.split_at(n);
+        self.0 = rest;
+        piece
+    }
+
+    pub fn word(&mut self) -> u32 {
+        u32::from_le_bytes(self.bytes(4).try_into().expect("four bytes"))
+    }
+
+    pub fn is_empty(&self) -> bool {
+        self.0.is_empty()
+    }
+}
+
+/// The 64-bit FNV-1a hash of a sheet's bits, as the data has it.
+pub fn hash(bits: &[u32]) -> u64 {
+    let bytes = bits.iter().flat_map(|word| word.to_le_bytes());
+    bytes.fold(0xcbf2_9ce4_8422_2325, |hash: u64, byte| {
+        (hash ^ u64::from(byte)).wrapping_mul(0x100_0000_01b3)
+    })
+}

@@ -1,0 +1,31 @@
+-- By the answer's case.
+use borrow.Author.Needs.{needs}
+use mathlib.Core.Path.{sym, ap, _∙_}
+use lib.Ieee.{binary32, ofBits, round}
+use Rattle.base.specs.Single.{decimal}
+use Rattle.jutetrowel.specs.declared.clocks.HoursAnswer.{HoursAnswer}
+use Rattle.jutetrowel.specs.Clocks.{hoursOf}
+use Rattle.jutetrowel.proofs.clocks.hours_of.Statement.{statement}
+use Rattle.jutetrowel.proofs.clocks.hours_of.Tie as tie
+
+returns : tie.Need-returns
+unfolding hoursOf
+returns c = sym (ap hoursOf (c .before .times .given .1))
+
+returns-2 : tie.Need-returns-2
+unfolding hoursOf decimal round ofBits
+returns-2 c =
+    let n = c .before .number .ensures in
+    let p = c .place .ensures in
+    (λ t. record { gmt = ofBits binary32 0; «lmt_tx» = ofBits binary32 0; gmtr = ofBits binary32 0; number = n t; place = p t }) ∙ sym (ap hoursOf (c .before .before .before .times2 .given .1))
+
+pub hours-of-spec : {M : Type 1} → statement M
+hours-of-spec =
+    tie.close
+    (tie.spec
+    (λ c. search needs)
+    (λ c. search needs)
+    (λ c κs. search needs)
+    (λ c κs. search needs)
+    returns
+    returns-2)

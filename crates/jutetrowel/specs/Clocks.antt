@@ -1,0 +1,31 @@
+-- How the clocks' answers cross to another language: the times, or zeros with a refusal's number and place. Assumes nothing.
+use lib.Ieee.{Float}
+use Rattle.base.specs.declared.angle.Degrees.{Degrees}
+use Rattle.base.specs.Refusal.{reportOf}
+use Rattle.base.specs.Single.{decimal}
+use Rattle.maps.specs.declared.ionosphere.clocks.Moved.{Moved}
+use Rattle.maps.specs.declared.ionosphere.clocks.Moved.the-variants.{To, Refused as NotMoved}
+use Rattle.maps.specs.declared.ionosphere.clocks.Times.{Times}
+use Rattle.maps.specs.declared.ionosphere.clocks.Times.the-variants.{Hours, Refused as NoTimes}
+use Rattle.maps.specs.declared.ionosphere.clocks.LocalTime.{LocalTime}
+use Rattle.maps.specs.declared.ionosphere.clocks.LocalTime.the-variants.{At, Refused as NoLocalTime}
+use Rattle.jutetrowel.specs.declared.clocks.ClockAnswer.{ClockAnswer}
+use Rattle.jutetrowel.specs.declared.clocks.HoursAnswer.{HoursAnswer}
+use Rattle.jutetrowel.specs.declared.clocks.LocalAnswer.{LocalAnswer}
+
+-- a longitude as typed
+abbrev pub typed : Float → Degrees
+typed x = record { 0 = x }
+
+unfoldable pub clockOf : Moved → ClockAnswer
+clockOf (To x) = record { time = x .time; day = x .day; number = 0; place = 0 }
+clockOf (NotMoved why) = record { time = decimal 0 0; day = decimal 0 0; number = reportOf why .0; place = reportOf why .1 }
+
+unfoldable pub hoursOf : Times → HoursAnswer
+hoursOf (Hours x) = record { gmt = x .gmt; «lmt_tx» = x .«lmt_tx»; gmtr = x .gmtr; number = 0; place = 0 }
+hoursOf (NoTimes why) =
+    record { gmt = decimal 0 0; «lmt_tx» = decimal 0 0; gmtr = decimal 0 0; number = reportOf why .0; place = reportOf why .1 }
+
+unfoldable pub localOf : LocalTime → LocalAnswer
+localOf (At x) = record { time = x; number = 0; place = 0 }
+localOf (NoLocalTime why) = record { time = decimal 0 0; number = reportOf why .0; place = reportOf why .1 }
