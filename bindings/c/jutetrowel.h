@@ -25,6 +25,11 @@ extern "C" {
 #define JT_MONTH_FILE_BYTES 38552
 #define JT_WORKSHEET_WORDS 90
 
+/* The blended coefficients of the six maps and of the height map; those of the six maps at an hour. */
+#define JT_COEFFICIENTS 2604
+#define JT_HEIGHTS 464
+#define JT_HOUR_MAPS 318
+
 /* A refusal's number and place; 0 and 0 where nothing is refused. */
 typedef struct {
     uint32_t number;
@@ -64,6 +69,36 @@ typedef struct {
     uint32_t number;
     uint32_t place;
 } jt_hours_answer;
+
+/* A path: its length in radians and in kilometres, its bearings in radians, the receiver's latitude as
+ * used and the path's absolute latitude in degrees, the bearings in degrees, and how many points. */
+typedef struct {
+    float gcd;
+    float gcd_km;
+    float btr;
+    float brt;
+    float rlatd;
+    float alatd;
+    float btr_deg;
+    float brt_deg;
+    uint32_t points;
+} jt_measured;
+
+/* The layers at a place, E, F1 and F2 in each array; refused, all +0. */
+typedef struct {
+    uint32_t number;
+    uint32_t place;
+    float fi[3];
+    float yi[3];
+    float hi[3];
+    float f2m3;
+    float hpf2;
+    float rat;
+    float abiy;
+    float clck;
+    float zenang;
+    float zenmax;
+} jt_layers;
 
 /* A local time; refused, +0. */
 typedef struct {
@@ -143,15 +178,32 @@ jt_span jt_month_record(const uint8_t *daw, size_t daw_size, uint32_t month);
 jt_span jt_table(uint32_t number, const uint8_t *f2, size_t f2_size, const uint8_t *file,
                  size_t file_size);
 
-/* The month file's form, and its index table. */
+/* The month file's form alone; and whether the file can be used: its form, then its index table. */
 jt_answer jt_month_file_check(const uint8_t *file, size_t file_size);
-jt_answer jt_index_check(const uint8_t *file, size_t file_size);
+jt_answer jt_file_check(const uint8_t *file, size_t file_size);
 
-/* The blended coefficients at a sunspot number into a buffer of exactly 2,604, and those of the
- * height map into one of exactly 464: 1, or 0 where the buffer has another size. */
-uint32_t jt_cofion(const uint8_t *f2, size_t f2_size, const uint8_t *file, size_t file_size,
-                   float ssn, float *out, size_t out_count);
-uint32_t jt_hmym(const uint8_t *file, size_t file_size, float ssn, float *out, size_t out_count);
+/* ---- Parts of a sheet by themselves ----
+ *
+ * For comparing and timing. They refuse files as a sheet does, and take numbers as they are: no field
+ * is checked. */
+
+/* The blended coefficients of the six maps at a sunspot number, and those of the height map. */
+jt_answer jt_cofion(const uint8_t *f2, size_t f2_size, const uint8_t *file, size_t file_size,
+                    float ssn, float out[JT_COEFFICIENTS]);
+jt_answer jt_hmym(const uint8_t *file, size_t file_size, float ssn, float out[JT_HEIGHTS]);
+
+/* The coefficients of the six maps at an hour. */
+jt_answer jt_hour_maps(const uint8_t *f2, size_t f2_size, const uint8_t *file, size_t file_size,
+                       float ssn, float gmt, float ab[JT_HOUR_MAPS]);
+
+/* A path by its ends in degrees; a flag that is not 0 is the long way round. */
+jt_measured jt_path(float tlat, float tlong, float rlat, float rlong, uint32_t long_path,
+                    float pole_lat, float pole_lon);
+
+/* The layers at a place in radians, from the maps at the hour and the month file. */
+jt_layers jt_layers_at(uint32_t month, float ssn, float gmt, float psc_e, float psc_f1, float psc_f2,
+                       float psc_es, const float ab[JT_HOUR_MAPS], const uint8_t *file,
+                       size_t file_size, float pole_lat, float pole_lon, float lat, float lon);
 
 /* ---- Clocks: times in hours, longitudes in degrees ---- */
 

@@ -56,14 +56,12 @@ exports! {
 // A slice is lent as its start and its number of elements.
 exports! {
     "jt_month_file_check" month_file_check(file: *const u8, length: usize) -> Answer;
-    "jt_index_check" index_check(file: *const u8, length: usize) -> Answer;
+    "jt_file_check" file_check(file: *const u8, length: usize) -> Answer;
     "jt_cofion" cofion(
         record: *const u8, record_length: usize, file: *const u8, length: usize,
-        ssn: f32, out: *mut f32, out_length: usize
-    ) -> u32;
-    "jt_hmym" hmym(
-        file: *const u8, length: usize, ssn: f32, out: *mut f32, out_length: usize
-    ) -> u32;
+        ssn: f32, out: *mut [f32; 2604]
+    ) -> Answer;
+    "jt_hmym" hmym(file: *const u8, length: usize, ssn: f32, out: *mut [f32; 464]) -> Answer;
 }
 
 exports! {

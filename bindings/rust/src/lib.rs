@@ -187,7 +187,7 @@ pub fn month_file_check(file: &[u8]) -> Result<(), Refusal> {
     answered(raw::month_file_check(file))
 }
 
-/// The month file's index table: 11 with the lowest bad map.
-pub fn index_check(file: &[u8]) -> Result<(), Refusal> {
-    answered(raw::index_check(file))
+/// Whether a month file can be used: its form, then its index table, 11 with the lowest bad map.
+pub fn file_check(file: &[u8]) -> Result<(), Refusal> {
+    answered(raw::file_check(file))
 }

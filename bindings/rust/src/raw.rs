@@ -117,7 +117,7 @@ mod c {
         pub fn jt_geotim(hour: u32, local: u32, tlong: f32, rlong: f32) -> HoursAnswer;
         pub fn jt_geotim_clck(gmt: f32, lon: f32) -> LocalAnswer;
         pub fn jt_month_file_check(file: *const u8, file_size: usize) -> Answer;
-        pub fn jt_index_check(file: *const u8, file_size: usize) -> Answer;
+        pub fn jt_file_check(file: *const u8, file_size: usize) -> Answer;
     }
 }
 
@@ -215,7 +215,7 @@ pub fn month_file_check(file: &[u8]) -> Answer {
     unsafe { c::jt_month_file_check(file.as_ptr(), file.len()) }
 }
 
-pub fn index_check(file: &[u8]) -> Answer {
+pub fn file_check(file: &[u8]) -> Answer {
     // SAFETY: a slice with its length, which is only read.
-    unsafe { c::jt_index_check(file.as_ptr(), file.len()) }
+    unsafe { c::jt_file_check(file.as_ptr(), file.len()) }
 }

@@ -4,7 +4,7 @@ mod common;
 
 use common::{data, hash, Reader, MONTH_FILE, RECORD, WORDS};
 use jutetrowel::{
-    index_check, month_file_check, month_record, sheet, sheet_of_words, table, Factors, Inputs,
+    file_check, month_file_check, month_record, sheet, sheet_of_words, table, Factors, Inputs,
     Path, Pole, Refusal,
 };
 
@@ -187,13 +187,16 @@ fn files_after_the_fields() {
     wrong[38548] ^= 1;
     assert_eq!(with(f2, &wrong), refused(10, 38548));
     assert_eq!(month_file_check(&wrong), refused(10, 38548));
+    assert_eq!(file_check(&wrong), refused(10, 38548));
+    assert_eq!(file_check(&[]), refused(9, 0));
     assert_eq!(month_file_check(file), Ok(()));
     let mut wrong = file.to_vec();
     // Word 0 of map 2 is 0, which is below 1.
     wrong[44..48].fill(0);
     assert_eq!(with(f2, &wrong), refused(11, 2));
-    assert_eq!(index_check(&wrong), refused(11, 2));
-    assert_eq!(index_check(file), Ok(()));
+    assert_eq!(month_file_check(&wrong), Ok(()));
+    assert_eq!(file_check(&wrong), refused(11, 2));
+    assert_eq!(file_check(file), Ok(()));
 }
 
 #[test]

@@ -2,7 +2,6 @@
 pub mod Answers
 pub mod Calls
 pub mod Clocks
-pub mod Given
 pub mod Layers
 pub mod Sheets
 pub mod Words

@@ -3,18 +3,17 @@ use crate::answers::Answer;
 use crate::answers::Span;
 use crate::answers::answered;
 use crate::answers::no_span;
+use crate::answers::refused;
 use base::coefficients;
 use base::refusal::Verdict;
 use base::tables;
+use maps::ionosphere;
 ghost use mathlib.Core.Path.{_≡_};
-ghost use Prim.Native.Nat.{_≤_};
-ghost use lib.ListN.{length};
 ghost use Rattle.base.specs.MonthFile.{monthFileCheck, monthRecordCheck, monthPart};
 ghost use Rattle.base.specs.Tables.{tableCheck, tablePart};
-ghost use Rattle.base.specs.Index.{indexCheck};
 ghost use Rattle.base.specs.Blend.{cofionOf, hmymOf};
+ghost use Rattle.maps.specs.Ionosphere.{fileCheck, filesCheck, writtenOver};
 ghost use Rattle.jutetrowel.specs.Answers.{answerOf, spanOf};
-ghost use Rattle.jutetrowel.specs.Given.{givenTo, wasGiven};
 
 #[no_mangle]
 pub extern "C" fn jt_month_file_check(s: &[u8]) -> Answer
@@ -23,11 +22,12 @@ pub extern "C" fn jt_month_file_check(s: &[u8]) -> Answer
     answered(coefficients::month_file_check(s))
 }
 
+// Whether a month file can be used: its form, and then its index table.
 #[no_mangle]
-pub extern "C" fn jt_index_check(month: &[u8]) -> Answer
-    ensures { λ r. ⌜ r ≡ answerOf (indexCheck (now (month .entry))) ⌝ }
+pub extern "C" fn jt_file_check(month: &[u8]) -> Answer
+    ensures { λ r. ⌜ r ≡ answerOf (fileCheck (now (month .entry))) ⌝ }
 {
-    answered(coefficients::index_check(month))
+    answered(ionosphere::file_check(month))
 }
 
 // Where a month's record lies in the `.daw` file.
@@ -67,42 +67,32 @@ pub extern "C" fn jt_table(number: u32, f2: &[u8], month: &[u8]) -> Span
     }
 }
 
-// The numbers of one list put into another of the same length.
-fn copy(from: &[f32], to: &mut [f32])
-    requires { ⌜ length (now from) ≡ length (now to) ⌝ }
-    ensures { λ _. ⌜ now (to .exit) ≡ now (from .entry) ⌝ }
+// The blended coefficients of the six maps at a sunspot number; refused, the array stays as it is.
+#[no_mangle]
+pub extern "C" fn jt_cofion(f2: &[u8], month: &[u8], ssn: f32, out: &mut [f32; 2604]) -> Answer
+    ensures { λ r. ⌜ (r ≡ answerOf (filesCheck (now (f2 .entry)) (now (month .entry)))) × (now (out .exit) ≡ writtenOver (filesCheck (now (f2 .entry)) (now (month .entry))) (cofionOf (now (f2 .entry)) (now (month .entry)) ssn) (now (out .entry))) ⌝ }
 {
-    let mut i = 0usize;
-    while i < from.len() {
-        to[i] = from[i];
-        i += 1;
+    let verdict = ionosphere::files_check(f2, month);
+    match verdict {
+        Verdict::Accepted => {
+            *out = coefficients::cofion(f2, month, ssn);
+            answered(Verdict::Accepted)
+        }
+        Verdict::Refused(why) => refused(why),
     }
 }
 
-// The blended coefficients into a buffer of exactly 2,604; 1 where it was, else 0 with the buffer
-// left alone.
+// The blended coefficients of the height map; refused, the array stays as it is.
 #[no_mangle]
-pub extern "C" fn jt_cofion(f2: &[u8], month: &[u8], ssn: f32, out: &mut [f32]) -> u32
-    ensures { λ r. ⌜ (r ≡ wasGiven 2604 (now (out .entry))) × (now (out .exit) ≡ givenTo 2604 (cofionOf (now (f2 .entry)) (now (month .entry)) ssn) (now (out .entry))) ⌝ }
+pub extern "C" fn jt_hmym(month: &[u8], ssn: f32, out: &mut [f32; 464]) -> Answer
+    ensures { λ r. ⌜ (r ≡ answerOf (fileCheck (now (month .entry)))) × (now (out .exit) ≡ writtenOver (fileCheck (now (month .entry))) (hmymOf (now (month .entry)) ssn) (now (out .entry))) ⌝ }
 {
-    if out.len() != 2604 {
-        return 0;
+    let verdict = ionosphere::file_check(month);
+    match verdict {
+        Verdict::Accepted => {
+            *out = coefficients::hmym(month, ssn);
+            answered(Verdict::Accepted)
+        }
+        Verdict::Refused(why) => refused(why),
     }
-    let all = coefficients::cofion(f2, month, ssn);
-    copy(&all, out);
-    1
-}
-
-// The height map's coefficients into a buffer of exactly 464; 1 where it was, else 0 with the buffer
-// left alone.
-#[no_mangle]
-pub extern "C" fn jt_hmym(month: &[u8], ssn: f32, out: &mut [f32]) -> u32
-    ensures { λ r. ⌜ (r ≡ wasGiven 464 (now (out .entry))) × (now (out .exit) ≡ givenTo 464 (hmymOf (now (month .entry)) ssn) (now (out .entry))) ⌝ }
-{
-    if out.len() != 464 {
-        return 0;
-    }
-    let all = coefficients::hmym(month, ssn);
-    copy(&all, out);
-    1
 }

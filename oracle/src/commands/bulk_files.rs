@@ -17,15 +17,15 @@ mod linked {
     use crate::damage::Damage;
     use crate::data_files::{calm, ladders::near_good, wild, Pair};
     use crate::generator::Generator;
-    use crate::index_check;
     use crate::port::{self, Answer};
     use crate::reference_files::{blends, put, walk};
-    use crate::voacap::coefficients::parse_month_file;
+    use crate::reference_sheets::{self, FIGURES};
+    use crate::voacap::coefficients::F2_RECORD_BYTES;
 
     pub fn run(count: &str, seed: &str) -> Result<(), String> {
         let count = whole(count)?;
         let seed = whole(seed)?;
-        let names = ["month_file_check", "index_check", "cofion", "hmym"];
+        let names = ["month_file_check", "file_check", "cofion", "hmym"];
         let mut tallies = names.map(Tally::new);
         for case in 0..count {
             // A seed of its own, so that a case can be found again.
@@ -35,24 +35,37 @@ mod linked {
         report(&tallies)
     }
 
-    /// The other three are defined for files only that the walk accepts.
     fn compare(random: &mut Generator, tallies: &mut [Tally; 4], case: u64) {
         let pair = files(random);
-        let [check, index, cofion, hmym] = tallies;
-        let wanted = walk(&pair.month);
-        check.note(case, refusal(port_check(&pair.month), wanted));
-        if wanted != (0, 0) {
-            return;
-        }
-        index.note(case, refusal(port_index(&pair.month), index_answer(&pair)));
-        put(&pair.daw, &pair.month, 1);
+        let [form, check, cofion, hmym] = tallies;
+        form.note(case, refusal(port_form(&pair.month), walk(&pair.month)));
+        let file = usable(&WHOLE_RECORD, &pair.month);
+        check.note(case, refusal(port_check(&pair.month), file));
         let ssn = sunspots(random);
-        let wanted = blends(1, ssn);
+        let both = usable(&pair.daw, &pair.month);
         let at = |difference: Option<String>| difference.map(|text| format!("at {ssn:e}, {text}"));
-        let difference = filled(random, &wanted.0, 1, |out| port_cofion(&pair, ssn, out));
+        let wanted = (both == (0, 0)).then(|| blended(&pair, ssn).0);
+        let difference = filled(both, wanted, |out| port_cofion(&pair, ssn, out));
         cofion.note(case, at(difference));
-        let difference = filled(random, &wanted.1, 1, |out| port_hmym(&pair, ssn, out));
+        let wanted = (file == (0, 0)).then(|| blended(&pair, ssn).1);
+        let difference = filled(file, wanted, |out| port_hmym(&pair, ssn, out));
         hmym.note(case, at(difference));
+    }
+
+    /// For a function that takes the month file alone.
+    const WHOLE_RECORD: [u8; F2_RECORD_BYTES] = [0; F2_RECORD_BYTES];
+
+    /// What a sheet refuses both files for, if its buffer has the right length.
+    fn usable(record: &[u8], file: &[u8]) -> (u32, u32) {
+        reference_sheets::refusal(record, file, FIGURES)
+    }
+
+    /// The Rust reads no height map without a whole record.
+    fn blended(pair: &Pair, ssn: f32) -> (Vec<f32>, Vec<f32>) {
+        let mut daw = pair.daw.clone();
+        daw.resize(daw.len().max(F2_RECORD_BYTES), 0);
+        put(&daw, &pair.month, 1);
+        blends(1, ssn)
     }
 
     /// Calm or wild, with a table that passes or nearly does; half of them
@@ -68,9 +81,12 @@ mod linked {
         if random.below(2) == 0 {
             pair.month = Damage::any(random).done_to(&pair.month);
         }
-        // Bytes after the record are ignored.
-        let further = random.below(8) as usize;
-        pair.daw.resize(pair.daw.len() + further, 0xaa);
+        // Bytes after the record are ignored; some records are cut.
+        let size = match random.below(16) {
+            0 => random.below(F2_RECORD_BYTES as u64) as usize,
+            further => pair.daw.len() + further as usize % 8,
+        };
+        pair.daw.resize(size, 0xaa);
         pair
     }
 
@@ -83,31 +99,25 @@ mod linked {
         }
     }
 
-    fn index_answer(pair: &Pair) -> (u32, u32) {
-        let raw = parse_month_file(&pair.month, "month").expect("a good file");
-        index_check::answer(&raw.ikim)
-    }
-
     fn refusal(ours: Answer, wanted: (u32, u32)) -> Option<String> {
         let ours = (ours.number, ours.place);
         let text = |(number, place): (u32, u32)| format!("{number} at {place}");
         (ours != wanted).then(|| format!("port {}, wanted {}", text(ours), text(wanted)))
     }
 
-    fn port_check(file: &[u8]) -> Answer {
+    fn port_form(file: &[u8]) -> Answer {
         // SAFETY: start and length of one slice, which is only read.
         unsafe { port::month_file_check(file.as_ptr(), file.len()) }
     }
 
-    /// The whole month file is lent, as to the other functions.
-    fn port_index(file: &[u8]) -> Answer {
+    fn port_check(file: &[u8]) -> Answer {
         // SAFETY: start and length of one slice, which is only read.
-        unsafe { port::index_check(file.as_ptr(), file.len()) }
+        unsafe { port::file_check(file.as_ptr(), file.len()) }
     }
 
-    fn port_cofion(pair: &Pair, ssn: f32, out: &mut [f32]) -> u32 {
+    fn port_cofion(pair: &Pair, ssn: f32, out: &mut [f32; 2604]) -> Answer {
         let Pair { daw, month } = pair;
-        // SAFETY: start and length of three slices, `out` lent for writing.
+        // SAFETY: start and length of two slices, and `out` lent for writing.
         unsafe {
             port::cofion(
                 daw.as_ptr(),
@@ -115,23 +125,14 @@ mod linked {
                 month.as_ptr(),
                 month.len(),
                 ssn,
-                out.as_mut_ptr(),
-                out.len(),
+                out,
             )
         }
     }
 
-    fn port_hmym(pair: &Pair, ssn: f32, out: &mut [f32]) -> u32 {
+    fn port_hmym(pair: &Pair, ssn: f32, out: &mut [f32; 464]) -> Answer {
         let month = &pair.month;
-        // SAFETY: start and length of two slices, `out` lent for writing.
-        unsafe {
-            port::hmym(
-                month.as_ptr(),
-                month.len(),
-                ssn,
-                out.as_mut_ptr(),
-                out.len(),
-            )
-        }
+        // SAFETY: start and length of a slice, and `out` lent for writing.
+        unsafe { port::hmym(month.as_ptr(), month.len(), ssn, out) }
     }
 }

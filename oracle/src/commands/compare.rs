@@ -2,7 +2,7 @@
 //! Rust's.
 
 use crate::bits::Answer;
-use crate::generator::Generator;
+use crate::port;
 
 /// What an untouched buffer holds: no NaN, and no likely answer.
 const UNTOUCHED: u32 = 0x5a5a_5a5a;
@@ -54,28 +54,20 @@ pub fn report(tallies: &[Tally]) -> Result<(), String> {
     }
 }
 
-/// A buffer of the right length gets every value and `answer` comes back;
-/// another one, in one case of eight, is left as it was and 0 comes back.
-pub fn filled(
-    random: &mut Generator,
-    wanted: &[f32],
-    answer: u32,
-    port: impl FnOnce(&mut [f32]) -> u32,
+/// An accepted call fills the array with the values that are wanted; a refused
+/// one leaves it as it was.
+pub fn filled<const N: usize>(
+    answer: (u32, u32),
+    wanted: Option<Vec<f32>>,
+    port: impl FnOnce(&mut [f32; N]) -> port::Answer,
 ) -> Option<String> {
-    let fits = random.below(8) != 0;
-    let length = match (fits, random.below(3)) {
-        (true, _) => wanted.len(),
-        (false, 0) => wanted.len() - 1,
-        (false, 1) => wanted.len() + 1,
-        _ => random.below(wanted.len() as u64) as usize,
-    };
-    let untouched = vec![f32::from_bits(UNTOUCHED); length];
-    let mut out = untouched.clone();
+    let mut out = [f32::from_bits(UNTOUCHED); N];
     let given = port(&mut out);
-    if given != if fits { answer } else { 0 } {
-        return Some(format!("answer {given} for a buffer of {length}"));
+    if (given.number, given.place) != answer {
+        return Some(format!("answer {} at {}", given.number, given.place));
     }
-    difference(&out, if fits { wanted } else { &untouched })
+    let wanted = wanted.unwrap_or_else(|| vec![f32::from_bits(UNTOUCHED); N]);
+    difference(&out, &wanted)
 }
 
 /// The first place at which the words differ; NaNs are one word.
