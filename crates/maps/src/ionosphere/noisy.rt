@@ -6,7 +6,8 @@ ghost use Prim.Native.Nat.{_≤_, _<_};
 ghost use lib.ListN.{getD};
 ghost use lib.Ieee.{nan};
 ghost use Rattle.base.specs.Single.{_⊕_, _⊗_};
-ghost use Rattle.maps.specs.Noisy.{inPlane, turnOf, sxOf, each, columnsOf, latitudeSum, noisySum, noisyOf};
+ghost use Rattle.base.specs.Elementary.{sin32Of, cos32Of};
+ghost use Rattle.maps.specs.Noisy.{inPlane, turnOf, sxOf, each, columnsOf, zzOf, latitudeSum, noisyOf};
 
 // One plane `P(29,16)`, its 16 rows of 29 one after the other.
 pub type Plane = [f32; 464];
@@ -82,17 +83,40 @@ fn latitude_sum(zz: &[f32; 29], s1: f32, c1: f32, n: usize) -> f32
     sum
 }
 
-// The map with lm columns and ln rows: the longitude series on the half angle, then the latitude
-// series on the angle plus 90 degrees.
-fn noisy_sum(lm: usize, ln: usize, plane: &Plane, alf: f32, bet: f32, xla: f32, ceg: f32) -> f32
-    requires { ⌜ (lm ≤ 29) × (ln ≤ 15) ⌝ }
-    ensures { λ r. ⌜ r ≡ noisySum lm ln (now (plane .entry)) alf bet xla ceg ⌝ }
+// The sine and the cosine of an angle.
+struct Wave {
+    sine: f32,
+    cosine: f32,
+}
+
+fn wave_of(x: f32) -> Wave
+    ensures { λ r. ⌜ (r .sine ≡ sin32Of x) × (r .cosine ≡ cos32Of x) ⌝ }
 {
-    let q = 0.0087266466 * ceg;
-    let sx = sines(sin32(q), cos32(q), ln);
+    Wave {
+        sine: sin32(x),
+        cosine: cos32(x),
+    }
+}
+
+// The map with lm columns and ln rows: the longitude series on the half angle, then the latitude
+// series on p, the angle plus 90 degrees. Both waves are given, which leaves this so short that it is
+// compiled once for each pair of limits, its loops unrolled.
+fn noisy_sum(
+    lm: usize,
+    ln: usize,
+    plane: &Plane,
+    alf: f32,
+    bet: f32,
+    p: f32,
+    half: Wave,
+    angle: Wave,
+) -> f32
+    requires { ⌜ (lm ≤ 29) × (ln ≤ 15) ⌝ }
+    ensures { λ r. ⌜ r ≡ latitudeSum (λ k. turnOf (angle .sine) (angle .cosine) k .sine) (zzOf (λ k. turnOf (half .sine) (half .cosine) k .sine) (now (plane .entry)) ln) lm ⊕ alf ⊕ bet ⊗ p ⌝ }
+{
+    let sx = sines(half.sine, half.cosine, ln);
     let zz = columns(&sx, plane, ln, lm);
-    let p = 0.01745329252 * (xla + 90.0);
-    latitude_sum(&zz, sin32(p), cos32(p), lm) + alf + bet * p
+    latitude_sum(&zz, angle.sine, angle.cosine, lm) + alf + bet * p
 }
 
 // `xla` and `ceg` are the two coordinates in degrees, `alf` and `bet` the pair that normalises the
@@ -100,9 +124,12 @@ fn noisy_sum(lm: usize, ln: usize, plane: &Plane, alf: f32, bet: f32, xla: f32, 
 pub fn noisy(plane: &Plane, alf: f32, bet: f32, ratio_map: bool, xla: f32, ceg: f32) -> f32
     ensures { λ r. ⌜ r ≡ noisyOf (now (plane .entry)) alf bet «ratio_map» xla ceg ⌝ }
 {
+    let half = wave_of(0.0087266466 * ceg);
+    let p = 0.01745329252 * (xla + 90.0);
+    let angle = wave_of(p);
     if ratio_map {
-        noisy_sum(15, 10, plane, alf, bet, xla, ceg)
+        noisy_sum(15, 10, plane, alf, bet, p, half, angle)
     } else {
-        noisy_sum(29, 15, plane, alf, bet, xla, ceg)
+        noisy_sum(29, 15, plane, alf, bet, p, half, angle)
     }
 }
