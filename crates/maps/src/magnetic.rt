@@ -277,37 +277,8 @@ struct Sums {
     sump: f32,
 }
 
-// The order m of the degree n: `p[n][m]` and `dp[n][m]` are stored, and its terms added to the sums.
-fn order(
-    x: Place,
-    t: Row,
-    n: usize,
-    m: usize,
-    p: &mut [f32; 49],
-    dp: &mut [f32; 49],
-    v: Sums,
-) -> Sums
-    requires { ⌜ (t ≡ rowOf n) × (1 ≤ n) × (n < 7) × (m ≤ n) ⌝ }
-    ensures { λ r. ⌜ state (now (p .exit)) (now (dp .exit)) r ≡ orderOf x n m (state (now (p .entry)) (now (dp .entry)) v) ⌝ }
-{
-    let e = element_of(x.c, x.s, t.ct[m], n, m, p, dp);
-    let g = t.g[m];
-    let h = t.h[m];
-    let sp = x.sp[m];
-    let cp = x.cp[m];
-    let fm = whole(m);
-    let ts = g * cp + h * sp;
-    let k = n * 7 + m;
-    p[k] = e.p;
-    dp[k] = e.dp;
-    Sums {
-        sumr: v.sumr + e.p * ts,
-        sumt: v.sumt + e.dp * ts,
-        sump: v.sump + fm * e.p * (-g * sp + h * cp),
-    }
-}
-
-// All orders of the degree n, summed.
+// All orders of the degree n, summed: `p[n][m]` and `dp[n][m]` are stored, and the terms of the order
+// m added to the sums.
 fn orders(x: Place, n: usize, p: &mut [f32; 49], dp: &mut [f32; 49]) -> Sums
     requires { ⌜ (1 ≤ n) × (n < 7) ⌝ }
     ensures { λ r. ⌜ state (now (p .exit)) (now (dp .exit)) r ≡ ordersOf x n (now (p .entry)) (now (dp .entry)) ⌝ }
@@ -319,7 +290,21 @@ fn orders(x: Place, n: usize, p: &mut [f32; 49], dp: &mut [f32; 49]) -> Sums
         sump: 0.0,
     };
     for m in 0..=n {
-        v = order(x, t, n, m, p, dp, v);
+        let e = element_of(x.c, x.s, t.ct[m], n, m, p, dp);
+        let g = t.g[m];
+        let h = t.h[m];
+        let sp = x.sp[m];
+        let cp = x.cp[m];
+        let fm = whole(m);
+        let ts = g * cp + h * sp;
+        let k = n * 7 + m;
+        p[k] = e.p;
+        dp[k] = e.dp;
+        v = Sums {
+            sumr: v.sumr + e.p * ts,
+            sumt: v.sumt + e.dp * ts,
+            sump: v.sump + fm * e.p * (-g * sp + h * cp),
+        };
     }
     v
 }
