@@ -82,14 +82,14 @@ cofionOf f2 month s = appended (cofionMaps f2 month s)
 
 -- ---- the Rust's constants over them
 
--- 'Start of each map's coefficients in `COFION` (1-based)'
+-- IA: where the run of each map begins among the 2,604, counted from 1
 abbrev pub IA : List ℕ
 IA = 1 ∷ 276 ∷ 703 ∷ 978 ∷ 1966 ∷ 2407 ∷ []
 
--- 'First dimension of each map's coefficient array'
+-- IB: how many coefficients a row of each map has
 abbrev pub IB : List ℕ
 IB = 5 ∷ 7 ∷ 5 ∷ 13 ∷ 9 ∷ 9 ∷ []
 
--- 'Start of each map's evaluated coefficients in `AB` (1-based)'
+-- IC: where the rows of each map begin among the 318, counted from 1
 abbrev pub IC : List ℕ
 IC = 1 ∷ 56 ∷ 117 ∷ 172 ∷ 248 ∷ 297 ∷ []

@@ -16,7 +16,7 @@ use Rattle.base.proofs.Intervals.{exactly, sub-in, mul-in}
 use Rattle.maps.specs.Geometry.{acosClamped, otherWay, atLeastMinimum, gcdOf, circleOf, countOf, pathOf}
 use Rattle.maps.proofs.SignRules.{acos-clamped-in, acos-clamped-nan}
 
--- ---- document 01, Figures: 'gcd_km <= 2000.01 (as f32) gives one point, <= 4000 three, else five'
+-- ---- document 01, Figures: '`gcd_km` <= 2000.01 (as f32) gives one point, <= 4000 three, else five'
 pub data CountRule (km : Float) : ℕ → Type 0 where
   one : le km (decimal 200001 2) ≡ true → CountRule km 1
   three : le km (decimal 200001 2) ≡ false → le km (decimal 40000 1) ≡ true → CountRule km 3

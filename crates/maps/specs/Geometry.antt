@@ -1,4 +1,4 @@
--- geometry.rs, expression by expression in binary32, in its names: great-circle distance, bearings and control points, with the
+-- geometry.rs, expression by expression in binary32, in its names: the length, the bearings and the points of a path, with the
 -- Fortran's own PI, clamped arc cosines, least distance, nudged receiver and pole cases. Angles are in radians but for `Degrees`.
 -- `tx .sin` stands for `tlat.sin()` and `rx .cos` for `rlat.cos()`. Assumes nothing.
 use mathlib.Core.Bool.{Bool, cond, _&&_}
@@ -26,7 +26,7 @@ use Rattle.maps.specs.declared.geometry.Track.{Track}
 unfoldable pub EPSLON : Float
 EPSLON = decimal 1 7
 
--- closest the receiver may sit to the transmitter, degrees
+-- a receiver that is this near in both coordinates, in degrees, is moved off
 unfoldable pub DDX : Float
 DDX = decimal 3 2
 
@@ -110,7 +110,7 @@ gcdOf tx rx dlong long =
     let qcos = cosBetween tx rx dlong in
     otherWay long (atLeastMinimum (acosClamped qcos))
 
--- a bearing before it is turned, with the near-pole special case; for `brt` the ends change places
+-- a bearing before it is turned, from a pole north or south; for `brt` the ends change places
 unfoldable pub fromNorth : Place → Place → Float → Float → Float
 fromNorth tx rx gcdSin gcdCos =
     let q = (rx .sin ⊖ tx .sin ⊗ gcdCos) ⊘ (tx .cos ⊗ gcdSin) in
@@ -130,7 +130,7 @@ circleOf tx rx long =
 
 -- ---- sample areas
 
--- document 01, Figures: 'gcd_km <= 2000.01 (as f32) gives one point, <= 4000 three, else five'
+-- document 01, Figures: '`gcd_km` <= 2000.01 (as f32) gives one point, <= 4000 three, else five'
 unfoldable pub countOf : Float → ℕ
 countOf gcdKm = cond (le gcdKm (decimal 200001 2)) 1 (cond (le gcdKm (decimal 40000 1)) 3 5)
 

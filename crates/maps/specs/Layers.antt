@@ -240,7 +240,7 @@ layersOf m ssn gmt psc hmym pt mag g =
       zenmax = ef1 .zenmax;
     }
 
--- ---- ESIND: 'fs is map 3, 2, 1'
+-- ---- ESIND: '`fs` is map 3, 2, 1'
 
 unfoldable pub esindOf : Gammas → Float → EsParams
 esindOf g psc3 = record { fs = g .g3 ⊗ psc3 ∷ g .g2 ⊗ psc3 ∷ g .g1 ⊗ psc3 ∷ []; hs = decimal 1100 1 }

@@ -32,11 +32,11 @@ o = decimal 0 1
 unfoldable pub RD : Float
 RD = decimal 156905124 8
 
--- the reference radius, metres
+-- the radius in metres that the coefficients are for
 unfoldable pub HC : Float
 HC = decimal 63712000 1
 
--- Gauss-normalised recurrence constants
+-- what the function two degrees below is taken off with
 unfoldable pub CT : List (List Float)
 CT =
     (o ∷ o ∷ o ∷ o ∷ o ∷ o ∷ o ∷ [])

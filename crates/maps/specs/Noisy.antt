@@ -37,7 +37,7 @@ unfoldable pub latitudeSum : (ℕ → Float) → (ℕ → Float) → ℕ → Flo
 latitudeSum sk zz zero = decimal 0 1
 latitudeSum sk zz (suc k) = latitudeSum sk zz k ⊕ sk k ⊗ zz k
 
--- with lm columns and ln rows: the longitude series on the half angle, then the latitude series on the angle plus 90 degrees
+-- lm columns, each summed over ln sines of half the longitude, and they over sines of the latitude counted from the south pole
 unfoldable pub noisySum : ℕ → ℕ → List Float → Float → Float → Float → Float → Float
 noisySum lm ln plane alf bet xla ceg =
     let q = decimal 87266466 10 ⊗ ceg in

@@ -1,4 +1,4 @@
--- `virtim` of ionosphere.rs: the diurnal Fourier series of every map at an hour, 2,604 coefficients to 318. Maps are counted from 0 here.
+-- `virtim` of ionosphere.rs: every map's daily series worked out at an hour, 2,604 coefficients to 318. Maps are counted from 0 here.
 -- Assumes nothing.
 use Prim.Native.Nat.{ℕ, zero, suc, _+_, _-_, _*_, _<_}
 use mathlib.Core.List.{List}

@@ -1,4 +1,5 @@
-// Path geometry: great-circle distance, bearings and control points, as geometry.rs has them.
+// A path between two ends, after geometry.rs: its length, its two bearings and the places on it where the
+// ionosphere is asked for.
 // Degrees are always `Degrees`; inside, an angle that is worked with is a plain `f32` in radians.
 use base::angle::Degrees;
 use base::angle::Radians;
@@ -15,11 +16,11 @@ ghost use mathlib.Core.Path.{_≡_};
 ghost use Rattle.maps.specs.Geometry.{signOf, clampedOf, acosClamped, latitudeOf, turnedOf, foldedOf, otherWay, polar, close, nudgeOf, nudgedOf, placeOf, endLongitude, endOf, cosBetween, dlongOf, atLeastMinimum, gcdOf, fromNorth, circleOf, countOf, distancesOf, downMeridian, circleLongitude, onCircle, sampleOf, poleOf, gmlatOf, pointOf, rowOf, rowsOf, pathOf, geomagneticOf, meanLatitude, alatdOf, btrDeg, brtDeg};
 
 const EPSLON: f32 = 1.0e-7;
-// Closest the receiver may sit to the transmitter, degrees.
+// A receiver that is this near in both coordinates, in degrees, is moved off its transmitter.
 const DDX: f32 = 0.03;
 
-// One reflection sample area along the path: its distance from the transmitter, its place and its
-// geomagnetic latitude.
+// A place on the path where the ionosphere is asked for, with its distance from the transmitter and
+// its latitude against the magnetic pole.
 pub struct ControlPoint {
     pub rd: Radians,
     pub lat: Radians,
@@ -34,8 +35,7 @@ pub struct PathGeometry {
     // Bearings transmitter to receiver and back, clockwise from north.
     pub btr: Radians,
     pub brt: Radians,
-    // The receive latitude, which is not the one given where the receiver sat on top of the
-    // transmitter and was moved off it.
+    // The receiver's latitude as used: 0.03 degrees from the one typed where both ends coincide.
     pub rlatd: Degrees,
     // How many of the points are there; the rows past them are +0.0.
     pub count: u32,
@@ -66,7 +66,7 @@ struct Track {
     btr_cos: f32,
 }
 
-// Fortran's SIGN(a, b): the size of a with the sign of b. -0 counts as above zero, a NaN as below.
+// As Fortran's SIGN: the size of a, negative where b is below zero or a NaN. -0 is not below zero.
 pub fn sign(a: f32, b: f32) -> f32
     ensures { λ r. ⌜ r ≡ signOf a b ⌝ }
 {
@@ -135,7 +135,7 @@ fn nudge(rlat: Degrees) -> f32
     if rlat.0 < 0.0 { -DDX } else { DDX }
 }
 
-// The receiver's latitude, moved away from a coincident transmitter a little.
+// The receiver's latitude, 0.03 degrees off where the ends coincide.
 fn nudged(tlat: Degrees, tlong: Degrees, rlat: Degrees, rlong: Degrees) -> Degrees
     ensures { λ r. ⌜ r ≡ nudgedOf tlat tlong rlat rlong ⌝ }
 {
@@ -158,7 +158,7 @@ fn place_at(lat: f32, lon: f32) -> Place
     }
 }
 
-// At the poles longitude is meaningless; the Fortran forces zero.
+// Beyond 89.9 degrees every longitude counts as 0.
 fn end_longitude(lat: Degrees, lon: Degrees) -> f32
     ensures { λ r. ⌜ r ≡ endLongitude lat lon ⌝ }
 {
@@ -189,7 +189,7 @@ fn longitude_between(tlong: f32, rlong: f32, long_path: bool) -> f32
     if long_path { turned(dlong) } else { dlong }
 }
 
-// Minimum distance is 31.85 metres.
+// Ends on one another count as 0.000001 apart, which is 6.37 metres.
 fn at_least_minimum(gcd: f32) -> f32
     ensures { λ r. ⌜ r ≡ atLeastMinimum gcd ⌝ }
 {
@@ -204,7 +204,7 @@ fn distance(tx: Place, rx: Place, dlong: f32, long_path: bool) -> f32
     other_way(long_path, at_least_minimum(gcd))
 }
 
-// The bearing as an angle from north, with the near-pole special case.
+// A bearing as an angle from north; from a pole every way is north or south.
 fn from_north(from: Place, to: Place, gcd_sin: f32, gcd_cos: f32) -> f32
     ensures { λ r. ⌜ r ≡ fromNorth from to «gcd_sin» «gcd_cos» ⌝ }
 {
@@ -245,8 +245,8 @@ fn point_count(gcd_km: f32) -> u32
     }
 }
 
-// Sample areas in order: the first is for the E layer, the second for the F layer, the third for
-// all layers, the fourth for the F layer, the fifth for the E layer.
+// The distances, nearest first: of five the outer two serve the E layer, the next two the F layer and
+// the middle one all layers.
 fn distances(gcd: f32, count: u32) -> [f32; 5]
     ensures { λ r. ⌜ r ≡ distancesOf gcd count ⌝ }
 {
@@ -280,7 +280,7 @@ fn circle_longitude(track: Track, drf: f32, drf_cos: f32, sin: f32, cos: f32) ->
 {
     let tx = track.tx;
     if is_polar(cos) {
-        // the sample area itself is near a pole
+        // at a pole no longitude can be worked out
         tx.lon
     } else {
         let rflg = acos_clamped((drf_cos - sin * tx.sin) / (cos * tx.cos));
@@ -372,8 +372,7 @@ fn rows(track: Track, pole: Place, gcd: f32, count: u32) -> [ControlPoint; 5]
     [p1, p2, p3, p4, p5]
 }
 
-// Computes the path geometry. `long_path` is the Fortran's NPSL = 1: the great-circle route the
-// long way round.
+// The path of two ends, the short way or, with `long_path`, the long way round.
 pub fn path_geometry(
     tlat: Degrees,
     tlong: Degrees,
@@ -408,7 +407,7 @@ pub fn path_geometry(
     }
 }
 
-// The geomagnetic latitude of a place.
+// A place's latitude against the magnetic pole.
 pub fn geomagnetic_latitude(pole: MagneticPole, lat: Radians, lon: Radians) -> Radians
     ensures { λ r. ⌜ r ≡ geomagneticOf pole lat lon ⌝ }
 {

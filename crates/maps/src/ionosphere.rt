@@ -1,5 +1,5 @@
-// The ionosphere at each control point for one hour: ionosphere.rs, a module for each of the Fortran
-// routines that it has in one file, and here what works over lent files.
+// What the maps give at a point, after ionosphere.rs: a module for each of the Fortran routines that
+// it has in one file, and here what works over lent files.
 pub mod clocks;
 pub mod layers;
 pub mod noisy;
@@ -88,7 +88,7 @@ pub(crate) fn gammas_at(
     versy::versy(ab, index, gmdip.0, lat.0, clg.0, cos32(lat.0))
 }
 
-// What a layer-parameter call needs that does not vary with the place.
+// What the layers take besides the place.
 pub struct LayerInputs {
     pub month: u32,
     pub ssn: f32,

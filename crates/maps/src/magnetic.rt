@@ -1,5 +1,5 @@
-// The geomagnetic field at a control point, after magnetic.rs: gyrofrequency and dip angle from a
-// degree-6 spherical-harmonic expansion with the Jensen-Cain 1960 coefficients, at 300 km.
+// Field strength and dip 300 km over a point, after magnetic.rs: a series to degree 6 with the numbers
+// that Jensen and Cain gave for 1960.
 use base::angle::Degrees;
 use base::angle::Radians;
 use base::elementary::atan32;
@@ -14,10 +14,10 @@ ghost use Rattle.maps.specs.Magnetic.{rowOf, clampedOf, multipleOf, mult
 
 // Latitudes beyond this, 89.9 degrees, are pinned to it.
 const RD: f32 = 1.56905124;
-// Reference radius, metres.
+// The radius in metres that the coefficients are for.
 const HC: f32 = 6371200.0;
 
-// Gauss-normalised recurrence constants.
+// What the function two degrees below is taken off with.
 const CT: [[f32; 7]; 7] = [
     [0.0, 0.0, 0.0, 0.0, 0.0, 0.0, 0.0],
     [0.0, 0.0, 0.0, 0.0, 0.0, 0.0, 0.0],

@@ -22,7 +22,7 @@ ghost use Rattle.base.specs.Single.{_⊕_, _⊗_};
 ghost use Rattle.base.specs.Words.{floatAt};
 ghost use Rattle.maps.specs.Layers.{sunOf, monthlyOf, clockOf, sspOf, sslOf, zenithOf, timvarOf, gamma6Of, eLayer, f1Layer, ef1Of, ratOf, abiyOf, retardOf, atLeastXf1, halfOver, twilightOf, mergedOf, eRetardation, belowF2, retardedOf, layersOf, esindOf, groundAt, groundOf};
 
-// Subsolar-point latitudes per month, `SUN(2,12)`.
+// The sun's two latitudes in each month, `SUN(2,12)`.
 const SUN: [[f32; 2]; 12] = [
     [-23.05, -17.31],
     [-17.30, -7.89],
@@ -38,12 +38,12 @@ const SUN: [[f32; 2]; 12] = [
     [-21.66, -23.45],
 ];
 
-// Height of maximum to semithickness, of E and of F1.
+// A layer's height over its semithickness: E, F1.
 const BETAE: f32 = 5.5;
 
 const BETAF1: f32 = 4.0;
 
-// Below this ratio of frequencies the retardation is not taken.
+// A smaller ratio of frequencies counts as this one.
 const XF1: f32 = 1.1;
 
 // The width of twilight, degrees.
@@ -135,7 +135,7 @@ pub struct EsParams {
     pub hs: f32,
 }
 
-// Conductivity, mhos/m, and relative dielectric constant.
+// What the ground is: conductivity in mhos/m, and permittivity against that of empty space.
 pub struct Ground(pub f32, pub f32);
 
 // The month's sun. A month that is none has no sun: both latitudes are no number.
@@ -178,7 +178,7 @@ pub fn monthly_of(file: &[u8], month: u32, ssn: f32) -> Monthly
     }
 }
 
-// TIMVAR's local mean time at a longitude, hours. It is corrected once: 24 stays, 0 becomes 24.
+// TIMVAR's clock in hours. It is corrected once: 24 stays, 0 becomes 24.
 pub fn timvar_clck(gmt: f32, lon: Radians) -> f32
     ensures { λ r. ⌜ r ≡ clockOf gmt lon ⌝ }
 {
@@ -481,7 +481,7 @@ pub fn layer_parameters(
     }
 }
 
-// Sporadic E. Note that map 3 is the lower decile and map 1 the upper.
+// Sporadic E. The deciles run against the numbers of the maps: 3, 2, 1.
 pub fn esind(g: Gammas, psc3: f32) -> EsParams
     ensures { λ r. ⌜ r ≡ esindOf g psc3 ⌝ }
 {

@@ -197,7 +197,7 @@ fn three(ab: &TimeMaps, index: &[u32; 60], k: usize, sx: f64, sz: f64, waves: &[
     three_series(ab, index, k, &ga, &gb, &gc)
 }
 
-// `GAMMA`, the values of the six maps: 1 to 3 sporadic E, 4 foF2, 5 M(3000)F2, 6 regular E.
+// The maps' values at a place: sporadic E in g1 to g3, then foF2, the M3000 factor and foE.
 pub struct Gammas {
     pub g1: f32,
     pub g2: f32,

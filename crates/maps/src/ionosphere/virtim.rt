@@ -12,11 +12,11 @@ ghost use Rattle.maps.specs.Virtim.{GoodTable, hourWaves, waveIn, valueO
 // `AB`, the coefficients of the six maps at an hour, one map after the other.
 pub type TimeMaps = [f32; 318];
 
-// Start of each map's coefficients in `COFION`, from 1 on.
+// Where the run of each map begins among the 2,604 of `COFION`, counted from 1.
 const IA: [usize; 6] = [1, 276, 703, 978, 1966, 2407];
 // How many coefficients a row of each map has.
 const IB: [usize; 6] = [5, 7, 5, 13, 9, 9];
-// Start of each map's coefficients in `AB`, from 1 on.
+// Where the rows of each map begin among the 318 of `AB`, counted from 1.
 const IC: [usize; 6] = [1, 56, 117, 172, 248, 297];
 
 // Where the coefficients of the map k start in `AB`, from 0 on.
@@ -109,7 +109,7 @@ fn time_map(
     }
 }
 
-// The diurnal series of every map at an hour of Greenwich mean time.
+// Every map's daily series, worked out at one hour of Greenwich mean time.
 pub(crate) fn virtim(cof: &[f32; 2604], index: &[u32; 60], gmt: f32) -> TimeMaps
     requires { ⌜ GoodTable (now index) ⌝ }
     ensures { λ r. ⌜ r ≡ virtimOf (now (cof .entry)) (now (index .entry)) gmt ⌝ }
