@@ -5,7 +5,7 @@ use mathlib.Core.List.{List, [], _∷_, _++_}
 use mathlib.Core.Path.{_≡_, refl, sym, ap, subst, _∙_}
 use native.Mathlib.Omega.{arith}
 use lib.Dec.{eqb}
-use lib.Ieee.{binary32, ofBits}
+use lib.Ieee.{binary32}
 use lib.Ieee.Bits.{ofBits-fits}
 use Rattle.base.specs.Words.{floatAt}
 use Rattle.base.specs.declared.refusal.Verdict.{Verdict}
@@ -17,7 +17,6 @@ use Rattle.worksheet.specs.declared.desks.Draft.{Draft}
 use Rattle.worksheet.specs.declared.desks.Draft.the-variants.{Closed, Fresh, Stale}
 use Rattle.worksheet.specs.declared.desks.Earlier.{Earlier}
 use Rattle.worksheet.specs.declared.desks.Earlier.the-variants.{Nothing, Set}
-use Rattle.worksheet.specs.declared.desks.Outcome.{Outcome}
 use Rattle.worksheet.specs.declared.desks.Worksheet.{Worksheet}
 use Rattle.worksheet.specs.declared.desks.Opened.{Opened}
 use Rattle.worksheet.specs.declared.desks.Opened.the-variants.{Sheet}

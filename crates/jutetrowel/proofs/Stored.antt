@@ -1,9 +1,9 @@
 -- Six sets of 15 words, put one after the other into 90 words, are the six appended: by what a fill leaves before and after it. Assumes nothing.
 use mathlib.Core.Path.{_≡_, refl, sym, ap, _∙_}
-use mathlib.Core.List.{List, [], _∷_, _++_, append-assoc, append-nil}
+use mathlib.Core.List.{List, [], _++_, append-assoc, append-nil}
 use Prim.Native.Nat.{ℕ, _+_, _≤_}
 use native.Mathlib.Omega.{arith}
-use lib.ListN.{length, getD, drop, replicate, length-append}
+use lib.ListN.{length, drop, replicate, length-append}
 use lib.Seq.{ext-getD}
 use Rattle.base.specs.Fill.{fill, run}
 use Rattle.base.proofs.Fills.{fill-run, length-run, run-at}

@@ -1,5 +1,4 @@
 -- How answers cross to another language: numbers and places. Assumes nothing.
-use Prim.Native.Nat.{ℕ}
 use Rattle.base.specs.Refusal.{reportOf, verdictReport}
 use Rattle.base.specs.MonthFile.{Part}
 use Rattle.base.specs.declared.refusal.Verdict.{Verdict}

@@ -16,7 +16,7 @@ use worksheet::desks::Outcome;
 use worksheet::desks::Worksheet;
 ghost use mathlib.Core.Path.{_≡_};
 ghost use mathlib.Core.Bool.{cond};
-ghost use Prim.Native.Nat.{ℕ, _+_, _≤_, _<_};
+ghost use Prim.Native.Nat.{_+_, _≤_, _<_};
 ghost use Rattle.base.specs.Fill.{fill};
 ghost use Rattle.jutetrowel.specs.Answers.{answerOf};
 ghost use Rattle.jutetrowel.specs.Words.{wordIn, floatIn, degreesIn, routeIn, factorsIn, poleIn, inputsIn, earlierIn, draftIn, worksheetOf, setWords, earlierWords, draftWords, wordsOf, wordsAfter};

@@ -2,7 +2,6 @@
 use borrow.Author.Needs.{needs}
 use mathlib.Core.Path.{sym, ap, _∙_}
 use Rattle.jutetrowel.specs.Answers.{showingOf}
-use Rattle.jutetrowel.specs.declared.answers.Showing.{Showing}
 use Rattle.jutetrowel.proofs.answers.shown_as.Statement.{statement}
 use Rattle.jutetrowel.proofs.answers.shown_as.Tie as tie
 

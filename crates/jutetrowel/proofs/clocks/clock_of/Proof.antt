@@ -3,7 +3,6 @@ use borrow.Author.Needs.{needs}
 use mathlib.Core.Path.{sym, ap, _∙_}
 use lib.Ieee.{binary32, ofBits, round}
 use Rattle.base.specs.Single.{decimal}
-use Rattle.jutetrowel.specs.declared.clocks.ClockAnswer.{ClockAnswer}
 use Rattle.jutetrowel.specs.Clocks.{clockOf}
 use Rattle.jutetrowel.proofs.clocks.clock_of.Statement.{statement}
 use Rattle.jutetrowel.proofs.clocks.clock_of.Tie as tie

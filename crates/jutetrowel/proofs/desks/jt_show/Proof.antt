@@ -1,7 +1,6 @@
 -- The showing of the worksheet that the words hold.
 use borrow.Author.Needs.{needs}
 use mathlib.Core.Path.{ap, _∙_}
-use Rattle.worksheet.specs.declared.desks.Worksheet.{Worksheet}
 use Rattle.worksheet.specs.Showing.{showOf, showBuffer}
 use Rattle.jutetrowel.specs.Answers.{showingOf}
 use Rattle.jutetrowel.proofs.desks.jt_show.Statement.{statement}

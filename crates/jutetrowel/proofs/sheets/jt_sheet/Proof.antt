@@ -1,7 +1,6 @@
 -- By what the words open: the showing of that worksheet, or the refusal.
 use borrow.Author.Needs.{needs}
 use mathlib.Core.Path.{sym, ap, _∙_}
-use Rattle.worksheet.specs.declared.desks.Opened.{Opened}
 use Rattle.jutetrowel.specs.Answers.{showingOf}
 use Rattle.jutetrowel.specs.Sheets.{shownFrom, bufferFrom, sheetOf, sheetBuffer}
 use Rattle.jutetrowel.proofs.sheets.jt_sheet.Statement.{statement}
@@ -11,7 +10,6 @@ returns : tie.Need-returns
 unfolding sheetOf sheetBuffer shownFrom bufferFrom
 returns c =
     let b = c .before .before .before .before .before .before in
-    let a = b .before .before .before .before .before .before .before .args in
     let o = sym (b .before .before .opened .ensures) ∙ b .sheet .given .1 in
     let s = c .before .before .before .show .ensures in
     (c .shown-as .ensures ∙ ap showingOf (s .0 ∙ sym (ap (shownFrom _ _ _) o)), s .1 ∙ sym (ap (bufferFrom _ _ _) o))

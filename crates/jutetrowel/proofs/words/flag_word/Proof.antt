@@ -1,5 +1,4 @@
 -- By the flag.
-use borrow.Author.Needs.{needs}
 use mathlib.Core.Path.{sym}
 use Rattle.base.proofs.Picks.{cond-true, cond-false}
 use Rattle.jutetrowel.proofs.words.flag_word.Statement.{statement}
