@@ -16,9 +16,9 @@ const FILES: [&str; 5] = [
 /// The files that are written a second time, with their branches counted.
 const COUNTED: [&str; 3] = ["geometry.rs", "magnetic.rs", "ionosphere.rs"];
 
-/// Functions of these files that no sheet runs. Their branches stay as they
-/// are.
-const NOT_RUN: [&str; 4] = ["cngtim", "geotim", "preset", "from_numerics"];
+/// Functions of these files that nothing here runs. Their branches stay as
+/// they are.
+const NOT_RUN: [&str; 2] = ["preset", "from_numerics"];
 
 /// Method calls that become a step. `sqrt` and `abs` stay the hardware's,
 /// which document 01 asks for as they are.

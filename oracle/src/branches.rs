@@ -11,6 +11,13 @@ pub struct Branch {
     pub condition: &'static str,
 }
 
+impl Branch {
+    /// Of the clocks, which no sheet asks.
+    pub fn is_clock(&self) -> bool {
+        ["cngtim", "geotim"].contains(&self.function)
+    }
+}
+
 // `BRANCHES`, as `build.rs` found them.
 include!(concat!(env!("OUT_DIR"), "/branches.rs"));
 
@@ -47,18 +54,18 @@ pub fn add(counts: &mut Counts, trail: &[Side]) {
     }
 }
 
-/// The conditions of some files with their counts.
-fn within<'a>(
-    counts: &'a Counts,
-    files: &'a [&str],
-) -> impl Iterator<Item = (&'static Branch, [u64; 2])> + 'a {
+/// Which conditions a command runs.
+pub type Part = fn(&Branch) -> bool;
+
+/// The conditions of a part with their counts.
+fn within(counts: &Counts, part: Part) -> impl Iterator<Item = (&'static Branch, [u64; 2])> + '_ {
     let all = BRANCHES.iter().zip(counts.iter().copied());
-    all.filter(|(branch, _)| files.contains(&branch.file))
+    all.filter(move |(branch, _)| part(branch))
 }
 
-pub fn print(counts: &Counts, files: &[&str]) {
+pub fn print(counts: &Counts, part: Part) {
     println!("{:<18} {:>7} {:>7}  condition", "line", "true", "false");
-    for (branch, [no, yes]) in within(counts, files) {
+    for (branch, [no, yes]) in within(counts, part) {
         let Branch {
             file,
             line,
@@ -71,12 +78,8 @@ pub fn print(counts: &Counts, files: &[&str]) {
 
 /// Every condition must have gone both ways, except that the sides in `never`
 /// cannot be taken and must not have been.
-pub fn refuse_untaken(
-    counts: &Counts,
-    files: &[&str],
-    never: &[(&str, bool)],
-) -> Result<(), String> {
-    for (branch, sides) in within(counts, files) {
+pub fn refuse_untaken(counts: &Counts, part: Part, never: &[(&str, bool)]) -> Result<(), String> {
+    for (branch, sides) in within(counts, part) {
         let Branch {
             file,
             line,

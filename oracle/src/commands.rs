@@ -1,11 +1,15 @@
 //! One module for each command.
 
+pub mod bulk_clocks;
 pub mod bulk_files;
 pub mod bulk_journals;
+pub mod bulk_lists;
 pub mod bulk_numbers;
 pub mod bulk_routes;
 pub mod bulk_sheet;
 pub mod bulk_sheets;
+pub mod bulk_tables;
+pub mod clocks;
 #[cfg(linked)]
 mod compare;
 pub mod data;

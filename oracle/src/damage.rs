@@ -6,7 +6,7 @@ use crate::month_file::{markers, BYTES};
 /// Stands in a row for a byte that is not changed.
 pub const NOWHERE: u32 = u32::MAX;
 /// Bytes after the last marker, which a reader ignores.
-const EXTRA: [u8; 64] = [0xaa; 64];
+pub const EXTRA: [u8; 64] = [0xaa; 64];
 pub const LONGEST: usize = BYTES + EXTRA.len();
 
 #[derive(Clone, Copy, PartialEq, Eq, Hash)]

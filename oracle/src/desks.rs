@@ -5,6 +5,8 @@ pub mod fields;
 pub mod lent;
 pub mod programs;
 pub mod shorter;
+#[cfg(any(linked, test))]
+pub mod words;
 
 use fields::Inputs;
 use lent::{Lent, Shown};

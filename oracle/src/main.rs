@@ -3,6 +3,7 @@
 
 mod bits;
 mod branches;
+mod clock_kinds;
 mod commands;
 mod damage;
 mod data_files;
@@ -14,19 +15,29 @@ mod journal_kinds;
 mod month_file;
 #[cfg(linked)]
 mod port;
+#[cfg(linked)]
+mod port_clocks;
+#[cfg(linked)]
+mod port_lists;
 mod ranges;
 mod reference;
+mod reference_clocks;
 mod reference_files;
 mod reference_routes;
 mod reference_sheets;
+mod reference_tables;
 mod route_kinds;
 mod sheet_kinds;
 mod specials;
 mod steps;
 mod voacap;
 
-use commands::{bulk_files, bulk_numbers, bulk_routes, bulk_sheets, data, files, numbers};
-use commands::{bulk_journals, bulk_sheet, journals, model, sheet_inputs};
+use commands::{
+    bulk_clocks, bulk_files, bulk_numbers, bulk_routes, bulk_sheets, data, files, numbers,
+};
+use commands::{
+    bulk_journals, bulk_lists, bulk_sheet, bulk_tables, clocks, journals, model, sheet_inputs,
+};
 use commands::{routes, self_check, sheets, time_numbers, time_sheets};
 use std::env;
 use std::process::ExitCode;
@@ -42,6 +53,9 @@ const USAGE: &str = "usage:
   oracle data DIR                          write data files made from seeds
   oracle files DIR                         write the vectors of the file functions
   oracle bulk-files COUNT SEED             compare the port's file functions with the Rust's
+  oracle clocks FILE                       write the vectors of the clocks
+  oracle bulk-clocks COUNT SEED            compare the port's clocks with the Rust's
+  oracle bulk-tables COUNT SEED            compare the port's tables with the Rust's
   oracle routes FILE                       write the vectors of path geometry and field
   oracle bulk-routes FILE COUNT SEED       write random routes in the same form, to be replayed
   oracle sheets FILE                       write the vectors of whole sheets
@@ -50,6 +64,7 @@ const USAGE: &str = "usage:
   oracle sheet-inputs DIR                  write inputs of the program sheet with its outputs
   oracle sheets-in FILE                    write the same inputs in a compact form
   oracle bulk-journals COUNT SEED PROGRAM  compare the port's program replay with the model
+  oracle bulk-lists COUNT SEED             compare the port's worksheet calls with the model
   oracle bulk-sheet COUNT SEED PROGRAM     compare the port's program sheet with the model
   oracle replay, oracle sheet              answer standard input as the model does
   oracle time-sheets                       time whole sheets and the Rust's parts of them
@@ -76,6 +91,9 @@ fn command(words: &[&str]) -> Result<(), String> {
         ["data", folder] => data::run(folder),
         ["files", folder] => files::run(folder),
         ["bulk-files", count, seed] => bulk_files::run(count, seed),
+        ["clocks", file] => clocks::run(file),
+        ["bulk-clocks", count, seed] => bulk_clocks::run(count, seed),
+        ["bulk-tables", count, seed] => bulk_tables::run(count, seed),
         ["routes", file] => routes::run(file),
         ["bulk-routes", file, count, seed] => bulk_routes::run(file, count, seed),
         ["sheets", file] => sheets::run(file),
@@ -84,6 +102,7 @@ fn command(words: &[&str]) -> Result<(), String> {
         ["sheet-inputs", folder] => sheet_inputs::files(folder),
         ["sheets-in", file] => sheet_inputs::compact(file),
         ["bulk-journals", count, seed, program] => bulk_journals::run(count, seed, program),
+        ["bulk-lists", count, seed] => bulk_lists::run(count, seed),
         ["bulk-sheet", count, seed, program] => bulk_sheet::run(count, seed, program),
         ["replay"] => model::replay(),
         ["sheet"] => model::sheet(),

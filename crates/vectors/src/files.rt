@@ -12,13 +12,13 @@ use libc::STDOUT_FILENO;
 ghost use Prim.Native.Nat.{_≤_};
 ghost use lib.ListN.{length};
 
-fn print_line(name: &[u8], t: Tally) {
+pub fn print_line(name: &[u8], t: Tally) {
     io::write_all(STDOUT_FILENO, name);
     tally::print(t);
 }
 
 // The next word of a file; 0 where it has ended.
-fn next(fd: i32) -> u32 {
+pub fn next(fd: i32) -> u32 {
     let mut four = [0u8; 4];
     io::read_full(fd, &mut four);
     coefficients::word(&four, 0)
@@ -29,7 +29,7 @@ pub fn index(w: u32) -> usize {
 }
 
 // A file's bytes, as many as the buffer takes; false where there is no such file.
-fn load(path: &[u8], buf: &mut [u8]) -> bool {
+pub fn load(path: &[u8], buf: &mut [u8]) -> bool {
     let fd = opened(path);
     if fd < 0 {
         return false;
@@ -48,7 +48,7 @@ pub fn opened(path: &[u8]) -> i32 {
     fd
 }
 
-fn is_report(v: Verdict, wanted: u32, place: u32) -> bool {
+pub fn is_report(v: Verdict, wanted: u32, place: u32) -> bool {
     v.number() == wanted && v.place() == place
 }
 

@@ -1,9 +1,11 @@
 // Replays the Rust side's answers in data/ and prints of each kind how many were compared and how many
 // differ.
+mod clocks;
 mod files;
 mod numbers;
 mod routes;
 mod sheets;
+mod tables;
 mod tally;
 
 fn main() {
@@ -11,4 +13,6 @@ fn main() {
     files::replay();
     routes::replay();
     sheets::replay();
+    clocks::replay();
+    tables::replay();
 }

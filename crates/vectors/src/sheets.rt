@@ -98,13 +98,6 @@ fn is_sheet(row: &[u8; 664], record: &[u8; 7904], month: &[u8; 38552]) -> bool {
     t.number == 0 && t.place == word(row, 14) && is_figures(&out, row)
 }
 
-// The next word of a file; 0 where it has ended.
-fn next(fd: i32) -> u32 {
-    let mut four = [0u8; 4];
-    io::read_full(fd, &mut four);
-    coefficients::word(&four, 0)
-}
-
 // A pair of files and the sheets made of it.
 fn section(fd: i32, t: Tally) -> Tally {
     let mut t = t;
@@ -112,7 +105,7 @@ fn section(fd: i32, t: Tally) -> Tally {
     io::read_full(fd, &mut record);
     let mut month = [0u8; 38552];
     io::read_full(fd, &mut month);
-    let mut left = next(fd);
+    let mut left = files::next(fd);
     while left > 0 {
         let mut row = [0u8; 664];
         io::read_full(fd, &mut row);
@@ -124,7 +117,7 @@ fn section(fd: i32, t: Tally) -> Tally {
 
 fn replay_sheets(fd: i32) {
     let mut t = none();
-    let mut left = next(fd);
+    let mut left = files::next(fd);
     while left > 0 {
         t = section(fd, t);
         left -= 1;
@@ -185,13 +178,13 @@ fn shown_of(
 
 // Files cut to a length, one byte of the month file changed, and a buffer of some length.
 fn is_refused(fd: i32, record: &[u8; 7904], month: [u8; 38552]) -> bool {
-    let record_length = files::index(next(fd));
-    let month_length = files::index(next(fd));
-    let at = files::index(next(fd));
-    let b = (next(fd) % 256) as u8;
-    let size = files::index(next(fd));
-    let number = next(fd);
-    let place = next(fd);
+    let record_length = files::index(files::next(fd));
+    let month_length = files::index(files::next(fd));
+    let at = files::index(files::next(fd));
+    let b = (files::next(fd) % 256) as u8;
+    let size = files::index(files::next(fd));
+    let number = files::next(fd);
+    let place = files::next(fd);
     let mut damaged = month;
     if at < 38552 {
         damaged[at] = b;
@@ -220,7 +213,7 @@ fn replay_refused(fd: i32) {
     io::read_full(fd, &mut record);
     let mut month = [0u8; 38552];
     io::read_full(fd, &mut month);
-    let mut left = next(fd);
+    let mut left = files::next(fd);
     while left > 0 {
         t = counted(t, is_refused(fd, &record, month));
         left -= 1;

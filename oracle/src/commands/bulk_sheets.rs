@@ -177,8 +177,7 @@ mod linked {
                 number: 0,
                 place: 0,
             };
-            differing_answer(answer, points)
-                .or_else(|| differing_words(&out, &wanted, "Rust"))
+            differing_answer(answer, points).or_else(|| differing_words(&out, &wanted, "Rust"))
         }
     }
 

@@ -3,6 +3,7 @@
 
 mod indexes;
 mod records;
+mod tables;
 mod walks;
 
 use super::write;
@@ -41,6 +42,7 @@ fn all() -> Vec<(&'static str, Vec<u8>)> {
         ("walks.bin", walks::rows(&calm.month)),
         ("records.bin", records::rows(&calm)),
         ("indexes.bin", indexes::rows()),
+        ("tables.bin", pairs.map(tables::rows).concat()),
         ("calm.daw", calm.daw),
         ("calm.month", calm.month),
         ("wild.daw", wild.daw),
@@ -96,7 +98,7 @@ mod tests {
     fn vectors_are_small_and_the_same_each_time() {
         let first = all();
         let total: usize = first.iter().map(|(_, bytes)| bytes.len()).sum();
-        assert!(total < 1_500_000, "{total} bytes");
+        assert!(total < 1_600_000, "{total} bytes");
         assert!(first == all());
     }
 }

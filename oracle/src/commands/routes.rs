@@ -7,7 +7,7 @@ mod odd;
 mod ordinary;
 mod searched;
 
-use crate::branches::{self, Counts};
+use crate::branches::{self, Branch, Counts};
 use crate::month_file::push_words;
 use crate::reference_routes::{counted, plain, Route};
 use std::fs;
@@ -20,14 +20,16 @@ const NAME_BYTES: usize = 32;
 /// A group's name and its routes.
 type Group = (&'static str, Vec<Route>);
 
-const COUNTED: [&str; 2] = ["magnetic.rs", "geometry.rs"];
+fn is_counted(branch: &Branch) -> bool {
+    ["magnetic.rs", "geometry.rs"].contains(&branch.file)
+}
 
 pub fn run(file: &str) -> Result<(), String> {
     let groups = groups();
     let (bytes, counts) = vectors(&groups)?;
     print_groups(&groups);
-    branches::print(&counts, &COUNTED);
-    branches::refuse_untaken(&counts, &COUNTED, &[])?;
+    branches::print(&counts, is_counted);
+    branches::refuse_untaken(&counts, is_counted, &[])?;
     println!("{} rows, {} bytes", bytes.len() / 4 / WORDS, bytes.len());
     fs::write(file, bytes).map_err(|e| format!("cannot write {file}: {e}"))
 }
@@ -86,14 +88,14 @@ fn print_groups(groups: &[Group]) {
 
 #[cfg(test)]
 mod tests {
-    use super::{groups, vectors, COUNTED, HEADING};
+    use super::{groups, is_counted, vectors, HEADING};
     use crate::branches::refuse_untaken;
 
     #[test]
     fn vectors_take_every_branch_and_are_the_same_each_time() {
         let groups = groups();
         let (bytes, counts) = vectors(&groups).expect("both variants agree");
-        assert_eq!(refuse_untaken(&counts, &COUNTED, &[]), Ok(()));
+        assert_eq!(refuse_untaken(&counts, is_counted, &[]), Ok(()));
         assert!(bytes.len() < 200_000, "{} bytes", bytes.len());
         for (_, routes) in groups {
             assert!(routes.iter().all(|route| route.words()[0] != HEADING));

@@ -3,7 +3,9 @@
 
 use super::fields::{sheet, Inputs};
 use super::Refusal;
-use crate::reference_sheets::{put_all_months, refusal, showing, FIGURES};
+use crate::reference_files::{put, read};
+use crate::reference_sheets::{plain, refusal, FIGURES};
+use crate::voacap::coefficients::{CoefficientSet, F2_RECORD_BYTES};
 use std::cell::RefCell;
 use std::collections::HashMap;
 use std::rc::Rc;
@@ -22,6 +24,9 @@ pub struct Lent {
     refusal: Option<Refusal>,
     /// What was worked out before.
     known: RefCell<HashMap<Inputs, Rc<Shown>>>,
+    /// The Rust's maps by the bits of the sunspot number, which alone they
+    /// depend on: any month has this record and this month file.
+    sets: RefCell<HashMap<u32, Rc<CoefficientSet>>>,
 }
 
 impl Lent {
@@ -31,6 +36,7 @@ impl Lent {
             month: month.to_vec(),
             refusal: of_files(record, month, FIGURES),
             known: RefCell::default(),
+            sets: RefCell::default(),
         }
     }
 
@@ -54,14 +60,25 @@ impl Lent {
             .clone()
     }
 
-    /// Both files are put each time: another pair may have been in between.
     fn work_out(&self, inputs: &Inputs) -> Shown {
-        put_all_months(&self.record, &self.month);
-        let figures = showing(&sheet(inputs));
+        let sheet = sheet(inputs);
+        let figures = plain(&sheet, &self.set(sheet.ssn));
         Shown {
             points: figures.points,
             words: figures.words(),
         }
+    }
+
+    fn set(&self, ssn: f32) -> Rc<CoefficientSet> {
+        let mut sets = self.sets.borrow_mut();
+        let set = sets.entry(ssn.to_bits());
+        set.or_insert_with(|| Rc::new(self.read(ssn))).clone()
+    }
+
+    /// Both files are put each time: another pair may have been in between.
+    fn read(&self, ssn: f32) -> CoefficientSet {
+        put(&self.record[..F2_RECORD_BYTES], &self.month, 1);
+        read(1, ssn).expect("both files are good")
     }
 }
 

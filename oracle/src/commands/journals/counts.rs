@@ -42,6 +42,13 @@ pub struct Counts {
 impl Counts {
     pub fn note(&mut self, replayed: &Replayed) {
         self.add("open", text_of(replayed.opened.as_ref().err()));
+        self.note_calls(replayed);
+        if replayed.stopped.is_some() {
+            self.add("no call", String::from("stopped"));
+        }
+    }
+
+    pub fn note_calls(&mut self, replayed: &Replayed) {
         for (call, answer) in replayed.calls.iter().zip(&replayed.answers) {
             let text = match answer {
                 Answer::Accepted => text_of(None),
@@ -49,9 +56,6 @@ impl Counts {
                 Answer::Points(shown) => points(shown),
             };
             self.add(name(call), text);
-        }
-        if replayed.stopped.is_some() {
-            self.add("no call", String::from("stopped"));
         }
     }
 

@@ -1,0 +1,27 @@
+-- Every need by search; the loop counts to its end.
+use borrow.Author.Needs.{needs}
+use Prim.Native.Nat.{_-_, _≤_}
+use Rattle.vectors.proofs.tables.rows.Statement.{statement}
+use Rattle.vectors.proofs.tables.rows.Tie as tie
+
+abbrev Inv-loop : tie.InvT-loop
+Inv-loop fd «record» month all t₀ left₀ t left = left ≤ left
+
+abbrev μ-loop : tie.MeasureT-loop
+μ-loop fd «record» month all t₀ left₀ t left = left
+
+pub rows-spec : {M : Type 1} → statement M
+rows-spec =
+    tie.close
+    (tie.spec
+    Inv-loop
+    μ-loop
+    (λ c κs. search needs)
+    (λ c κs. search needs)
+    (λ c. search needs)
+    (λ c κs. search needs)
+    (λ c κs. search needs)
+    (λ c. search needs)
+    (λ c. search needs)
+    (λ c. search needs)
+    (λ c. search needs))

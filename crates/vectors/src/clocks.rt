@@ -1,0 +1,120 @@
+// The clocks: the times of clocks.bin, in three sections. A row is little-endian words: what is asked,
+// number and place of the refusal, the times.
+use crate::files;
+use crate::tally::Tally;
+use crate::tally::counted;
+use crate::tally::is_float;
+use crate::tally::none;
+use base::angle::Degrees;
+use base::coefficients;
+use base::refusal::Refusal;
+use maps::ionosphere::clocks;
+use maps::ionosphere::clocks::Direction;
+use maps::ionosphere::clocks::LocalTime;
+use maps::ionosphere::clocks::Moved;
+use maps::ionosphere::clocks::Times;
+
+fn degrees(row: &[u8], at: usize) -> Degrees {
+    Degrees(coefficients::float(row, at))
+}
+
+// 1, or -1 as a word.
+fn direction(w: u32) -> Direction {
+    if w == 1 {
+        Direction::ToLocal
+    } else {
+        Direction::ToUniversal
+    }
+}
+
+// Whether a row has this refusal.
+fn is_refusal(why: Refusal, row: &[u8], number_at: usize, place_at: usize) -> bool {
+    why.number() == coefficients::word(row, number_at)
+        && why.place() == coefficients::word(row, place_at)
+}
+
+fn is_shift(row: &[u8; 28]) -> bool {
+    let towards = direction(coefficients::word(row, 8));
+    match clocks::cngtim(coefficients::float(row, 0), degrees(row, 4), towards) {
+        Moved::To(s) => {
+            coefficients::word(row, 12) == 0
+                && is_float(s.time, coefficients::word(row, 20))
+                && is_float(s.day, coefficients::word(row, 24))
+        }
+        Moved::Refused(why) => is_refusal(why, row, 12, 16),
+    }
+}
+
+fn is_hour(row: &[u8; 36]) -> bool {
+    let local = coefficients::word(row, 4) != 0;
+    match clocks::geotim(
+        coefficients::word(row, 0),
+        local,
+        degrees(row, 8),
+        degrees(row, 12),
+    ) {
+        Times::Hours(h) => {
+            coefficients::word(row, 16) == 0
+                && is_float(h.gmt, coefficients::word(row, 24))
+                && is_float(h.lmt_tx, coefficients::word(row, 28))
+                && is_float(h.gmtr, coefficients::word(row, 32))
+        }
+        Times::Refused(why) => is_refusal(why, row, 16, 20),
+    }
+}
+
+fn is_local_time(row: &[u8; 20]) -> bool {
+    match clocks::geotim_clck(coefficients::float(row, 0), degrees(row, 4)) {
+        LocalTime::At(clck) => {
+            coefficients::word(row, 8) == 0 && is_float(clck, coefficients::word(row, 16))
+        }
+        LocalTime::Refused(why) => is_refusal(why, row, 8, 12),
+    }
+}
+
+// The next row of each section; a row that is cut is wrong.
+fn next_shift(fd: i32) -> bool {
+    let mut row = [0u8; 28];
+    let got = io::read_full(fd, &mut row);
+    got == 28 && is_shift(&row)
+}
+
+fn next_hour(fd: i32) -> bool {
+    let mut row = [0u8; 36];
+    let got = io::read_full(fd, &mut row);
+    got == 36 && is_hour(&row)
+}
+
+fn next_local_time(fd: i32) -> bool {
+    let mut row = [0u8; 20];
+    let got = io::read_full(fd, &mut row);
+    got == 20 && is_local_time(&row)
+}
+
+fn is_next(fd: i32, section: u32) -> bool {
+    match section {
+        0 => next_shift(fd),
+        1 => next_hour(fd),
+        _ => next_local_time(fd),
+    }
+}
+
+fn rows(fd: i32, section: u32) -> Tally {
+    let mut t = none();
+    let mut left = files::next(fd);
+    while left > 0 {
+        t = counted(t, is_next(fd, section));
+        left -= 1;
+    }
+    t
+}
+
+pub fn replay() {
+    let fd = files::opened(b"clocks.bin");
+    if fd >= 0 {
+        files::print_line(b"cngtim", rows(fd, 0));
+        files::print_line(b"geotim", rows(fd, 1));
+        files::print_line(b"geotim_clck", rows(fd, 2));
+        libc::close(fd);
+    }
+}

@@ -1,0 +1,167 @@
+//! One list of calls, run by a library and by the model beside it.
+
+use super::drawn::{List, Start};
+use crate::bits::{Answer as _, F32};
+use crate::data_files::Pair;
+use crate::desks::lent::Lent;
+use crate::desks::programs::Replayed;
+use crate::desks::words::{self, Words, WORDS};
+use crate::desks::{Answer, Call, Refusal};
+use crate::generator::Generator;
+
+/// Words on both sides of a buffer that must stay as they are.
+const GUARD: usize = 8;
+
+/// What a library's call gives back beside worksheet and buffer: 0 and 0, or
+/// number and place of the refusal, and a showing's number of points.
+#[derive(Debug, Clone, Copy, PartialEq, Eq)]
+pub struct Told {
+    pub points: u32,
+    pub number: u32,
+    pub place: u32,
+}
+
+impl Told {
+    pub const ACCEPTED: Self = Self::points(0);
+
+    pub const fn points(points: u32) -> Self {
+        Self {
+            points,
+            number: 0,
+            place: 0,
+        }
+    }
+
+    pub fn refused(refusal: Refusal) -> Self {
+        let Refusal { number, place } = refusal;
+        Self {
+            points: 0,
+            number,
+            place,
+        }
+    }
+
+    fn wanted(answer: &Answer) -> Self {
+        match answer {
+            Answer::Accepted => Self::ACCEPTED,
+            Answer::Refused(refusal) => Self::refused(*refusal),
+            Answer::Points(shown) => Self::points(shown.points),
+        }
+    }
+}
+
+/// The worksheet's calls over 90 lent words.
+pub trait Desks {
+    fn open(&self, inputs: &[u8], sheet: &mut Words) -> Told;
+    /// The buffer is a showing's; to other calls it is empty.
+    fn call(&self, sheet: &mut Words, call: &Call, files: &Pair, out: &mut [f32]) -> Told;
+}
+
+/// What the model answers, and where the library first differs.
+pub fn run(
+    desks: &impl Desks,
+    random: &mut Generator,
+    list: &List,
+    files: &Pair,
+    lent: &Lent,
+) -> (Replayed, Option<String>) {
+    let (mut given, mut first) = started(desks, random, &list.start);
+    let mut replayed = Replayed {
+        opened: list.start.worksheet(),
+        calls: Vec::new(),
+        answers: Vec::new(),
+        stopped: None,
+    };
+    let Ok(mut sheet) = replayed.opened else {
+        return (replayed, first);
+    };
+    for call in &list.calls {
+        let answer = sheet.answer(call, lent);
+        sheet = sheet.after(call);
+        let text = one_call(desks, random, &mut given, call, files, &answer)
+            .or_else(|| differing_words(&given, &words::of(&sheet)));
+        let number = replayed.calls.len();
+        let named = |text| format!("call {number}, {call:?}: {text}");
+        first = first.or_else(|| text.map(named));
+        replayed.calls.push(*call);
+        replayed.answers.push(answer);
+    }
+    (replayed, first)
+}
+
+/// The words of a worksheet at its start, and how an open differs.
+fn started(desks: &impl Desks, random: &mut Generator, start: &Start) -> (Words, Option<String>) {
+    let before: Words = std::array::from_fn(|_| random.next() as u32);
+    let bytes = match start {
+        Start::Held(sheet) => return (words::of(sheet), None),
+        Start::Open(bytes) => bytes,
+    };
+    let mut given = before;
+    let told = desks.open(bytes, &mut given);
+    let (wanted, after) = match start.worksheet() {
+        Ok(sheet) => (Told::ACCEPTED, words::of(&sheet)),
+        Err(refusal) => (Told::refused(refusal), before),
+    };
+    let text = differing(told, wanted).or_else(|| differing_words(&given, &after));
+    (given, text.map(|text| format!("open {bytes:?}: {text}")))
+}
+
+/// Answer and buffer of one call.
+fn one_call(
+    desks: &impl Desks,
+    random: &mut Generator,
+    sheet: &mut Words,
+    call: &Call,
+    files: &Pair,
+    answer: &Answer,
+) -> Option<String> {
+    let Call::Show(_, length) = call else {
+        let told = desks.call(sheet, call, files, &mut []);
+        return differing(told, Told::wanted(answer));
+    };
+    let lent = buffer(random, length + 2 * GUARD);
+    let mut out: Vec<f32> = lent.iter().map(|word| f32::from_bits(*word)).collect();
+    let end = GUARD + length;
+    let told = desks.call(sheet, call, files, &mut out[GUARD..end]);
+    let mut wanted = lent;
+    let mut given: Vec<u32> = out.iter().map(|v| v.to_bits()).collect();
+    if let Answer::Points(shown) = answer {
+        wanted[GUARD..end].copy_from_slice(&shown.words);
+        // Two NaNs are alike.
+        for (word, v) in given[GUARD..end].iter_mut().zip(&out[GUARD..end]) {
+            *word = v.to_word() as u32;
+        }
+    }
+    differing(told, Told::wanted(answer)).or_else(|| differing_buffer(&given, &wanted))
+}
+
+/// What a buffer may hold before: every second word is a NaN of any bits.
+fn buffer(random: &mut Generator, count: usize) -> Vec<u32> {
+    let word = |_| match random.next() {
+        word if word >> 63 == 0 => word as u32,
+        word => word as u32 | F32.infinity() as u32 | 1,
+    };
+    (0..count).map(word).collect()
+}
+
+fn differing(given: Told, wanted: Told) -> Option<String> {
+    (given != wanted).then(|| format!("answers {given:?}, wanted {wanted:?}"))
+}
+
+fn differing_words(given: &Words, wanted: &Words) -> Option<String> {
+    let at = (0..WORDS).find(|i| given[*i] != wanted[*i])?;
+    let [given, wanted] = [given[at], wanted[at]];
+    Some(format!(
+        "word {at} of the worksheet is {given:08x}, wanted {wanted:08x}"
+    ))
+}
+
+/// Figures before and after the buffer have numbers below 0 and beyond its end.
+fn differing_buffer(given: &[u32], wanted: &[u32]) -> Option<String> {
+    let at = (0..given.len()).find(|i| given[*i] != wanted[*i])?;
+    let number = at as i64 - GUARD as i64;
+    let [given, wanted] = [given[at], wanted[at]];
+    Some(format!(
+        "figure {number} is {given:08x}, wanted {wanted:08x}"
+    ))
+}

@@ -1,0 +1,97 @@
+//! Many lists, each with a library and the model beside it.
+
+use super::beside::{self, Desks};
+use super::drawn::{self, List, Start};
+use crate::commands::journals::counts::Counts;
+use crate::data_files::Pair;
+use crate::desks::lent::Lent;
+use crate::desks::shorter::check;
+use crate::generator::Generator;
+
+/// Lists for each pair of files, which takes longer to make than a list.
+const LISTS: u64 = 20;
+
+pub fn run(desks: &impl Desks, count: u64, seed: u64) -> Result<(), String> {
+    let mut compared = Compared::default();
+    for case in 0..count.div_ceil(LISTS) {
+        // A seed of its own, so that a case can be found again.
+        let mut random = Generator::new(seed.wrapping_mul(1 << 32) ^ case);
+        let pair = drawn::files(&mut random);
+        let lent = Lent::new(&pair.daw, &pair.month);
+        for number in 0..LISTS.min(count - case * LISTS) {
+            let list = drawn::list(&mut random);
+            let one = compared.one(desks, &mut random, list, (&pair, &lent));
+            one.map_err(|text| format!("list {number} of case {case}: {text}"))?;
+        }
+    }
+    compared.report()
+}
+
+#[derive(Default)]
+struct Compared {
+    counts: Counts,
+    lists: u64,
+    calls: usize,
+    shorter: u64,
+    differing: u64,
+    first: Option<String>,
+}
+
+impl Compared {
+    /// The list, and the shorter one of demand 3 if it begins with an open: the
+    /// model is held to demand 3, the library to the model on both. An error
+    /// only if the model fails.
+    fn one(
+        &mut self,
+        desks: &impl Desks,
+        random: &mut Generator,
+        list: List,
+        files: (&Pair, &Lent),
+    ) -> Result<(), String> {
+        self.lists += 1;
+        self.both(desks, random, &list, files);
+        let (Start::Open(_), Ok(opened)) = (&list.start, list.start.worksheet()) else {
+            return Ok(());
+        };
+        let kept = check(&opened, &list.calls, files.1)?;
+        let calls = kept.iter().map(|i| list.calls[*i]).collect();
+        let start = list.start;
+        self.shorter += 1;
+        self.both(desks, random, &List { start, calls }, files);
+        Ok(())
+    }
+
+    fn both(
+        &mut self,
+        desks: &impl Desks,
+        random: &mut Generator,
+        list: &List,
+        (pair, lent): (&Pair, &Lent),
+    ) {
+        let (replayed, difference) = beside::run(desks, random, list, pair, lent);
+        self.calls += replayed.calls.len();
+        match list.start {
+            Start::Open(_) => self.counts.note(&replayed),
+            Start::Held(_) => self.counts.note_calls(&replayed),
+        }
+        if let Some(text) = difference {
+            self.differing += 1;
+            let number = self.lists;
+            self.first
+                .get_or_insert_with(|| format!("list {number}, {text}"));
+        }
+    }
+
+    /// An error if a list differed.
+    fn report(&self) -> Result<(), String> {
+        self.counts.print();
+        println!(
+            "{} lists and {} shorter ones compared, {} calls in all, {} differ",
+            self.lists, self.shorter, self.calls, self.differing
+        );
+        match &self.first {
+            None => Ok(()),
+            Some(first) => Err(format!("{} lists differ, first {first}", self.differing)),
+        }
+    }
+}

@@ -1,0 +1,113 @@
+//! Random lists of calls and the files that are lent to them.
+
+use crate::bits::Answer;
+use crate::damage::Damage;
+use crate::data_files::Pair;
+use crate::desks::fields::{Inputs, FIELDS};
+use crate::desks::programs::{inputs, HEAD};
+use crate::desks::{Call, Draft, Refusal, Worksheet};
+use crate::generator::Generator;
+use crate::journal_kinds::{any_buffers, any_field, bad_inputs, bad_word, list as calls};
+use crate::month_file::push_words;
+use crate::sheet_kinds::in_range;
+use crate::voacap::coefficients::F2_RECORD_BYTES;
+
+/// The field of the flag, which is no word like the others: in a worksheet
+/// that is held it is true or false.
+const FLAG: usize = 8;
+
+pub enum Start {
+    /// The bytes of an open; some of the 14 words are missing, or others
+    /// follow.
+    Open(Vec<u8>),
+    /// A worksheet that no open gives: fields out of range, drafts of any kind.
+    Held(Worksheet),
+}
+
+impl Start {
+    pub fn worksheet(&self) -> Result<Worksheet, Refusal> {
+        match self {
+            Start::Open(bytes) => Worksheet::open(inputs(bytes)),
+            Start::Held(sheet) => Ok(*sheet),
+        }
+    }
+}
+
+pub struct List {
+    pub start: Start,
+    pub calls: Vec<Call>,
+}
+
+/// 10 to 60 calls; some opens are refused.
+pub fn list(random: &mut Generator) -> List {
+    let start = match random.below(16) {
+        0 => Start::Held(held(random)),
+        _ => Start::Open(open(random)),
+    };
+    // What is refused gets calls too, which must not be asked.
+    let sheet = start.worksheet().unwrap_or_else(|_| held(random));
+    let count = 10 + random.below(51);
+    let mut calls = calls(random, &sheet, count);
+    any_buffers(random, &mut calls);
+    List { start, calls }
+}
+
+fn open(random: &mut Generator) -> Vec<u8> {
+    let field = any_field(random);
+    let inputs = match random.below(16) {
+        0 => bad_inputs(random, field),
+        _ => in_range(random).words(),
+    };
+    let mut bytes = Vec::with_capacity(HEAD);
+    push_words(&mut bytes, &inputs);
+    match random.below(32) {
+        0 => bytes.truncate(random.below(HEAD as u64) as usize),
+        1 => bytes.resize(HEAD + random.below(9) as usize, 0xaa),
+        _ => {}
+    }
+    bytes
+}
+
+fn held(random: &mut Generator) -> Worksheet {
+    let draft = |random: &mut Generator| Draft {
+        inputs: odd_inputs(random),
+        stale: random.below(2) == 0,
+    };
+    Worksheet {
+        inputs: odd_inputs(random),
+        earlier: (random.below(2) == 0).then(|| odd_inputs(random)),
+        drafts: [(); 4].map(|()| (random.below(2) == 0).then(|| draft(random))),
+    }
+}
+
+/// Half of them with a field or two out of range, any NaN as one word.
+fn odd_inputs(random: &mut Generator) -> Inputs {
+    let mut inputs = in_range(random).words();
+    for _ in 0..random.below(3) {
+        let field = 1 + random.below(FIELDS as u64) as usize;
+        match field {
+            1 => inputs[0] = bad_word(random, 1),
+            FLAG => {}
+            _ => inputs[field - 1] = f32::from_bits(bad_word(random, field)).to_word() as u32,
+        }
+    }
+    inputs
+}
+
+/// Calm or wild; the month file of one pair in six is damaged, and the record
+/// of one in sixteen too short.
+pub fn files(random: &mut Generator) -> Pair {
+    let mut pair = crate::journal_kinds::files(random);
+    if random.below(6) == 0 {
+        pair.month = Damage::any(random).done_to(&pair.month);
+    }
+    let length = match random.below(32) {
+        0 => random.below(F2_RECORD_BYTES as u64) as usize,
+        1 => F2_RECORD_BYTES - 1,
+        // Bytes after the record are ignored.
+        2..=9 => F2_RECORD_BYTES + random.below(9) as usize,
+        _ => F2_RECORD_BYTES,
+    };
+    pair.daw.resize(length, 0xaa);
+    pair
+}

@@ -1,0 +1,128 @@
+//! The comparison finds out a library that slips: the model stands for the
+//! library, with one slip at a time.
+
+use super::beside::{Desks, Told};
+use super::compared::run;
+use crate::data_files::Pair;
+use crate::desks::lent::Lent;
+use crate::desks::programs::inputs;
+use crate::desks::words::{self, Words};
+use crate::desks::{Answer, Call, Draft, Worksheet};
+
+/// Answers as the model does; `slip` may change what is given back.
+struct Model<Slip>(Slip);
+
+type Given<'a> = (
+    &'a Call,
+    &'a Answer,
+    &'a mut Words,
+    &'a mut [f32],
+    &'a mut Told,
+);
+
+fn with<Slip: Fn(Given)>(slip: Slip) -> Result<(), String> {
+    run(&Model(slip), 60, 1)
+}
+
+/// The worksheet of these words, as they are written.
+fn held(words: &Words) -> Worksheet {
+    let mut sets = words.chunks(15).map(|set| {
+        let inputs = set[1..].try_into().expect("14 fields");
+        (set[0], inputs)
+    });
+    let mut next = || sets.next().expect("six sets");
+    let (_, inputs) = next();
+    let (what, earlier) = next();
+    Worksheet {
+        inputs,
+        earlier: (what != 0).then_some(earlier),
+        drafts: [(); 4].map(|()| {
+            let (what, inputs) = next();
+            let stale = what == 2;
+            (what != 0).then_some(Draft { inputs, stale })
+        }),
+    }
+}
+
+impl<Slip: Fn(Given)> Desks for Model<Slip> {
+    fn open(&self, open: &[u8], sheet: &mut Words) -> Told {
+        let opened = Worksheet::open(inputs(open));
+        match opened {
+            Ok(opened) => {
+                *sheet = words::of(&opened);
+                Told::ACCEPTED
+            }
+            Err(refusal) => Told::refused(refusal),
+        }
+    }
+
+    fn call(&self, sheet: &mut Words, call: &Call, files: &Pair, out: &mut [f32]) -> Told {
+        let held = held(sheet);
+        let answer = held.answer(call, &Lent::new(&files.daw, &files.month));
+        *sheet = words::of(&held.after(call));
+        let mut told = match &answer {
+            Answer::Accepted => Told::ACCEPTED,
+            Answer::Refused(refusal) => Told::refused(*refusal),
+            Answer::Points(shown) => {
+                for (v, word) in out.iter_mut().zip(shown.words) {
+                    *v = f32::from_bits(word);
+                }
+                Told::points(shown.points)
+            }
+        };
+        (self.0)((call, &answer, sheet, out, &mut told));
+        told
+    }
+}
+
+#[test]
+fn the_model_agrees_with_itself() {
+    assert_eq!(with(|_| {}), Ok(()));
+}
+
+#[test]
+fn slips_are_found_out() {
+    // Another bit of a NaN is no slip.
+    let nan = |(_, _, _, out, _): Given| {
+        let nans = out.iter_mut().filter(|v| v.to_bits() == 0x7fc0_0000);
+        nans.for_each(|v| *v = f32::from_bits(0xffc1_2345));
+    };
+    assert_eq!(with(nan), Ok(()));
+    let figure = |(_, answer, _, out, _): Given| {
+        if let Answer::Points(_) = answer {
+            out[150] = f32::from_bits(out[150].to_bits() ^ 1);
+        }
+    };
+    assert!(with(figure).is_err());
+    let points = |(_, answer, _, _, told): Given| {
+        if let Answer::Points(_) = answer {
+            told.points ^= 6;
+        }
+    };
+    assert!(with(points).is_err());
+    let touched = |(call, answer, _, out, _): Given| {
+        if let (Call::Show(..), Answer::Refused(_), [first, ..]) = (call, answer, out) {
+            *first = 0.0;
+        }
+    };
+    assert!(with(touched).is_err());
+    let place = |(_, answer, _, _, told): Given| {
+        if answer.is_refused() {
+            told.place += 1;
+        }
+    };
+    assert!(with(place).is_err());
+    let refused = |(_, answer, sheet, _, _): Given| {
+        if answer.is_refused() {
+            sheet[89] ^= 1;
+        }
+    };
+    assert!(with(refused).is_err());
+    // A cancel that leaves the draft's words behind.
+    let cancelled = |(call, answer, sheet, _, _): Given| {
+        if let (Call::Cancel(1), Answer::Accepted) = (call, answer) {
+            sheet[32] = 1;
+        }
+    };
+    assert!(with(cancelled).is_err());
+}
