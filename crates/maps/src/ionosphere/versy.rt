@@ -128,6 +128,38 @@ fn together(
     Sums { a, b, c }
 }
 
+// Sums of two series, before the last narrowing.
+struct Pair {
+    a: f64,
+    b: f64,
+}
+
+// The terms 0 to `last` of two series, from the sums x and y of their terms 0 to n.
+fn two_further(
+    ab: &TimeMaps,
+    i: usize,
+    ga: &Basis,
+    j: usize,
+    gb: &Basis,
+    x: f64,
+    y: f64,
+    n: usize,
+    last: usize,
+) -> Pair
+    requires { ⌜ (x ≡ sumOf (now ab) i (elements (now ga)) n) × (y ≡ sumOf (now ab) j (elements (now gb)) n) × (n ≤ last) × (last ≤ 75) × (i + last < 318) × (j + last < 318) ⌝ }
+    ensures { λ r. ⌜ r ≡ record { a = sumOf (now (ab .entry)) i (elements (now (ga .entry))) last; b = sumOf (now (ab .entry)) j (elements (now (gb .entry))) last } ⌝ }
+{
+    let mut a = x;
+    let mut b = y;
+    let mut k = n;
+    while k < last {
+        k += 1;
+        a = narrowed(a) + widen(ab[i + k]) * ga[k];
+        b = narrowed(b) + widen(ab[j + k]) * gb[k];
+    }
+    Pair { a, b }
+}
+
 // A series to its last term, from the sum of its terms 0 to n.
 fn finished(ab: &TimeMaps, at: usize, g: &Basis, sum: f64, n: usize, last: usize) -> f32
     requires { ⌜ (sum ≡ sumOf (now ab) at (elements (now g)) n) × (n ≤ last) × (last ≤ 75) × (at + last < 318) ⌝ }
@@ -155,8 +187,8 @@ fn least(a: usize, b: usize) -> usize
     if a < b { a } else { b }
 }
 
-// The maps k, k + 1 and k + 2 from their geographic functions: together as far as the shortest, and
-// then each alone.
+// The maps k, k + 1 and k + 2 from their geographic functions: together as far as the shortest, the
+// first two as far as the shorter of them, and then each alone.
 fn three_series(
     ab: &TimeMaps,
     index: &[u32; 60],
@@ -174,11 +206,13 @@ fn three_series(
     let la = word(index, k, 8);
     let lb = word(index, k + 1, 8);
     let lc = word(index, k + 2, 8);
-    let n = least(la, least(lb, lc));
+    let m = least(la, lb);
+    let n = least(m, lc);
     let sums = together(ab, i, ga, j, gb, l, gc, n);
+    let pair = two_further(ab, i, ga, j, gb, sums.a, sums.b, n, m);
     Triple {
-        a: finished(ab, i, ga, sums.a, n, la),
-        b: finished(ab, j, gb, sums.b, n, lb),
+        a: finished(ab, i, ga, pair.a, m, la),
+        b: finished(ab, j, gb, pair.b, m, lb),
         c: finished(ab, l, gc, sums.c, n, lc),
     }
 }

@@ -1,4 +1,4 @@
--- Three sums as far as the shortest, each finished alone: by where the maps' coefficients start and end in AB.
+-- Three sums as far as the shortest, two of them further, each finished alone: by where the maps' coefficients start and end in AB.
 use borrow.Author.Needs.{needs}
 use mathlib.Core.Path.{_≡_, ap, _∙_}
 use mathlib.Core.List.{List}
@@ -11,6 +11,7 @@ use Rattle.base.specs.Index.{mapWord}
 use Rattle.base.specs.Blend.{IC}
 use Rattle.base.proofs.Indexing.{reads-inside}
 use Rattle.base.proofs.Ladders.{limits}
+use Rattle.maps.specs.declared.ionosphere.versy.Pair.{Pair}
 use Rattle.maps.specs.declared.ionosphere.versy.Sums.{Sums}
 use Rattle.maps.specs.Virtim.{GoodTable}
 use Rattle.maps.specs.Versy.{elements, gammaOf, seriesOf, threeOf}
@@ -44,45 +45,57 @@ together-requires c κs =
     let n = c .least2 .result in
     let l = c .least2 .ensures in
     let m = c .before .least .ensures in
-    let u = inside (a .index .now) (a .k) n (s .before .before .start-of .result) (b .before .before .word .result) (pre .0) (omega arith) (s .before .before .start-of .ensures) (b .before .before .word .ensures) (l .0) in
-    let v = inside (a .index .now) (a .k + 1) n (s .before .start-of2 .result) (b .before .word2 .result) (pre .0) (omega arith) (s .before .start-of2 .ensures) (b .before .word2 .ensures) (le-trans (l .1) (m .0)) in
-    let w = inside (a .index .now) (a .k + 2) n (s .start-of3 .result) (b .word3 .result) (pre .0) (omega arith) (s .start-of3 .ensures) (b .word3 .ensures) (le-trans (l .1) (m .1)) in
+    let u = inside (a .index .now) (a .k) n (s .before .before .start-of .result) (b .before .before .word .result) (pre .0) (omega arith) (s .before .before .start-of .ensures) (b .before .before .word .ensures) (le-trans (l .0) (m .0)) in
+    let v = inside (a .index .now) (a .k + 1) n (s .before .start-of2 .result) (b .before .word2 .result) (pre .0) (omega arith) (s .before .start-of2 .ensures) (b .before .word2 .ensures) (le-trans (l .0) (m .1)) in
+    let w = inside (a .index .now) (a .k + 2) n (s .start-of3 .result) (b .word3 .result) (pre .0) (omega arith) (s .start-of3 .ensures) (b .word3 .ensures) (l .1) in
     (u .most, u .place, v .place, w .place)
+
+two-further-requires : tie.Need-two-further-requires
+two-further-requires c κs =
+    let b = c .before .before .before in
+    let s = b .before .before .before in
+    let a = s .before .before .before .args in
+    let pre = s .before .before .before .pre in
+    let n = c .before .before .least .result in
+    let m = c .before .before .least .ensures in
+    let u = inside (a .index .now) (a .k) n (s .before .before .start-of .result) (b .before .before .word .result) (pre .0) (omega arith) (s .before .before .start-of .ensures) (b .before .before .word .ensures) (m .0) in
+    let v = inside (a .index .now) (a .k + 1) n (s .before .start-of2 .result) (b .before .word2 .result) (pre .0) (omega arith) (s .before .start-of2 .ensures) (b .before .word2 .ensures) (m .1) in
+    (ap (λ (x : Sums). x .a) (c .together .ensures), ap (λ (x : Sums). x .b) (c .together .ensures), c .before .least2 .ensures .0, u .most, u .place, v .place)
 
 finished-requires : tie.Need-finished-requires
 finished-requires c κs =
-    let b = c .before .before .before in
+    let b = c .before .before .before .before in
     let s = b .before .before .before in
     let a = s .before .before .before .args in
     let pre = s .before .before .before .pre in
     let last = b .before .before .word .result in
     let u = inside (a .index .now) (a .k) last (s .before .before .start-of .result) last (pre .0) (omega arith) (s .before .before .start-of .ensures) (b .before .before .word .ensures) (omega arith) in
-    (ap (λ (x : Sums). x .a) (c .together .ensures), c .before .least2 .ensures .0, u .most, u .place)
+    (ap (λ (x : Pair). x .a) (c .two-further .ensures), c .before .before .before .least .ensures .0, u .most, u .place)
 
 finished-requires-2 : tie.Need-finished-requires-2
 finished-requires-2 c κs =
-    let b = c .before .before .before .before in
+    let b = c .before .before .before .before .before in
     let s = b .before .before .before in
     let a = s .before .before .before .args in
     let pre = s .before .before .before .pre in
     let last = b .before .word2 .result in
     let u = inside (a .index .now) (a .k + 1) last (s .before .start-of2 .result) last (pre .0) (omega arith) (s .before .start-of2 .ensures) (b .before .word2 .ensures) (omega arith) in
-    (ap (λ (x : Sums). x .b) (c .before .together .ensures), le-trans (c .before .before .least2 .ensures .1) (c .before .before .before .least .ensures .0), u .most, u .place)
+    (ap (λ (x : Pair). x .b) (c .before .two-further .ensures), c .before .before .before .before .least .ensures .1, u .most, u .place)
 
 finished-requires-3 : tie.Need-finished-requires-3
 finished-requires-3 c κs =
-    let b = c .before .before .before .before .before in
+    let b = c .before .before .before .before .before .before in
     let s = b .before .before .before in
     let a = s .before .before .before .args in
     let pre = s .before .before .before .pre in
     let last = b .word3 .result in
     let u = inside (a .index .now) (a .k + 2) last (s .start-of3 .result) last (pre .0) (omega arith) (s .start-of3 .ensures) (b .word3 .ensures) (omega arith) in
-    (ap (λ (x : Sums). x .c) (c .before .before .together .ensures), le-trans (c .before .before .before .least2 .ensures .1) (c .before .before .before .before .least .ensures .1), u .most, u .place)
+    (ap (λ (x : Sums). x .c) (c .before .before .before .together .ensures), c .before .before .before .before .least2 .ensures .1, u .most, u .place)
 
 returns : tie.Need-returns
 unfolding threeOf
 returns c =
-    let b = c .before .before .before .before .before .before in
+    let b = c .before .before .before .before .before .before .before in
     let s = b .before .before .before in
     let a = s .before .before .before .args in
     let x = series-of (a .ab .now) (a .index .now) (a .k) (elements (a .ga .now)) (s .before .before .start-of .ensures) (b .before .before .word .ensures) (c .before .before .finished .ensures) in
@@ -107,6 +120,7 @@ three-series-spec =
     (λ c κs. search needs)
     (λ c κs. search needs)
     together-requires
+    two-further-requires
     finished-requires
     finished-requires-2
     finished-requires-3
