@@ -3,6 +3,7 @@
 pub mod bulk_clocks;
 pub mod bulk_files;
 pub mod bulk_journals;
+pub mod bulk_layers;
 pub mod bulk_lists;
 pub mod bulk_numbers;
 pub mod bulk_routes;
@@ -15,15 +16,22 @@ mod compare;
 pub mod data;
 pub mod files;
 pub mod journals;
+#[cfg(linked)]
+mod lent;
 pub mod model;
 pub mod numbers;
 mod program;
+pub mod repeat_sheets;
 pub mod routes;
 pub mod self_check;
 pub mod sheet_inputs;
 pub mod sheets;
+#[cfg(linked)]
+mod sides;
+pub mod time_layers;
 pub mod time_numbers;
 pub mod time_sheets;
+mod timing;
 
 use std::fs;
 use std::path::Path;

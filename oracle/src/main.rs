@@ -18,11 +18,15 @@ mod port;
 #[cfg(linked)]
 mod port_clocks;
 #[cfg(linked)]
+mod port_layers;
+#[cfg(linked)]
 mod port_lists;
 mod ranges;
 mod reference;
 mod reference_clocks;
 mod reference_files;
+#[cfg(linked)]
+mod reference_layers;
 mod reference_routes;
 mod reference_sheets;
 mod reference_tables;
@@ -38,6 +42,7 @@ use commands::{
 use commands::{
     bulk_journals, bulk_lists, bulk_sheet, bulk_tables, clocks, journals, model, sheet_inputs,
 };
+use commands::{bulk_layers, repeat_sheets, time_layers};
 use commands::{routes, self_check, sheets, time_numbers, time_sheets};
 use std::env;
 use std::process::ExitCode;
@@ -60,6 +65,7 @@ const USAGE: &str = "usage:
   oracle bulk-routes FILE COUNT SEED       write random routes in the same form, to be replayed
   oracle sheets FILE                       write the vectors of whole sheets
   oracle bulk-sheets COUNT SEED            compare the port's figures with the Rust's
+  oracle bulk-layers COUNT SEED            compare the parts of the port's sheets with the Rust's
   oracle journals FILE                     write short journals of the desks with their answers
   oracle sheet-inputs DIR                  write inputs of the program sheet with its outputs
   oracle sheets-in FILE                    write the same inputs in a compact form
@@ -68,6 +74,8 @@ const USAGE: &str = "usage:
   oracle bulk-sheet COUNT SEED PROGRAM     compare the port's program sheet with the model
   oracle replay, oracle sheet              answer standard input as the model does
   oracle time-sheets                       time whole sheets and the Rust's parts of them
+  oracle time-layers                       time sheets, refused files and parts of both sides
+  oracle repeat-sheets SIDE KIND COUNT     make sheets by one side, to count instructions
   oracle self-check                        hold the steps against the library's functions";
 
 fn main() -> ExitCode {
@@ -98,6 +106,7 @@ fn command(words: &[&str]) -> Result<(), String> {
         ["bulk-routes", file, count, seed] => bulk_routes::run(file, count, seed),
         ["sheets", file] => sheets::run(file),
         ["bulk-sheets", count, seed] => bulk_sheets::run(count, seed),
+        ["bulk-layers", count, seed] => bulk_layers::run(count, seed),
         ["journals", file] => journals::run(file),
         ["sheet-inputs", folder] => sheet_inputs::files(folder),
         ["sheets-in", file] => sheet_inputs::compact(file),
@@ -107,6 +116,8 @@ fn command(words: &[&str]) -> Result<(), String> {
         ["replay"] => model::replay(),
         ["sheet"] => model::sheet(),
         ["time-sheets"] => time_sheets::run(),
+        ["time-layers"] => time_layers::run(),
+        ["repeat-sheets", side, kind, count] => repeat_sheets::run(side, kind, count),
         ["self-check"] => self_check::run(),
         _ => Err(String::from(USAGE)),
     }

@@ -1,11 +1,10 @@
 //! `time-sheets`: whole sheets of one, three and five points, from the bytes
 //! of both files on, and where the Rust's time goes.
 
+use super::timing::{best, sheets, Column, Work, LENGTHS, REPEATS, ROUTES};
 use crate::data_files::{named, Pair};
-use crate::generator::Generator;
 use crate::reference_files::read;
 use crate::reference_sheets::{fields, put_all_months, showing, Sheet};
-use crate::route_kinds::between;
 use crate::voacap::coefficients::{f2_planes, parse_month_file, CoefficientSet};
 use crate::voacap::data;
 use crate::voacap::geometry::PathGeometry;
@@ -13,28 +12,12 @@ use crate::voacap::ionosphere::{cofion, esind, ground_constants, layer_parameter
 use crate::voacap::magnetic::MagneticVars;
 use std::hint::black_box;
 use std::path::Path;
-use std::time::Instant;
-
-/// Routes of each number of points on each pair.
-const ROUTES: usize = 8;
-const ROUNDS: usize = 20;
-const REPEATS: usize = 60;
-
-/// Number of points, shortest and longest route in kilometres.
-const LENGTHS: [(u32, f64, f64); 3] = [
-    (1, 100.0, 1990.0),
-    (3, 2010.0, 3990.0),
-    (5, 4010.0, 19_000.0),
-];
-
-/// A name and a time for each row of the table.
-type Column = Vec<(&'static str, f64)>;
 
 pub fn run() -> Result<(), String> {
     let [(_, calm_1), (_, calm_2), ..] = named();
     let mut columns = Vec::new();
-    for (points, low, high) in LENGTHS {
-        let sheets = sheets(points, low, high);
+    for length in LENGTHS {
+        let sheets = sheets(length);
         for pair in [&calm_1, &calm_2] {
             put_all_months(&pair.daw, &pair.month);
             let mut column = whole(&sheets, pair);
@@ -57,51 +40,6 @@ fn print(columns: &[Column]) {
             .collect();
         println!("{name:<24}{}", times.concat());
     }
-}
-
-/// Usual sheets; the whole day and the whole year.
-fn sheets(points: u32, low: f64, high: f64) -> Vec<Sheet> {
-    let mut random = Generator::new(points.into());
-    let sheet = |random: &mut Generator| Sheet {
-        month: random.between(1, 12) as u32,
-        ssn: random.between(0, 200) as f32,
-        gmt: random.between(0, 24) as f32,
-        route: between(random, low, high),
-        psc: [1.0; 4],
-    };
-    let sheets: Vec<Sheet> = (0..ROUTES).map(|_| sheet(&mut random)).collect();
-    let right = |sheet: &Sheet| sheet.path().points.len() == points as usize;
-    assert!(sheets.iter().all(right));
-    sheets
-}
-
-/// One run of one side over all cases, in microseconds for a case.
-#[inline(never)]
-fn microseconds<T>(cases: &[T], work: &dyn Fn(&T)) -> f64 {
-    let start = Instant::now();
-    for _ in 0..ROUNDS {
-        for case in cases {
-            work(black_box(case));
-        }
-    }
-    start.elapsed().as_secs_f64() * 1.0e6 / (ROUNDS * cases.len()) as f64
-}
-
-type Work<'a, T> = (&'static str, &'a dyn Fn(&T));
-
-/// The best time of each, taken in turn so that a slow moment of the machine
-/// meets all.
-fn best<T>(cases: &[T], works: &[Work<T>]) -> Column {
-    let mut column: Column = works
-        .iter()
-        .map(|(name, _)| (*name, f64::INFINITY))
-        .collect();
-    for _ in 0..REPEATS {
-        for ((_, best), (_, work)) in column.iter_mut().zip(works) {
-            *best = best.min(microseconds(cases, work));
-        }
-    }
-    column
 }
 
 #[cfg(not(linked))]

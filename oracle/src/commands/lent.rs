@@ -1,0 +1,163 @@
+//! What the commands lend to the port that compare sheets or their parts:
+//! files that are good or not, and a buffer with words on both sides.
+
+use crate::bits::{Answer, F32};
+use crate::damage::Damage;
+use crate::data_files::ladders::{good, near_good, LONG, SHORT, USUAL};
+use crate::data_files::{calm, wild, Pair};
+use crate::generator::Generator;
+use crate::index_check::IndexTable;
+use crate::reference_sheets::Sheet;
+use crate::sheet_kinds::{any_bits, in_range, one_of, outside};
+use crate::voacap::coefficients::F2_RECORD_BYTES;
+use std::borrow::Cow;
+use std::fmt::{Display, Formatter, Result};
+
+/// Words on both sides of the buffer that must stay as they are.
+const GUARD: usize = 8;
+/// How many of the figures that differ are named.
+const NAMED: usize = 4;
+
+/// Mostly with every field in its range.
+pub fn sheet(random: &mut Generator) -> Sheet {
+    match random.below(8) {
+        0 => outside(random),
+        1 => any_bits(random),
+        _ => in_range(random),
+    }
+}
+
+/// Calm or wild in one word of up to 4096; most tables pass.
+pub fn files(random: &mut Generator) -> Pair {
+    let ikim = table(random);
+    let mut pair = match random.below(3) {
+        0 => calm(random, &ikim, 1),
+        _ => {
+            let one_in = 1 << random.below(13);
+            wild(random, &ikim, 1, one_in)
+        }
+    };
+    // Bytes after the record are ignored.
+    let further = random.below(8) as usize;
+    pair.daw.resize(pair.daw.len() + further, 0xaa);
+    pair
+}
+
+fn table(random: &mut Generator) -> IndexTable {
+    match random.below(8) {
+        0 => near_good(random),
+        1 => one_of(random, &[USUAL, LONG, SHORT]),
+        _ => good(random),
+    }
+}
+
+/// A pair as it is lent: some records are cut, some month files damaged.
+pub struct Files<'a> {
+    pub record: &'a [u8],
+    pub file: Cow<'a, [u8]>,
+}
+
+impl<'a> Files<'a> {
+    /// Mostly such that there is nothing to refuse.
+    pub fn of(random: &mut Generator, pair: &'a Pair) -> Self {
+        let record = match random.below(40) {
+            0 => random.below(F2_RECORD_BYTES as u64) as usize,
+            1 => F2_RECORD_BYTES - 1,
+            _ => pair.daw.len(),
+        };
+        let file = match random.below(16) {
+            0 => Cow::Owned(Damage::any(random).done_to(&pair.month)),
+            _ => Cow::Borrowed(&pair.month[..]),
+        };
+        Self {
+            record: &pair.daw[..record],
+            file,
+        }
+    }
+
+    pub fn is_damaged(&self) -> bool {
+        matches!(self.file, Cow::Owned(_))
+    }
+}
+
+impl Display for Files<'_> {
+    fn fmt(&self, f: &mut Formatter) -> Result {
+        let Self { record, file } = self;
+        let damaged = if self.is_damaged() { " damaged" } else { "" };
+        let (record, file) = (record.len(), file.len());
+        write!(f, "record {record}, month file {file}{damaged}")
+    }
+}
+
+/// The fields as words, from which a sheet can be made again.
+pub fn fields(sheet: &Sheet) -> String {
+    sheet.words().map(|word| format!("{word:08x}")).join(" ")
+}
+
+/// A buffer and the words beside it, with what they held before.
+pub struct Buffer {
+    before: Vec<u32>,
+    held: Vec<f32>,
+}
+
+impl Buffer {
+    pub fn of(random: &mut Generator, length: usize) -> Self {
+        let before = words(random, length + 2 * GUARD);
+        let held = before.iter().map(|word| f32::from_bits(*word)).collect();
+        Self { before, held }
+    }
+
+    /// The part that is lent.
+    pub fn lent(&mut self) -> &mut [f32] {
+        let end = self.held.len() - GUARD;
+        &mut self.held[GUARD..end]
+    }
+
+    /// How it differs from what a refusal leaves: every bit as it was, those
+    /// of NaNs included.
+    pub fn changes(&self) -> Option<String> {
+        let held: Vec<u32> = self.held.iter().map(|v| v.to_bits()).collect();
+        differing_words(&held, &self.before, "lent")
+    }
+
+    /// How it differs from the words of an answer, every NaN as one word. The
+    /// words beside it must be as they were.
+    pub fn differs_from(&self, answer: &[u32]) -> Option<String> {
+        let mut wanted = self.before.clone();
+        let mut held: Vec<u32> = self.held.iter().map(|v| v.to_bits()).collect();
+        for (i, word) in (GUARD..).zip(answer) {
+            wanted[i] = *word;
+            held[i] = self.held[i].to_word() as u32;
+        }
+        differing_words(&held, &wanted, "Rust")
+    }
+}
+
+/// What a buffer may hold before: every second word is a NaN of any bits.
+fn words(random: &mut Generator, count: usize) -> Vec<u32> {
+    let word = |random: &mut Generator| {
+        let word = random.next() as u32;
+        match random.below(2) {
+            0 => word,
+            _ => word | F32.infinity() as u32 | 1,
+        }
+    };
+    (0..count).map(|_| word(random)).collect()
+}
+
+/// The first figures that differ; those before and after the buffer have
+/// numbers below 0 and beyond its end.
+fn differing_words(ours: &[u32], wanted: &[u32], whose: &str) -> Option<String> {
+    let mut places: Vec<usize> = (0..ours.len()).collect();
+    places.retain(|i| ours[*i] != wanted[*i]);
+    let named = places.iter().take(NAMED).map(|i| {
+        let number = *i as i64 - GUARD as i64;
+        format!(
+            "figure {number} port {:08x} {whose} {:08x}",
+            ours[*i], wanted[*i]
+        )
+    });
+    let named: Vec<String> = named.collect();
+    let count = places.len();
+    (count > 0).then(|| format!("{count} figures differ: {}", named.join(", ")))
+}
