@@ -146,7 +146,7 @@ mod linked {
             let flag = match (route.long, random.below(2)) {
                 (false, _) => 0,
                 (true, 0) => 1,
-                (true, _) => random.any(Kind::I32) as u32 | 1 << random.below(32),
+                (true, _) => 1 << random.below(32),
             };
             let (given, given_points) = port::path(route, flag);
             let (wanted, points) = measured(self.sheet);
