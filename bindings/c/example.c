@@ -121,9 +121,9 @@ static int at_the_desks(const input *in)
     good = good && is_answer("path", jt_change_path(sheet, 2, 60, 5, 62, -20, 0), 0, 0);
     good = good && is_shown(in, sheet, 1, draft);
     good = good && is_answer("commit 1", jt_commit(sheet, 1), 0, 0);
-    good = good && is_answer("commit 2", jt_commit(sheet, 2), 17, 0);
+    good = good && is_answer("commit 2", jt_commit(sheet, 2), JT_REFUSED_STALE, 0);
     good = good && is_answer("cancel 2", jt_cancel(sheet, 2), 0, 0);
-    good = good && is_answer("cancel 2 again", jt_cancel(sheet, 2), 16, 0);
+    good = good && is_answer("cancel 2 again", jt_cancel(sheet, 2), JT_REFUSED_NO_DRAFT, 0);
     good = good && is_shown(in, sheet, 0, after);
     good = good && is_alike(draft, after) && !is_alike(before, after);
     good = good && is_answer("take back", jt_take_back(sheet), 0, 0);

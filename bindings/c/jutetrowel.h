@@ -30,6 +30,28 @@ extern "C" {
 #define JT_HEIGHTS 464
 #define JT_HOUR_MAPS 318
 
+/* The numbers of refusals; docs/REFUSALS.md says why each is given and what its place is. */
+enum {
+    JT_REFUSED_MONTH = 1,
+    JT_REFUSED_SUNSPOT = 2,
+    JT_REFUSED_HOUR = 3,
+    JT_REFUSED_LATITUDE = 4,
+    JT_REFUSED_LONGITUDE = 5,
+    JT_REFUSED_FACTOR = 6,
+    JT_REFUSED_FLAG = 7,
+    JT_REFUSED_RECORD = 8,
+    JT_REFUSED_ENDED = 9,
+    JT_REFUSED_MARKER = 10,
+    JT_REFUSED_INDEX = 11,
+    JT_REFUSED_FIGURES = 12,
+    JT_REFUSED_TABLE = 13,
+    JT_REFUSED_DESK = 14,
+    JT_REFUSED_DRAFTED = 15,
+    JT_REFUSED_NO_DRAFT = 16,
+    JT_REFUSED_STALE = 17,
+    JT_REFUSED_NOTHING_EARLIER = 18
+};
+
 /* A refusal's number and place; 0 and 0 where nothing is refused. */
 typedef struct {
     uint32_t number;
