@@ -40,7 +40,7 @@ month file and blends the height map each time; the Rust's set is read already,
 which is not in its time.";
 
     pub fn run() -> Result<(), String> {
-        println!("microseconds on calm-1, best of {REPEATS} runs over {ROUTES} routes\n");
+        println!("microseconds on calm-1, best of {REPEATS} runs over {ROUTES} routes");
         whole();
         refused();
         parts();
@@ -54,7 +54,7 @@ which is not in its time.";
     }
 
     fn head(title: &str) {
-        println!("{title:<32}{:>9}{:>9}{:>8}", "port", "Rust", "ratio");
+        println!("\n{title:<32}{:>9}{:>9}{:>8}", "port", "Rust", "ratio");
     }
 
     /// The port's time and the Rust's, by turns.
@@ -82,7 +82,7 @@ which is not in its time.";
     }
 
     fn refused() {
-        head("\nrefused month files");
+        head("refused month files");
         let kinds = [
             ("  last marker wrong", Wrong::Marker),
             ("  cut to half", Wrong::Half),
@@ -121,7 +121,7 @@ which is not in its time.";
     fn parts() {
         let Pair { daw, month } = calm_1();
         let cases = prepared(calm_1());
-        head("\nparts of a sheet");
+        head("parts of a sheet");
         files(&cases, &daw, &month);
         maps(&cases, &daw, &month);
         row(
@@ -181,8 +181,8 @@ which is not in its time.";
     }
 
     fn grown() {
-        println!("\nsheets of 5 points, the index table changed: terms and harmonics of");
-        println!("the six maps in sum");
+        println!("\nSheets of 5 points with other index tables: terms and harmonics of the six");
+        println!("maps in sum.");
         head("  terms  harmonics");
         for table in growth::tables() {
             let (terms, harmonics) = growth::sums(&table);
