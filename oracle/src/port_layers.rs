@@ -4,7 +4,7 @@
 use crate::port::{self, Answer, Showing};
 use crate::reference_layers::{HourMaps, Place};
 use crate::reference_routes::Route;
-use crate::reference_sheets::{Sheet, FIGURES};
+use crate::reference_sheets::Sheet;
 
 #[repr(C)]
 struct Measured {
@@ -128,7 +128,7 @@ pub fn bytes_of(sheet: &Sheet) -> [u8; 56] {
     bytes
 }
 
-pub fn sheet(words: &[u8], record: &[u8], file: &[u8], out: &mut [f32; FIGURES]) -> Showing {
+pub fn sheet(words: &[u8], record: &[u8], file: &[u8], out: &mut [f32]) -> Showing {
     // SAFETY: start and length of four slices, `out` lent for writing.
     unsafe {
         jt_sheet(

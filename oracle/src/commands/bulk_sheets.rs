@@ -1,5 +1,6 @@
 //! `bulk-sheets COUNT SEED`: the port's figures beside the Rust's over random
-//! sheets, files and buffers, refused ones included.
+//! sheets, files and buffers, refused ones included; by fields, which nothing
+//! judges, and by the words of a whole sheet, which are judged.
 
 #[cfg(not(linked))]
 pub fn run(_count: &str, _seed: &str) -> Result<(), String> {
@@ -15,8 +16,10 @@ mod linked {
     use crate::commands::lent::{self, fields, Buffer, Files};
     use crate::commands::whole;
     use crate::data_files::Pair;
+    use crate::desks::{Refusal, Worksheet};
     use crate::generator::Generator;
     use crate::port::{self, Showing};
+    use crate::port_layers;
     use crate::reference_sheets::{put_all_months, refusal, showing, Sheet, FIGURES};
     use crate::sheet_kinds::one_of;
 
@@ -26,7 +29,7 @@ mod linked {
     pub fn run(count: &str, seed: &str) -> Result<(), String> {
         let count = whole(count)?;
         let seed = whole(seed)?;
-        let mut tallies = ["shown", "refused"].map(Tally::new);
+        let mut tallies = ["shown", "refused", "by words"].map(Tally::new);
         for case in 0..count.div_ceil(SHEETS) {
             // A seed of its own, so that a case can be found again.
             let mut random = Generator::new(seed.wrapping_mul(1 << 32) ^ case);
@@ -35,7 +38,7 @@ mod linked {
         report(&tallies)
     }
 
-    fn compare(random: &mut Generator, tallies: &mut [Tally; 2], case: u64) {
+    fn compare(random: &mut Generator, tallies: &mut [Tally; 3], case: u64) {
         let pair = lent::files(random);
         put_all_months(&pair.daw, &pair.month);
         for number in 0..SHEETS {
@@ -43,6 +46,7 @@ mod linked {
             let (refused, difference) = lent.difference(random);
             let text = |text| format!("sheet {number}, {text}\n    {lent:?}");
             tallies[usize::from(refused)].note(case, difference.map(text));
+            tallies[2].note(case, lent.difference_by_words(random).map(text));
             if lent.files.is_damaged() {
                 put_all_months(&pair.daw, &pair.month);
             }
@@ -91,15 +95,29 @@ mod linked {
             let answer = port::sheet(&self.sheet, record, file, buffer.lent());
             match refusal(record, file, self.buffer) {
                 (0, 0) => (false, self.shown(answer, &buffer)),
-                (number, place) => {
-                    let wanted = Showing {
-                        points: 0,
-                        number,
-                        place,
-                    };
-                    let difference = differing_answer(answer, wanted);
-                    (true, difference.or_else(|| buffer.changes()))
-                }
+                why => (true, refused(why, answer, &buffer)),
+            }
+        }
+
+        /// A bad field is refused before buffer and files.
+        fn difference_by_words(&self, random: &mut Generator) -> Option<String> {
+            let Files { record, file } = &self.files;
+            let mut words = self.sheet.words();
+            match random.below(32) {
+                0 => words[0] = one_of(random, &[0, 13, u32::MAX]),
+                1 => words[7] = one_of(random, &[2, 256, u32::MAX]),
+                _ => {}
+            }
+            let bytes: Vec<u8> = words.into_iter().flat_map(u32::to_le_bytes).collect();
+            let mut buffer = Buffer::of(random, self.buffer);
+            let answer = port_layers::sheet(&bytes, record, file, buffer.lent());
+            let why = match Worksheet::open(words) {
+                Ok(_) => refusal(record, file, self.buffer),
+                Err(Refusal { number, place }) => (number, place),
+            };
+            match why {
+                (0, 0) => self.shown(answer, &buffer),
+                _ => refused(why, answer, &buffer),
             }
         }
 
@@ -115,6 +133,17 @@ mod linked {
             };
             differing_answer(answer, points).or_else(|| buffer.differs_from(&figures.words()))
         }
+    }
+
+    /// A refusal leaves the buffer as it was.
+    fn refused(why: (u32, u32), answer: Showing, buffer: &Buffer) -> Option<String> {
+        let (number, place) = why;
+        let wanted = Showing {
+            points: 0,
+            number,
+            place,
+        };
+        differing_answer(answer, wanted).or_else(|| buffer.changes())
     }
 
     fn differing_answer(ours: Showing, wanted: Showing) -> Option<String> {
