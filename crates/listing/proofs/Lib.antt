@@ -1,2 +1,3 @@
 -- Laws that belong to no one function. Assumes nothing.
 pub mod HexLines
+pub mod Quotients

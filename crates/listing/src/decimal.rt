@@ -2,42 +2,94 @@
 use crate::answer::print;
 use crate::answer::print_number;
 use base::number;
-ghost use Prim.Native.Nat.{_≤_, _<_};
+ghost use mathlib.Core.Path.{_≡_};
+ghost use Prim.Native.Nat.{_/_, _^_, _≤_, _<_};
+ghost use Rattle.listing.specs.Decimal.{halvedOf, digitOf, hasDigit, signOf, leadingOf, textOf};
+
+// n / b^k, without its fraction.
+fn divided(n: u64, b: u64, k: u32) -> u64
+    requires { ⌜ 0 < b ⌝ }
+    ensures { λ r. ⌜ r ≡ n / b ^ k ⌝ }
+{
+    let mut n = n;
+    let mut left = k;
+    while left > 0 {
+        n /= b;
+        left -= 1;
+    }
+    n
+}
 
 // n / 2^s, to the nearest whole number.
-fn halved(n: u64, s: u32) -> u64 {
+fn halved(n: u64, s: u32) -> u64
+    ensures { λ r. ⌜ r ≡ halvedOf n s ⌝ }
+{
     if s == 0 {
         return n;
     }
-    let mut n = n;
-    let mut left = s;
-    while left > 1 {
-        n /= 2;
-        left -= 1;
+    let twice = divided(n, 2, s - 1);
+    twice / 2 + twice % 2
+}
+
+fn digit(n: u64, k: u32) -> u8
+    ensures { λ r. ⌜ r ≡ digitOf n k ⌝ }
+{
+    48 + (divided(n, 10, k) % 10) as u8
+}
+
+fn has_digit(n: u64, k: u32) -> bool
+    ensures { λ r. ⌜ r ≡ hasDigit n k ⌝ }
+{
+    if k == 0 {
+        return true;
     }
-    n / 2 + n % 2
+    divided(n, 10, k) > 0
+}
+
+fn sign(negative: bool) -> u8
+    ensures { λ r. ⌜ r ≡ signOf negative ⌝ }
+{
+    if negative { b'-' } else { b' ' }
+}
+
+// What stands before the place of 10^k.
+fn leading(n: u64, negative: bool, k: u32) -> u8
+    requires { ⌜ k ≤ 7 ⌝ }
+    ensures { λ r. ⌜ r ≡ leadingOf n negative k ⌝ }
+{
+    if has_digit(n, k + 1) {
+        return digit(n, k + 1);
+    }
+    if has_digit(n, k) {
+        return sign(negative);
+    }
+    b' '
 }
 
 // The digits of a number of millionths, at the end of 16 bytes: at least one before the point, and
 // the sign just before the first.
-fn text_of(millionths: u64, negative: bool) -> [u8; 16] {
-    let mut text = [b' '; 16];
-    let mut rest = millionths;
-    let mut sign = negative;
-    let mut k: usize = 16;
-    while k > 0 {
-        k -= 1;
-        if k == 9 {
-            text[k] = b'.';
-        } else if k >= 8 || rest > 0 {
-            text[k] = 48 + (rest % 10) as u8;
-            rest /= 10;
-        } else if sign {
-            text[k] = b'-';
-            sign = false;
-        }
-    }
-    text
+fn text_of(millionths: u64, negative: bool) -> [u8; 16]
+    ensures { λ r. ⌜ r ≡ textOf millionths negative ⌝ }
+{
+    let n = millionths / 1000000;
+    [
+        leading(n, negative, 7),
+        leading(n, negative, 6),
+        leading(n, negative, 5),
+        leading(n, negative, 4),
+        leading(n, negative, 3),
+        leading(n, negative, 2),
+        leading(n, negative, 1),
+        leading(n, negative, 0),
+        digit(n, 0),
+        b'.',
+        digit(millionths, 5),
+        digit(millionths, 4),
+        digit(millionths, 3),
+        digit(millionths, 2),
+        digit(millionths, 1),
+        digit(millionths, 0),
+    ]
 }
 
 // A number of 2^24 or more in size is a whole number: its 24 bits times a power of two.

@@ -1,25 +1,29 @@
--- `halved` is safe and ends.
+-- The last factor of two goes to the nearest.
 use borrow.Author.Needs.{needs}
-use Prim.Native.Nat.{_≤_}
+use mathlib.Core.Path.{sym, ap, _∙_}
+use Prim.Native.Nat.{ℕ, _+_, _/_, _%_}
+use native.Mathlib.Omega.{arith}
+use Rattle.listing.specs.Decimal.{halvedOf}
+use Rattle.listing.proofs.Quotients.{nearest-none, to-nearest}
 use Rattle.listing.proofs.decimal.halved.Statement.{statement}
 use Rattle.listing.proofs.decimal.halved.Tie as tie
 
-abbrev Inv-loop : tie.InvT-loop
-Inv-loop n s n₀ left₀ n' left = n' ≤ n
+returns : tie.Need-returns
+returns c =
+    let n = c .before .args .n in
+    sym (ap (halvedOf n) (c .if1 .taken) ∙ nearest-none n)
 
-abbrev μ-loop : tie.MeasureT-loop
-μ-loop n s n₀ left₀ n' left = left
+returns-2 : tie.Need-returns-2
+returns-2 c =
+    let a = c .before .before .args in
+    ap (λ (h : ℕ). h / 2 + h % 2) (c .divided .ensures) ∙ to-nearest (a .n) (a .s) (omega arith)
 
 pub halved-spec : {M : Type 1} → statement M
 halved-spec =
     tie.close
     (tie.spec
-    Inv-loop
-    μ-loop
+    returns
     (λ c. search needs)
+    (λ c κs. search needs)
     (λ c. search needs)
-    (λ c. search needs)
-    (λ c. search needs)
-    (λ c. search needs)
-    (λ c. search needs)
-    (λ c. search needs))
+    returns-2)
