@@ -4,6 +4,7 @@ use crate::answer::print_number;
 use crate::decimal::print_float;
 use base::number;
 use libc::STDOUT_FILENO;
+use maps::figures::Inputs;
 ghost use Prim.Native.Nat.{_≤_};
 
 fn print_row(name: &[u8], x: f32) {
@@ -54,6 +55,37 @@ fn print_point(figures: &[f32; 151], at: usize)
         at + 23,
     );
     print_rows(b"sigma       epsilon     ", figures, at + 27);
+}
+
+// The 14 fields that a sheet is of, so that a page stands for itself.
+pub fn print_inputs(i: Inputs) {
+    let route = i.route;
+    let tlat = route.tlat;
+    let tlong = route.tlong;
+    let rlat = route.rlat;
+    let rlong = route.rlong;
+    let psc = i.psc;
+    let pole = i.pole;
+    let pole_lat = pole.lat;
+    let pole_lon = pole.lon;
+    print(b"month       ");
+    print_number(i.month);
+    print(b"\n");
+    print_row(b"ssn         ", i.ssn);
+    print_row(b"gmt         ", i.gmt);
+    print_row(b"tlat        ", tlat.0);
+    print_row(b"tlong       ", tlong.0);
+    print_row(b"rlat        ", rlat.0);
+    print_row(b"rlong       ", rlong.0);
+    if route.long_path {
+        print(b"the long way round\n");
+    }
+    print_row(b"psc e       ", psc.e);
+    print_row(b"psc f1      ", psc.f1);
+    print_row(b"psc f2      ", psc.f2);
+    print_row(b"psc es      ", psc.es);
+    print_row(b"pole lat    ", pole_lat.0);
+    print_row(b"pole lon    ", pole_lon.0);
 }
 
 // The six figures of the path, then each point that is there under a line with its number.

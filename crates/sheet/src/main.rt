@@ -1,17 +1,21 @@
 // One sheet: 14 little-endian words, an F2 record and a month file on standard input, and the 151
-// figures or the refusal on standard output. `sheet page` names the figures and adds their decimals.
+// figures or the refusal on standard output. `sheet page` prints the fields, names the figures and adds
+// their decimals.
 use libc::STDIN_FILENO;
 use listing::answer::print_figures;
 use listing::answer::print_refusal;
+use listing::page::print_inputs;
 use listing::page::print_page;
+use maps::figures::Inputs;
 use maps::figures::Shown;
 use worksheet::desks::Opened;
 use worksheet::desks::Worksheet;
 use worksheet::opening::opened;
 use worksheet::showing::show;
 
-fn print_sheet(page: bool, count: u32, figures: &[f32; 151]) {
+fn print_sheet(page: bool, i: Inputs, count: u32, figures: &[f32; 151]) {
     if page {
+        print_inputs(i);
         print_page(count, figures);
     } else {
         print_figures(figures);
@@ -20,9 +24,10 @@ fn print_sheet(page: bool, count: u32, figures: &[f32; 151]) {
 
 fn show_sheet(page: bool, w: Worksheet, record: &[u8], month: &[u8]) {
     let mut figures = [0.0f32; 151];
+    let i = w.inputs;
     let shown = show(w, 0, record, month, &mut figures);
     match shown {
-        Shown::Points(count) => print_sheet(page, count, &figures),
+        Shown::Points(count) => print_sheet(page, i, count, &figures),
         Shown::Refused(why) => print_refusal(why),
     }
 }
