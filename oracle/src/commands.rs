@@ -20,6 +20,8 @@ pub mod journals;
 mod lent;
 pub mod model;
 pub mod numbers;
+#[cfg(linked)]
+mod parts;
 mod program;
 pub mod repeat_sheets;
 pub mod routes;

@@ -13,6 +13,7 @@ use ladders::{AT_ONCE, BEYOND, LEAST, LONG, LONGEST, SHORT, USUAL};
 
 pub const YEAR: usize = 12;
 
+#[derive(Clone)]
 pub struct Pair {
     /// The F2 records, as a `.daw` file holds them.
     pub daw: Vec<u8>,

@@ -1,5 +1,6 @@
-//! `repeat-sheets SIDE KIND COUNT`: COUNT sheets of one kind by one side, and
-//! nothing else that depends on COUNT, for a tool that counts instructions.
+//! `repeat-sheets SIDE KIND COUNT`: COUNT sheets of one kind, or one part of
+//! as many, by one side, and nothing else that depends on COUNT, for a tool
+//! that counts instructions.
 
 #[cfg(not(linked))]
 pub fn run(_side: &str, _kind: &str, _count: &str) -> Result<(), String> {
@@ -11,19 +12,33 @@ pub use linked::run;
 
 #[cfg(linked)]
 mod linked {
-    use crate::commands::sides::{Case, Sides, Wrong};
+    use crate::commands::parts::{Part, Parts};
+    use crate::commands::sides::{Sides, Wrong};
     use crate::commands::whole;
     use crate::data_files::named;
 
     pub fn run(side: &str, kind: &str, count: &str) -> Result<(), String> {
         let count = whole(count)?;
+        let port = match side {
+            "port" => true,
+            "rust" => false,
+            _ => return Err(format!("{side} is no side: port or rust")),
+        };
+        if let Some(part) = Part::named(kind) {
+            let [(_, pair), ..] = named();
+            let parts = Parts::of(pair);
+            repeat(&parts.cases, count, |case| match port {
+                true => parts.port(part, case),
+                false => parts.rust(part, case),
+            });
+            return Ok(());
+        }
         let sides = sides(kind)?;
         sides.assert_alike();
-        match side {
-            "port" => repeat(&sides, count, |case| sides.port(case)),
-            "rust" => repeat(&sides, count, |case| sides.rust(case)),
-            _ => return Err(format!("{side} is no side: port or rust")),
-        }
+        repeat(&sides.cases, count, |case| match port {
+            true => sides.port(case),
+            false => sides.rust(case),
+        });
         Ok(())
     }
 
@@ -34,12 +49,12 @@ mod linked {
             "half" => Sides::refused(pair, Wrong::Half),
             points => Sides::whole(pair, whole(points)? as u32),
         };
-        sides.ok_or_else(|| format!("{kind} is no kind: 1, 3, 5, marker or half"))
+        sides.ok_or_else(|| format!("{kind} is no kind: 1, 3, 5, marker, half or a part's name"))
     }
 
-    /// The same sheets again and again, in their order.
-    fn repeat(sides: &Sides, count: u64, one: impl Fn(&Case)) {
-        for case in sides.cases.iter().cycle().take(count as usize) {
+    /// The same cases again and again, in their order.
+    fn repeat<T>(cases: &[T], count: u64, one: impl Fn(&T)) {
+        for case in cases.iter().cycle().take(count as usize) {
             one(case);
         }
     }

@@ -15,21 +15,10 @@ pub use linked::run;
 #[cfg(linked)]
 mod linked {
     use super::growth;
+    use crate::commands::parts::{Part, Parts};
     use crate::commands::sides::{Sides, Wrong};
     use crate::commands::timing::{best, REPEATS, ROUTES};
     use crate::data_files::{named, Pair};
-    use crate::port::Answer;
-    use crate::port_layers as port;
-    use crate::reference_files::read;
-    use crate::reference_layers::{hour_maps, layers_at, measured, HourMaps, Place};
-    use crate::reference_sheets::Sheet;
-    use crate::voacap::coefficients::{parse_month_file, CoefficientSet};
-    use std::hint::black_box;
-
-    const ACCEPTED: Answer = Answer {
-        number: 0,
-        place: 0,
-    };
 
     const PARTS: &str = "
 Month file: the port checks form and index table; the Rust checks the form and
@@ -93,91 +82,15 @@ which is not in its time.";
         }
     }
 
-    /// What a part starts from.
-    struct Prepared {
-        sheet: Sheet,
-        set: CoefficientSet,
-        ab: HourMaps,
-        place: Place,
-    }
-
-    /// Also puts the files, from which the Rust reads.
-    fn prepared(pair: Pair) -> Vec<Prepared> {
-        let prepare = |sheet: Sheet| {
-            let set = read(sheet.month, sheet.ssn).expect("both files are good");
-            let ab = hour_maps(&set, sheet.gmt);
-            let point = sheet.path().points[0];
-            Prepared {
-                sheet,
-                set,
-                ab,
-                place: [point.lat, point.lon],
-            }
-        };
-        let cases = five_or_fewer(pair, 5).cases;
-        cases.iter().map(|case| prepare(case.sheet)).collect()
-    }
-
     fn parts() {
-        let Pair { daw, month } = calm_1();
-        let cases = prepared(calm_1());
+        let parts = Parts::of(calm_1());
         head("parts of a sheet");
-        files(&cases, &daw, &month);
-        maps(&cases, &daw, &month);
-        row(
-            "  path",
-            &cases,
-            &|case| {
-                let route = &case.sheet.route;
-                black_box(port::path(route, route.long.into()));
-            },
-            &|case| {
-                black_box(measured(&case.sheet));
-            },
-        );
-        layers(&cases, &month);
+        for (name, part) in Part::ALL {
+            let port = |case: &_| parts.port(part, case);
+            let rust = |case: &_| parts.rust(part, case);
+            row(&format!("  {name}"), &parts.cases, &port, &rust);
+        }
         println!("{PARTS}");
-    }
-
-    fn files(cases: &[Prepared], daw: &[u8], month: &[u8]) {
-        let port = |_: &Prepared| assert_eq!(port::file_check(black_box(month)), ACCEPTED);
-        row("  month file", cases, &port, &|_| {
-            black_box(parse_month_file(month, "month")).ok();
-        });
-        let port = |case: &Prepared| {
-            let (mut cof, mut hmym) = ([0.0; 2604], [0.0; 464]);
-            let ssn = case.sheet.ssn;
-            assert_eq!(port::cofion(daw, month, ssn, &mut cof), ACCEPTED);
-            assert_eq!(port::hmym(month, ssn, &mut hmym), ACCEPTED);
-            black_box((cof, hmym));
-        };
-        row("  blends", cases, &port, &|case| {
-            black_box(read(case.sheet.month, case.sheet.ssn)).ok();
-        });
-    }
-
-    fn maps(cases: &[Prepared], daw: &[u8], month: &[u8]) {
-        let port = |case: &Prepared| {
-            let mut ab = [0.0; 318];
-            let answer = port::hour_maps(&case.sheet, daw, month, &mut ab);
-            assert_eq!(answer, ACCEPTED);
-            black_box(ab);
-        };
-        row("  maps at an hour", cases, &port, &|case| {
-            let set = read(case.sheet.month, case.sheet.ssn).expect("both files are good");
-            black_box(hour_maps(&set, case.sheet.gmt));
-        });
-    }
-
-    fn layers(cases: &[Prepared], month: &[u8]) {
-        let port = |case: &Prepared| {
-            let (answer, numbers) = port::layers_at(&case.sheet, &case.ab, month, case.place);
-            assert_eq!(answer, ACCEPTED);
-            black_box(numbers);
-        };
-        row("  layers at a place", cases, &port, &|case| {
-            black_box(layers_at(&case.sheet, &case.set, &case.ab, case.place));
-        });
     }
 
     fn grown() {
