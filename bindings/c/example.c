@@ -102,6 +102,18 @@ static int is_alike(const float *a, const float *b)
     return 1;
 }
 
+/* There are no layers of a month that there is not. */
+static int is_month_judged(const input *in)
+{
+    const float ab[JT_HOUR_MAPS] = {0};
+    jt_layers there = jt_layers_at(13, 100, 12, 1, 1, 1, 1, ab, file_of(in), in->file_size, 78.5f,
+                                   -69.0f, 1, 0);
+    jt_answer given;
+    given.number = there.number;
+    given.place = there.place;
+    return is_answer("layers in month 13", given, JT_REFUSED_MONTH, 1);
+}
+
 /* Desk 1 mends the sunspot number, desk 2 drafts a path and cancels: the sheet is desk 1's. The
  * answers are those of document 01's paragraphs. */
 static int at_the_desks(const input *in)
@@ -118,6 +130,7 @@ static int at_the_desks(const input *in)
     good = good && is_answer("begin 2", jt_begin(sheet, 2), 0, 0);
     good = good && is_answer("sunspot 301", jt_change_sunspot(sheet, 1, 301.0f), 2, 2);
     good = good && is_answer("sunspot 110", jt_change_sunspot(sheet, 1, 110.0f), 0, 0);
+    good = good && is_answer("path, flag 2", jt_change_path(sheet, 2, 60, 5, 62, -20, 2), 7, 8);
     good = good && is_answer("path", jt_change_path(sheet, 2, 60, 5, 62, -20, 0), 0, 0);
     good = good && is_shown(in, sheet, 1, draft);
     good = good && is_answer("commit 1", jt_commit(sheet, 1), 0, 0);
@@ -130,6 +143,7 @@ static int at_the_desks(const input *in)
     good = good && is_answer("take back again", jt_take_back(sheet), 18, 0);
     good = good && is_shown(in, sheet, 0, after);
     good = good && is_alike(before, after);
+    good = good && is_month_judged(in);
     puts(good ? "as document 01 has it" : "WRONG");
     return good ? 0 : 1;
 }

@@ -156,9 +156,9 @@ jt_showing jt_figures(uint32_t month, float ssn, float gmt, float tlat, float tl
  * Its value is 90 words that the caller keeps: six sets of 15, which are the inputs, the earlier set
  * and the drafts of desks 1 to 4. A set's first word says what there is (inputs: not looked at; earlier
  * set: 0 none; draft: 0 closed, 1 fresh, else stale), and the 14 fields follow, month and flag as
- * whole numbers, the others as the bits of a float. Any 90 words are some worksheet. A worksheet has
- * one form as it is written: first words 1, 0 or 1, and 0, 1 or 2; a set that is not there all 0; any
- * NaN 7fc00000. */
+ * whole numbers, the others as the bits of a float. Any 90 words are some worksheet, whose showing
+ * refuses a field that is out of range. A worksheet has one form as it is written: first words 1, 0 or
+ * 1, and 0, 1 or 2; a set that is not there all 0; any NaN 7fc00000. */
 
 /* Opens a worksheet from a sheet's words: all desks closed, nothing to take back. */
 jt_answer jt_open(const uint8_t *words, size_t words_size, uint32_t sheet[JT_WORKSHEET_WORDS]);
@@ -166,7 +166,7 @@ jt_answer jt_open(const uint8_t *words, size_t words_size, uint32_t sheet[JT_WOR
 /* A fresh draft for a desk, a copy of the worksheet's inputs. */
 jt_answer jt_begin(uint32_t sheet[JT_WORKSHEET_WORDS], uint32_t desk);
 
-/* A change of a desk's draft. */
+/* A change of a desk's draft. A path's flag that is neither 0 nor 1 is refused (7, place 8). */
 jt_answer jt_change_sunspot(uint32_t sheet[JT_WORKSHEET_WORDS], uint32_t desk, float ssn);
 jt_answer jt_change_hour(uint32_t sheet[JT_WORKSHEET_WORDS], uint32_t desk, float gmt);
 jt_answer jt_change_path(uint32_t sheet[JT_WORKSHEET_WORDS], uint32_t desk, float tlat, float tlong,
@@ -207,7 +207,7 @@ jt_answer jt_file_check(const uint8_t *file, size_t file_size);
 /* ---- Parts of a sheet by themselves ----
  *
  * For comparing and timing. They refuse files as a sheet does, and take numbers as they are: no field
- * is checked. */
+ * is checked but the month of jt_layers_at. */
 
 /* The blended coefficients of the six maps at a sunspot number, and those of the height map. */
 jt_answer jt_cofion(const uint8_t *f2, size_t f2_size, const uint8_t *file, size_t file_size,
@@ -222,7 +222,8 @@ jt_answer jt_hour_maps(const uint8_t *f2, size_t f2_size, const uint8_t *file, s
 jt_measured jt_path(float tlat, float tlong, float rlat, float rlong, uint32_t long_path,
                     float pole_lat, float pole_lon);
 
-/* The layers at a place in radians, from the maps at the hour and the month file. */
+/* The layers at a place in radians, from the maps at the hour and the month file. A month that is not
+ * 1 to 12 is refused (1, place 1), before the file. */
 jt_layers jt_layers_at(uint32_t month, float ssn, float gmt, float psc_e, float psc_f1, float psc_f2,
                        float psc_es, const float ab[JT_HOUR_MAPS], const uint8_t *file,
                        size_t file_size, float pole_lat, float pole_lon, float lat, float lon);

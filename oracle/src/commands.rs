@@ -20,6 +20,7 @@ pub mod journals;
 mod lent;
 pub mod model;
 pub mod numbers;
+pub mod pages;
 #[cfg(linked)]
 mod parts;
 mod program;

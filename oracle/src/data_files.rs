@@ -104,13 +104,25 @@ pub fn extreme() -> [(&'static str, Pair); 6] {
     ]
 }
 
+/// M(3000) is about -12 million, which takes all 16 characters of a page.
+pub fn far_below_zero() -> Pair {
+    let mut parts = calm_parts(&mut Generator::new(307), &USUAL, 1);
+    set_m3000(&mut parts, -1.2e7);
+    parts.pair()
+}
+
 /// A thin F2 at about 570 km: a height ratio of 30 and M(3000) of 2.
 fn high_f2(mut parts: Parts) -> Parts {
     parts.tables[ABMAP][2] = 30f32.to_bits();
-    for plane in parts.tables[XFM3CF].chunks_mut(9 * 49) {
-        plane[0] = 2f32.to_bits();
-    }
+    set_m3000(&mut parts, 2.0);
     parts
+}
+
+/// The first word of both planes.
+fn set_m3000(parts: &mut Parts, v: f32) {
+    for plane in parts.tables[XFM3CF].chunks_mut(9 * 49) {
+        plane[0] = v.to_bits();
+    }
 }
 
 /// Row 40 of a map whose ladder ends at 16: what is read there meets a zero.

@@ -3,6 +3,7 @@
 
 pub mod fields;
 pub mod lent;
+pub mod page;
 pub mod programs;
 pub mod shorter;
 #[cfg(any(linked, test))]
@@ -46,12 +47,12 @@ pub struct Worksheet {
     pub drafts: [Option<Draft>; DESKS],
 }
 
-/// A change with all its numbers, as f32 bits.
+/// A change with all its numbers as f32 bits; a path's flag is any word.
 #[derive(Debug, Clone, Copy, PartialEq, Eq)]
 pub enum Edit {
     Sunspots(u32),
     Hour(u32),
-    Path { ends: [u32; 4], long: bool },
+    Path { ends: [u32; 4], flag: u32 },
     Factors([u32; 4]),
     Pole([u32; 2]),
 }
@@ -63,7 +64,7 @@ impl Edit {
         match *self {
             Edit::Sunspots(word) => (2, vec![word]),
             Edit::Hour(word) => (3, vec![word]),
-            Edit::Path { ends, long } => (4, [&ends[..], &[long.into()]].concat()),
+            Edit::Path { ends, flag } => (4, [&ends[..], &[flag]].concat()),
             Edit::Factors(words) => (9, words.to_vec()),
             Edit::Pole(words) => (13, words.to_vec()),
         }

@@ -33,6 +33,7 @@ const NO_DESKS: [u32; 10] = [
 const EDITS: [usize; 5] = [2, 3, 4, 9, 13];
 /// The fields that are f32.
 const NUMBERS: [usize; 12] = [2, 3, 4, 5, 6, 7, 9, 10, 11, 12, 13, 14];
+const FLAG: usize = 8;
 const MINUS_ZERO: u32 = 1 << 31;
 
 /// So many calls from an opened worksheet on.
@@ -46,6 +47,26 @@ pub fn list(random: &mut Generator, opened: &Worksheet, count: u64) -> Vec<Call>
         };
         sheet = next.iter().fold(sheet, |sheet, call| sheet.after(call));
         calls.extend(next);
+    }
+    calls.truncate(count as usize);
+    calls
+}
+
+/// A begin, and a list of which every second call is a path with a bad flag: for
+/// a desk with a draft, for one without, or for none.
+pub fn bad_flags(random: &mut Generator, opened: &Worksheet, count: u64) -> Vec<Call> {
+    let begin = Call::Begin(any_desk(random));
+    let mut sheet = opened.after(&begin);
+    let mut calls = vec![begin];
+    while (calls.len() as u64) < count {
+        let next = next(random, &sheet);
+        sheet = sheet.after(&next);
+        let desk = match random.below(4) {
+            0 => closed_desk(random, &sheet),
+            1 => one_of(random, &NO_DESKS),
+            _ => open_desk(random, &sheet),
+        };
+        calls.extend([next, Call::Change(desk, bad_flag(random))]);
     }
     calls.truncate(count as usize);
     calls
@@ -98,7 +119,7 @@ fn episode(random: &mut Generator, sheet: &Worksheet) -> Vec<Call> {
     let change = |desk, first, random: &mut Generator| {
         Call::Change(desk, edit(first, &in_range(random).words()))
     };
-    match random.below(6) {
+    match random.below(7) {
         // What a cancel may forget.
         0 => vec![
             Call::Begin(desk),
@@ -134,7 +155,14 @@ fn episode(random: &mut Generator, sheet: &Worksheet) -> Vec<Call> {
             Call::Show(0, FIGURES),
             Call::Commit(other),
         ],
+        // A refused flag that must leave the draft as it was.
         4 => vec![
+            Call::Begin(desk),
+            Call::Change(desk, bad_flag(random)),
+            Call::Show(desk, FIGURES),
+            Call::Commit(desk),
+        ],
+        5 => vec![
             Call::TakeBack,
             Call::Cancel(desk),
             Call::Begin(desk),
@@ -208,7 +236,7 @@ fn edit(first: usize, inputs: &Inputs) -> Edit {
         3 => Edit::Hour(inputs[2]),
         4 => Edit::Path {
             ends: four(4),
-            long: inputs[7] == 1,
+            flag: inputs[FLAG - 1],
         },
         9 => Edit::Factors(four(9)),
         _ => Edit::Pole([inputs[12], inputs[13]]),
@@ -226,8 +254,11 @@ fn good_edit(random: &mut Generator) -> Edit {
     edit(one_of(random, &EDITS), &inputs)
 }
 
-/// One number out of its range, or two.
+/// One number out of its range, or two, or the flag.
 fn bad_edit(random: &mut Generator) -> Edit {
+    if random.below(8) == 0 {
+        return bad_flag(random);
+    }
     let mut inputs = in_range(random).words();
     let field = one_of(random, &NUMBERS);
     inputs[field - 1] = bad_word(random, field);
@@ -236,6 +267,17 @@ fn bad_edit(random: &mut Generator) -> Edit {
         inputs[other - 1] = bad_word(random, other);
     }
     edit(kind_of(field), &inputs)
+}
+
+/// A path whose flag is neither 0 nor 1, now and then after a bad number.
+fn bad_flag(random: &mut Generator) -> Edit {
+    let mut inputs = in_range(random).words();
+    inputs[FLAG - 1] = bad_word(random, FLAG);
+    if random.below(3) == 0 {
+        let number = random.between(4, 7) as usize;
+        inputs[number - 1] = bad_word(random, number);
+    }
+    edit(4, &inputs)
 }
 
 /// The first field of the change that a number belongs to.
@@ -262,7 +304,10 @@ fn whole_near(random: &mut Generator, low: u32, high: u32) -> u32 {
     match random.below(4) {
         0 => low.wrapping_sub(1),
         1 => high + 1,
-        2 => one_of(random, &[256 + low, 65_536 + low, 1 << 31 | low]),
+        2 => one_of(
+            random,
+            &[256 + low, 65_536 + low, 1 << 31 | low, 1f32.to_bits()],
+        ),
         _ => random.next() as u32,
     }
 }
@@ -304,10 +349,9 @@ pub fn any_field(random: &mut Generator) -> usize {
 /// How bytes that are no call are drawn.
 pub type Draw = fn(&mut Generator, &Worksheet) -> Vec<u8>;
 
-pub const NO_CALLS: [(&str, Draw); 3] = [
+pub const NO_CALLS: [(&str, Draw); 2] = [
     ("unknown operation", unknown),
     ("call cut short", cut_short),
-    ("flag above 1", flag_above_1),
 ];
 
 /// With something after it, or nothing.
@@ -322,17 +366,6 @@ fn unknown(random: &mut Generator, _: &Worksheet) -> Vec<u8> {
 fn cut_short(random: &mut Generator, sheet: &Worksheet) -> Vec<u8> {
     let mut bytes = bytes(&[next(random, sheet)]);
     bytes.truncate(1 + random.below(bytes.len() as u64 - 1) as usize);
-    bytes
-}
-
-/// With a good call after it.
-fn flag_above_1(random: &mut Generator, sheet: &Worksheet) -> Vec<u8> {
-    let path = edit(4, &in_range(random).words());
-    let mut words = words(&Call::Change(open_desk(random, sheet), path));
-    words[6] = one_of(random, &[2, 3, 256, 257, 0x3f80_0000, 1 << 31, u32::MAX]);
-    let mut bytes = Vec::new();
-    push_words(&mut bytes, &words);
-    push_words(&mut bytes, &[9]);
     bytes
 }
 
@@ -382,7 +415,7 @@ pub fn damaged(random: &mut Generator, month: &[u8]) -> Vec<u8> {
 
 #[cfg(test)]
 mod tests {
-    use super::{bad_edit, bad_inputs, bytes, good_edit, list, NO_CALLS};
+    use super::{bad_edit, bad_flag, bad_inputs, bytes, good_edit, list, NO_CALLS};
     use crate::desks::fields::check;
     use crate::desks::programs::{replay, CALLS};
     use crate::desks::{Edit, Worksheet};
@@ -401,6 +434,7 @@ mod tests {
         for i in 0..5000 {
             assert!(is_good(&good_edit(&mut random)));
             assert!(!is_good(&bad_edit(&mut random)));
+            assert!(!is_good(&bad_flag(&mut random)));
             let field = 1 + i % 14;
             let refusal = Worksheet::open(bad_inputs(&mut random, field)).err();
             assert!(refusal.is_some_and(|refusal| refusal.place == field as u32));
@@ -411,7 +445,7 @@ mod tests {
     fn what_is_no_call_stops_a_journal_where_it_stands() {
         let mut random = Generator::new(2);
         for i in 0..300 {
-            let (name, no_call) = NO_CALLS[i % 3];
+            let (name, no_call) = NO_CALLS[i % NO_CALLS.len()];
             let inputs = in_range(&mut random).words();
             let opened = Worksheet::open(inputs).expect("in range");
             let mut input = Vec::new();

@@ -40,7 +40,8 @@ use commands::{
     bulk_clocks, bulk_files, bulk_numbers, bulk_routes, bulk_sheets, data, files, numbers,
 };
 use commands::{
-    bulk_journals, bulk_lists, bulk_sheet, bulk_tables, clocks, journals, model, sheet_inputs,
+    bulk_journals, bulk_lists, bulk_sheet, bulk_tables, clocks, journals, model, pages,
+    sheet_inputs,
 };
 use commands::{bulk_layers, repeat_sheets, time_layers};
 use commands::{routes, self_check, sheets, time_numbers, time_sheets};
@@ -69,10 +70,11 @@ const USAGE: &str = "usage:
   oracle journals FILE                     write short journals of the desks with their answers
   oracle sheet-inputs DIR                  write inputs of the program sheet with its outputs
   oracle sheets-in FILE                    write the same inputs in a compact form
+  oracle pages FILE                        write pages for people as sheet page prints them
   oracle bulk-journals COUNT SEED PROGRAM  compare the port's program replay with the model
   oracle bulk-lists COUNT SEED             compare the port's worksheet calls with the model
   oracle bulk-sheet COUNT SEED PROGRAM     compare the port's program sheet with the model
-  oracle replay, oracle sheet              answer standard input as the model does
+  oracle replay, oracle sheet, oracle page answer standard input as the model does
   oracle time-sheets                       time whole sheets and the Rust's parts of them
   oracle time-layers                       time sheets, refused files and parts of both sides
   oracle repeat-sheets SIDE KIND COUNT     make sheets by one side, to count instructions
@@ -110,11 +112,13 @@ fn command(words: &[&str]) -> Result<(), String> {
         ["journals", file] => journals::run(file),
         ["sheet-inputs", folder] => sheet_inputs::files(folder),
         ["sheets-in", file] => sheet_inputs::compact(file),
+        ["pages", file] => pages::run(file),
         ["bulk-journals", count, seed, program] => bulk_journals::run(count, seed, program),
         ["bulk-lists", count, seed] => bulk_lists::run(count, seed),
         ["bulk-sheet", count, seed, program] => bulk_sheet::run(count, seed, program),
         ["replay"] => model::replay(),
         ["sheet"] => model::sheet(),
+        ["page"] => model::page(),
         ["time-sheets"] => time_sheets::run(),
         ["time-layers"] => time_layers::run(),
         ["repeat-sheets", side, kind, count] => repeat_sheets::run(side, kind, count),

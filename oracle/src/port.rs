@@ -76,6 +76,11 @@ exports! {
 
 /// The figures of a sheet.
 pub fn sheet(sheet: &Sheet, record: &[u8], file: &[u8], out: &mut [f32]) -> Showing {
+    sheet_by(sheet.route.long.into(), sheet, record, file, out)
+}
+
+/// The figures of a sheet with this word as its flag.
+pub fn sheet_by(flag: u32, sheet: &Sheet, record: &[u8], file: &[u8], out: &mut [f32]) -> Showing {
     let Sheet {
         month,
         ssn,
@@ -93,7 +98,7 @@ pub fn sheet(sheet: &Sheet, record: &[u8], file: &[u8], out: &mut [f32]) -> Show
             route.from.lon,
             route.to.lat,
             route.to.lon,
-            route.long.into(),
+            flag,
             e,
             f1,
             f2,

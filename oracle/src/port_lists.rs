@@ -108,9 +108,9 @@ fn change(sheet: &mut Words, desk: u32, edit: &Edit) -> Answer {
         match *edit {
             Edit::Sunspots(ssn) => jt_change_sunspot(sheet, desk, f32::from_bits(ssn)),
             Edit::Hour(gmt) => jt_change_hour(sheet, desk, f32::from_bits(gmt)),
-            Edit::Path { ends, long } => {
+            Edit::Path { ends, flag } => {
                 let [tlat, tlong, rlat, rlong] = four(ends);
-                jt_change_path(sheet, desk, tlat, tlong, rlat, rlong, long.into())
+                jt_change_path(sheet, desk, tlat, tlong, rlat, rlong, flag)
             }
             Edit::Factors(factors) => {
                 let [e, f1, f2, es] = four(factors);

@@ -2,7 +2,7 @@
 
 mod common;
 
-use common::{data, hash, Reader, MONTH_FILE, RECORD, WORDS};
+use common::{data, lines, Reader, MONTH_FILE, RECORD, WORDS};
 use jutetrowel::{
     file_check, month_file_check, month_record, sheet, sheet_of_words, table, Factors, Inputs,
     Path, Pole, Refusal,
@@ -70,11 +70,6 @@ fn fields_in_their_order() {
     assert_eq!(inputs.words()[..], wanted);
 }
 
-/// The lines that the program `sheet` prints.
-fn lines(sheet: &jutetrowel::Sheet) -> String {
-    sheet.bits().map(|word| format!("{word:08x}\n")).concat()
-}
-
 #[test]
 fn the_example_of_sheet() {
     let input = data("crates/sheet/stdin");
@@ -82,7 +77,8 @@ fn the_example_of_sheet() {
     let (f2, file) = files.split_at(RECORD);
     let wanted = String::from_utf8(data("crates/sheet/stdout")).expect("text");
     assert_eq!(words, usual().words());
-    assert_eq!(lines(&sheet(&usual(), f2, file).expect("a sheet")), wanted);
+    let shown = sheet(&usual(), f2, file).expect("a sheet");
+    assert_eq!(lines(&shown.bits()), wanted);
 }
 
 #[test]
@@ -108,7 +104,7 @@ fn inputs_of_sheet_from_the_rust() {
         let (words, files) = input.split_at(WORDS.min(t));
         let (f2, file) = files.split_at(RECORD.min(files.len()));
         let given = match sheet_of_words(words, f2, file) {
-            Ok(sheet) => format!("{:016x}\n", hash(&sheet.bits())),
+            Ok(sheet) => lines(&sheet.bits()),
             Err(refusal) => format!("{refusal}\n"),
         };
         assert_eq!(given, wanted, "case {case}");

@@ -1,15 +1,10 @@
--- A NaN's pattern among two words makes a NaN of their blend, as 0 / 0 is; and the land map is an array filled whole. Assumes nothing.
+-- A NaN's pattern among two words makes a NaN of their blend, as 0 / 0 is. Assumes nothing.
 use mathlib.Core.Path.{_≡_, refl, sym, ap, _∙_}
-use mathlib.Core.List.{List}
-use Prim.Native.Nat.{ℕ, _+_, _*_, _%_, _<_}
-use lib.ListN.{length}
+use Prim.Native.Nat.{ℕ, _*_, _%_, _<_}
 use lib.Ieee.{Float, nan, inf, fin, binary32, hid, ones, top, ofBits, add, mul, div}
-use Rattle.base.specs.declared.coefficients.Weights.{Weights}
+use Rattle.base.specs.declared.blend.Weights.{Weights}
 use Rattle.base.specs.Single.{_⊕_, _⊗_, _⊘_}
-use Rattle.base.specs.Fill.{fill}
-use Rattle.base.specs.Words.{floatAt}
-use Rattle.base.specs.Blend.{blendOf, fakmapOf}
-use Rattle.base.proofs.Fills.{fill-all}
+use Rattle.base.specs.Blend.{blendOf}
 use Rattle.base.proofs.Patterns.{no-number, nan-bits}
 
 add-nan : (x : Float) → x ⊕ nan ≡ nan
@@ -32,12 +27,3 @@ module _ (w : Weights) (a b : ℕ) where
       no-number binary32
       ∙ sym (ap (λ (x : Float). x ⊘ w .d) (add-nan (ofBits binary32 a ⊗ w .wa)))
       ∙ ap (blendOf w (ofBits binary32 a)) (nan-bits binary32 b h)
-
--- ---- the land map
-
-abbrev pub landAt : List ℕ → ℕ → Float
-landAt month i = floatAt month (23532 + 4 * i)
-
-pub land-map : (month : List ℕ) (l : List Float) {o : List Float} → length l ≡ 464 → o ≡ fill (landAt month) 0 l 464 → o ≡ fakmapOf month
-unfolding fakmapOf
-land-map month l n e = e ∙ fill-all (landAt month) l 464 n

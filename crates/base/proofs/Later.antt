@@ -12,12 +12,12 @@ use borrow.Author.Tests.{le-leb}
 use Rattle.base.specs.declared.refusal.Refusal.the-variants.{Index, Marker, Ended}
 use Rattle.base.specs.declared.refusal.Verdict.{Verdict}
 use Rattle.base.specs.declared.refusal.Verdict.the-variants.{Accepted, Refused}
-use Rattle.base.specs.declared.coefficients.Weights.{Weights}
+use Rattle.base.specs.declared.blend.Weights.{Weights}
 use Rattle.base.specs.Number.{signedOf}
 use Rattle.base.specs.Fill.{run}
 use Rattle.base.specs.Words.{wordOf, wordAt, integerAt, floatAt}
-use Rattle.base.specs.MonthFile.{sizes, Four, marker, anything, layout, isRight, walk, monthFileCheck}
-use Rattle.base.specs.Tables.{placeOf, planeOf, wordsOf, ikim, fakmap, xfm3cf, xesmcf, xpmap, xeslcf, xesucf, xercof}
+use Rattle.base.specs.MonthFile.{recordSize, monthFileSize, sizes, Four, marker, anything, layout, isRight, walk, monthFileCheck}
+use Rattle.base.specs.Tables.{placeOf, planeOf, f2Plane, wordsOf, ikim, fakmap, xfm3cf, xesmcf, xpmap, xeslcf, xesucf, xercof}
 use Rattle.base.specs.Index.{rows, harmonics, isTo, equals, exceeds, climbs, goodMap, ikimPlace, ikimAt, lowestBad, indexCheck, indexOf}
 use Rattle.base.specs.Blend.{blendOf, blendAt, blendTable, f2Weights, eWeights, heightWeights, eslcofOf, esmcofOf, esucofOf, f2cofOf, fm3cofOf, ercofOf, hmymOf, fakmapOf, appended, cofionOf}
 
@@ -135,13 +135,13 @@ length-layout (n ∷ ns) =
     let b = length-replicate {A = Four} (n / 4) anything in
     omega arith
 
-module _ (s t : List ℕ) (a : Alike 38552 s t) where
+module _ (s t : List ℕ) (a : Alike monthFileSize s t) where
   pub file-alike : monthFileCheck s ≡ monthFileCheck t
   unfolding monthFileCheck fours
-  file-alike = let e = length-layout sizes in walk-alike 38552 s t a 0 (layout sizes) (omega arith)
+  file-alike = let e = length-layout sizes in walk-alike monthFileSize s t a 0 (layout sizes) (omega arith)
 
-  table-alike : (number : ℕ) (w : Weights) → placeOf number + 8 * planeOf number ≤ 38552 → blendTable number w s ≡ blendTable number w t
-  table-alike number w h = blend-alike 38552 s t a (placeOf number) (planeOf number) w h
+  table-alike : (number : ℕ) (w : Weights) → placeOf number + 8 * planeOf number ≤ monthFileSize → blendTable number w s ≡ blendTable number w t
+  table-alike number w h = blend-alike monthFileSize s t a (placeOf number) (planeOf number) w h
 
   pub hmym-alike : (x : Float) → hmymOf s x ≡ hmymOf t x
   unfolding hmymOf
@@ -149,12 +149,12 @@ module _ (s t : List ℕ) (a : Alike 38552 s t) where
 
   pub fakmap-alike : fakmapOf s ≡ fakmapOf t
   unfolding fakmapOf
-  fakmap-alike = run-alike _ _ (wordsOf fakmap) (λ k q. float-alike 38552 s t a (placeOf fakmap + 4 * k) (omega arith))
+  fakmap-alike = run-alike _ _ (wordsOf fakmap) (λ k q. float-alike monthFileSize s t a (placeOf fakmap + 4 * k) (omega arith))
 
-  module _ (f g : List ℕ) (b : Alike 7904 f g) where
+  module _ (f g : List ℕ) (b : Alike recordSize f g) where
     f2-alike : (x : Float) → f2cofOf f x ≡ f2cofOf g x
     unfolding f2cofOf
-    f2-alike x = blend-alike 7904 f g b 0 (13 * 76) (f2Weights x) (lit≤ tt)
+    f2-alike x = blend-alike recordSize f g b 0 f2Plane (f2Weights x) (lit≤ tt)
 
     pub cofion-alike : (x : Float) → cofionOf f s x ≡ cofionOf g t x
     unfolding cofionOf eslcofOf esmcofOf esucofOf fm3cofOf ercofOf

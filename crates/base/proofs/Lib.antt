@@ -34,3 +34,4 @@ pub mod Maps
 pub mod Points
 pub mod Blends
 pub mod Later
+pub mod Readers

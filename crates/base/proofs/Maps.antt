@@ -7,9 +7,10 @@ use lib.Ieee.{Float}
 use native.Mathlib.Nat.{zero-add}
 use lib.ListN.{length, getD, drop, length-append, length-drop, List·getD-append}
 use lib.Seq.{getD-append-add}
-use Rattle.base.specs.declared.coefficients.Weights.{Weights}
+use Rattle.base.specs.declared.blend.Weights.{Weights}
 use Rattle.base.specs.Fill.{fill, run}
-use Rattle.base.specs.Blend.{blendAt, f2Weights, eWeights, heightWeights, eslcofOf, esmcofOf, esucofOf, f2cofOf, fm3cofOf, ercofOf, hmymOf, cofionMaps, appended, cofionOf, IA, IB}
+use Rattle.base.specs.Blend.{blendAt, blendTable, f2Weights, eWeights, heightWeights, eslcofOf, esmcofOf, esucofOf, f2cofOf, fm3cofOf, ercofOf, hmymOf, cofionMaps, appended, cofionOf, IA, IB}
+use Rattle.base.specs.Tables.{placeOf, planeOf, f2Plane, xfm3cf, xesmcf, xpmap, xeslcf, xesucf, xercof}
 use Rattle.base.specs.Index.{rows}
 use Rattle.base.proofs.Fills.{fill-run, fill-all, length-run}
 use Rattle.base.proofs.Ladders.{six}
@@ -46,33 +47,40 @@ filled {base} {rest} {xs} {l} f n s e =
 pub whole : {base : ℕ} {xs l : List Float} → Starts base 0 xs l → l ≡ xs
 whole {base} {xs} s = s .is ∙ ap (λ (x : List Float). xs ++ x) (empty (s .others) (s .after)) ∙ append-nil xs
 
--- the six calls of `cofion`
+-- the elements that a call of `blend` makes of a table of the month file
+abbrev tableBlend : ℕ → Weights → List ℕ → ℕ → Float
+tableBlend number w month = blendAt month (placeOf number) (planeOf number) w
+
+abbrev f2Blend : Weights → List ℕ → ℕ → Float
+f2Blend w f2 = blendAt f2 0 f2Plane w
+
+-- the six calls of `cofion_of`
 module _
     (f2 month : List ℕ) (s : Float) {wf we : Weights} (ef : wf ≡ f2Weights s) (ee : we ≡ eWeights s)
-    (o0 o1 o2 o3 o4 o5 : List Float) {o6 : List Float} (zeros : length o0 ≡ 2604)
-    (e1 : o1 ≡ fill (blendAt month 32556 275 we) 0 o0 275)
-    (e2 : o2 ≡ fill (blendAt month 25420 427 we) 275 o1 427)
-    (e3 : o3 ≡ fill (blendAt month 34756 275 we) 702 o2 275)
-    (e4 : o4 ≡ fill (blendAt f2 0 988 wf) 977 o3 988)
-    (e5 : o5 ≡ fill (blendAt month 16780 441 wf) 1965 o4 441)
-    (e6 : o6 ≡ fill (blendAt month 36964 198 we) 2406 o5 198)
+    (o0 o1 o2 o3 o4 o5 : List Float) {o6 : List Float} (all : length o0 ≡ 2604)
+    (e1 : o1 ≡ fill (tableBlend xeslcf we month) 0 o0 (planeOf xeslcf))
+    (e2 : o2 ≡ fill (tableBlend xesmcf we month) 275 o1 (planeOf xesmcf))
+    (e3 : o3 ≡ fill (tableBlend xesucf we month) 702 o2 (planeOf xesucf))
+    (e4 : o4 ≡ fill (f2Blend wf f2) 977 o3 f2Plane)
+    (e5 : o5 ≡ fill (tableBlend xfm3cf wf month) 1965 o4 (planeOf xfm3cf))
+    (e6 : o6 ≡ fill (tableBlend xercof we month) 2406 o5 (planeOf xercof))
   where
     abbrev runs : Weights → Weights → List Float
     runs wf we =
-        ((((([] ++ run (blendAt month 32556 275 we) 275) ++ run (blendAt month 25420 427 we) 427) ++ run (blendAt month 34756 275 we) 275)
-        ++ run (blendAt f2 0 988 wf) 988)
-        ++ run (blendAt month 16780 441 wf) 441)
-        ++ run (blendAt month 36964 198 we) 198
+        ((((([] ++ blendTable xeslcf we month) ++ blendTable xesmcf we month) ++ blendTable xesucf we month)
+        ++ run (f2Blend wf f2) f2Plane)
+        ++ blendTable xfm3cf wf month)
+        ++ blendTable xercof we month
 
     one-after-the-other : o6 ≡ runs wf we
     one-after-the-other =
         whole
-        (filled (blendAt month 36964 198 we) 198
-        (filled (blendAt month 16780 441 wf) 441
-        (filled (blendAt f2 0 988 wf) 988
-        (filled (blendAt month 34756 275 we) 275
-        (filled (blendAt month 25420 427 we) 427
-        (filled (blendAt month 32556 275 we) 275 (start o0 2604 zeros) e1) e2) e3) e4) e5) e6)
+        (filled (tableBlend xercof we month) (planeOf xercof)
+        (filled (tableBlend xfm3cf wf month) (planeOf xfm3cf)
+        (filled (f2Blend wf f2) f2Plane
+        (filled (tableBlend xesucf we month) (planeOf xesucf)
+        (filled (tableBlend xesmcf we month) (planeOf xesmcf)
+        (filled (tableBlend xeslcf we month) (planeOf xeslcf) (start o0 2604 all) e1) e2) e3) e4) e5) e6)
 
     pub six-maps : o6 ≡ cofionOf f2 month s
     unfolding cofionOf eslcofOf esmcofOf esucofOf f2cofOf fm3cofOf ercofOf
@@ -82,13 +90,13 @@ module _
         ∙ ap (runs (f2Weights s)) ee
         ∙ simp (append-assoc, append-nil)
 
--- the one call of `hmym`
+-- the one call of `hmym_of`
 pub height-map :
-    (month : List ℕ) (s : Float) {w : Weights} (l : List Float) {o : List Float} → w ≡ heightWeights s → length l ≡ 464 →
-    o ≡ fill (blendAt month 28836 464 w) 0 l 464 → o ≡ hmymOf month s
+    (month : List ℕ) (s : Float) {w : Weights} (l : List Float) {o : List Float} → w ≡ heightWeights s → length l ≡ planeOf xpmap →
+    o ≡ fill (tableBlend xpmap w month) 0 l (planeOf xpmap) → o ≡ hmymOf month s
 unfolding hmymOf
 height-map month s {w} l ew n e =
-    e ∙ fill-all (blendAt month 28836 464 w) l 464 n ∙ ap (λ (v : Weights). run (blendAt month 28836 464 v) 464) ew
+    e ∙ fill-all (tableBlend xpmap w month) l (planeOf xpmap) n ∙ ap (λ (v : Weights). blendTable xpmap v month) ew
 
 -- ---- where the maps stand in COFION
 
@@ -111,29 +119,29 @@ appended-at (l ∷ ls) (suc k) i d h =
     ∙ appended-at ls k i d h
 
 module _ (f2 month : List ℕ) (s : Float) where
-  length-eslcof : length (eslcofOf month s) ≡ 275
+  length-eslcof : length (eslcofOf month s) ≡ planeOf xeslcf
   unfolding eslcofOf
-  length-eslcof = length-run _ 275
+  length-eslcof = length-run _ (planeOf xeslcf)
 
-  length-esmcof : length (esmcofOf month s) ≡ 427
+  length-esmcof : length (esmcofOf month s) ≡ planeOf xesmcf
   unfolding esmcofOf
-  length-esmcof = length-run _ 427
+  length-esmcof = length-run _ (planeOf xesmcf)
 
-  length-esucof : length (esucofOf month s) ≡ 275
+  length-esucof : length (esucofOf month s) ≡ planeOf xesucf
   unfolding esucofOf
-  length-esucof = length-run _ 275
+  length-esucof = length-run _ (planeOf xesucf)
 
-  length-f2cof : length (f2cofOf f2 s) ≡ 988
+  length-f2cof : length (f2cofOf f2 s) ≡ f2Plane
   unfolding f2cofOf
-  length-f2cof = length-run _ 988
+  length-f2cof = length-run _ f2Plane
 
-  length-fm3cof : length (fm3cofOf month s) ≡ 441
+  length-fm3cof : length (fm3cofOf month s) ≡ planeOf xfm3cf
   unfolding fm3cofOf
-  length-fm3cof = length-run _ 441
+  length-fm3cof = length-run _ (planeOf xfm3cf)
 
-  length-ercof : length (ercofOf month s) ≡ 198
+  length-ercof : length (ercofOf month s) ≡ planeOf xercof
   unfolding ercofOf
-  length-ercof = length-run _ 198
+  length-ercof = length-run _ (planeOf xercof)
 
   -- each run has a row for each row of its map, as wide as IB says
   pub run-length : (k : ℕ) → k < 6 → length (getD (cofionMaps f2 month s) k []) ≡ getD rows k 0 * getD IB k 0

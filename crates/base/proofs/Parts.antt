@@ -14,7 +14,7 @@ use Rattle.base.specs.declared.refusal.Refusal.the-variants.{Record, Tab
 use Rattle.base.specs.declared.refusal.Verdict.{Verdict}
 use Rattle.base.specs.declared.refusal.Verdict.the-variants.{Accepted, Refused}
 use Rattle.base.specs.Refusal.{verdictReport}
-use Rattle.base.specs.MonthFile.{Part, emptyPart, accepted, monthFileCheck}
+use Rattle.base.specs.MonthFile.{recordSize, monthFileSize, Part, emptyPart, accepted, monthFileCheck}
 use Rattle.base.specs.Tables.{tables, f2Planes, bytesIn, partOf, tableCheck, tablePart, tableFile}
 use Rattle.base.proofs.Entries.{at as entry}
 use Rattle.base.proofs.Picks.{cond-true, cond-false}
@@ -29,27 +29,27 @@ module _ (k : ℕ) (f m : List ℕ) where
   unfolding tableCheck
   table-high h = cond-false _ _ (lt-leb k 20 h)
 
-  pub table-short : k ≤ 20 → length f < 7904 → tableCheck k f m ≡ Refused Record
+  pub table-short : k ≤ 20 → length f < recordSize → tableCheck k f m ≡ Refused Record
   unfolding tableCheck
-  table-short a h = cond-true _ _ (le-leb k 20 a) ∙ cond-false _ _ (lt-leb 7904 (length f) h)
+  table-short a h = cond-true _ _ (le-leb k 20 a) ∙ cond-false _ _ (lt-leb recordSize (length f) h)
 
-  pub table-walk : k ≤ 20 → 7904 ≤ length f → tableCheck k f m ≡ monthFileCheck m
+  pub table-walk : k ≤ 20 → recordSize ≤ length f → tableCheck k f m ≡ monthFileCheck m
   unfolding tableCheck
-  table-walk a h = cond-true _ _ (le-leb k 20 a) ∙ cond-true _ _ (le-leb 7904 (length f) h)
+  table-walk a h = cond-true _ _ (le-leb k 20 a) ∙ cond-true _ _ (le-leb recordSize (length f) h)
 
 -- a table that is handed back
 pub record TableThere (k : ℕ) (f m : List ℕ) : Type 0 where
   pub known : k ≤ 20
-  pub planes : 7904 ≤ length f
+  pub planes : recordSize ≤ length f
   pub walked : monthFileCheck m ≡ Accepted
 
 module _ (k : ℕ) (f m : List ℕ) where
   pub table-known : tableCheck k f m ≡ Accepted → TableThere k f m
   unfolding tableCheck
-  table-known e = go (leb k 20) (leb 7904 (length f)) (leb-true k 20) (leb-true 7904 (length f)) e
+  table-known e = go (leb k 20) (leb recordSize (length f)) (leb-true k 20) (leb-true recordSize (length f)) e
     where
       go :
-          (a b : Bool) → (a ≡ true → k ≤ 20) → (b ≡ true → 7904 ≤ length f) →
+          (a b : Bool) → (a ≡ true → k ≤ 20) → (b ≡ true → recordSize ≤ length f) →
           cond a (cond b (monthFileCheck m) (Refused Record)) (Refused NoTable) ≡ Accepted → TableThere k f m
       go true true p q e = record { known = p refl; planes = q refl; walked = e }
       go true false p q e = refused-accepted e
@@ -77,15 +77,15 @@ abbrev bytes : List ℕ
 bytes = map (λ (p : Part). p .size) parts
 
 ends-within : ℕ → ℕ → Bool
-ends-within k e = leb e 38552
+ends-within k e = leb e monthFileSize
 
 some-bytes : ℕ → ℕ → Bool
 some-bytes k n = leb 8 n
 
 -- a table's part is in the first 38,552 bytes, of number 0 in the first 7,904, and no table is empty
 pub record Placed (k : ℕ) : Type 0 where
-  pub inside : partOf k .from + partOf k .size ≤ 38552
-  pub planes : k ≡ 0 → partOf k .from + partOf k .size ≤ 7904
+  pub inside : partOf k .from + partOf k .size ≤ monthFileSize
+  pub planes : k ≡ 0 → partOf k .from + partOf k .size ≤ recordSize
   pub some : 8 ≤ partOf k .size
 
 pub placed : (k : ℕ) → k ≤ 20 → Placed k
@@ -93,11 +93,11 @@ unfolding partOf ends-within some-bytes
 placed k h =
     let e : getD ends k 0 ≡ partOf k .from + partOf k .size = List·getD-map (λ (p : Part). p .from + p .size) parts k emptyPart in
     let z : getD bytes k 0 ≡ partOf k .size = List·getD-map (λ (p : Part). p .size) parts k emptyPart in
-    let i : getD ends k 0 ≤ 38552 = leb→le (getD ends k 0) 38552 (entry ends-within ends tt k (omega arith)) in
+    let i : getD ends k 0 ≤ monthFileSize = leb→le (getD ends k 0) monthFileSize (entry ends-within ends tt k (omega arith)) in
     let n : 8 ≤ getD bytes k 0 = leb→le 8 (getD bytes k 0) (entry some-bytes bytes tt k (omega arith)) in
     record {
       inside = omega arith;
-      planes = λ q. let o : partOf k .from + partOf k .size ≡ 7904 = ap (λ (j : ℕ). partOf j .from + partOf j .size) q in omega arith;
+      planes = λ q. let o : partOf k .from + partOf k .size ≡ recordSize = ap (λ (j : ℕ). partOf j .from + partOf j .size) q in omega arith;
       some = omega arith;
     }
 

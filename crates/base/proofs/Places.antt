@@ -5,8 +5,8 @@ use mathlib.Core.List.{List, [], _∷_}
 use Prim.Native.Nat.{ℕ, _+_}
 use lib.Dec.{T, leb, eqb, leb→le, eqb→eq}
 use lib.ListN.{length}
-use Rattle.base.specs.MonthFile.{sizes}
-use Rattle.base.specs.Tables.{Table, tables, tablesByRecord, endOf, bytesOf, Packed, PackedRecords}
+use Rattle.base.specs.MonthFile.{recordSize, monthFileSize, sizes}
+use Rattle.base.specs.Tables.{f2Planes, Table, tables, tablesByRecord, endOf, bytesOf, Packed, PackedRecords}
 use Rattle.base.proofs.Entries.{both, both-left, both-right}
 
 abbrev packed : ℕ → ℕ → List Table → Bool
@@ -41,8 +41,12 @@ records-of at end (n ∷ ns) (ts ∷ rs) p =
     )
 
 -- the theorem: 'in all 38,552 bytes'
-pub tables-packed : PackedRecords 0 38552 sizes tablesByRecord
-tables-packed = records-of 0 38552 sizes tablesByRecord tt
+pub tables-packed : PackedRecords 0 monthFileSize sizes tablesByRecord
+tables-packed = records-of 0 monthFileSize sizes tablesByRecord tt
 
 pub twenty-tables : length tables ≡ 20
 twenty-tables = refl
+
+-- an F2 record is its planes and nothing else
+pub planes-fill : f2Planes .size ≡ recordSize
+planes-fill = refl

@@ -14,7 +14,7 @@ use Rattle.base.specs.declared.refusal.Verdict.the-variants.{Refused}
 use Rattle.base.specs.Refusal.{verdictReport}
 use Rattle.base.specs.Single.{decimal}
 use Rattle.base.specs.Words.{wordAt}
-use Rattle.base.specs.MonthFile.{monthStart, sizes, layout, walk, monthFileCheck}
+use Rattle.base.specs.MonthFile.{monthFileSize, monthStart, sizes, layout, walk, monthFileCheck}
 use Rattle.base.specs.Tables.{placeOf, xpmap, abmap}
 use Rattle.base.specs.Blend.{blendOf, f2Weights, eWeights, heightWeights}
 use Rattle.base.proofs.Walks.{no-open, no-close, bad-close, passed}
@@ -102,7 +102,7 @@ module _ (s : List ℕ) (k : Marked s 0 eight) (o : wordAt s 36960 ≡ 1584) whe
       ∙ no-close s 36960 1584 [] refl refl (omega arith) (omega arith) o (omega arith)
       ∙ ap (λ (n : ℕ). Refused (Ended (n / 4 * 4))) l
 
-  last-wrong : 38552 ≤ length s → (wordAt s 38548 ≡ 1584 → ⊥) → monthFileCheck s ≡ Refused (Marker 38548)
+  last-wrong : monthFileSize ≤ length s → (wordAt s 38548 ≡ 1584 → ⊥) → monthFileCheck s ≡ Refused (Marker 38548)
   unfolding monthFileCheck
   last-wrong l d =
       through s 0 eight (1584 ∷ []) refl k (omega arith)

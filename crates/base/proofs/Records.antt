@@ -1,41 +1,22 @@
--- The month record: what is refused, what is known where nothing is, and a part that is lent. Assumes nothing.
+-- The month record: what is known where it is not refused, and a part that is lent. Assumes nothing.
 use mathlib.Core.Path.{_≡_, refl, sym, ap, _∙_}
-use mathlib.Core.Bool.{Bool, true, false, cond, _&&_}
+use mathlib.Core.Bool.{Bool, true, false, _&&_}
 use mathlib.Core.List.{List}
-use Prim.Native.Nat.{ℕ, _+_, _-_, _*_, _≤_, _<_}
+use Prim.Native.Nat.{ℕ, _+_, _-_, _*_, _≤_}
 use native.Mathlib.Omega.{arith}
 use lib.Dec.{leb}
 use lib.ListN.{length, take, drop}
 use denote.Ref.{RefT}
 use borrow.Rule.Slice.PartAt.{slPart}
-use borrow.Author.Tests.{le-leb, lt-leb, leb-true}
+use borrow.Author.Tests.{leb-true}
 use Rattle.base.specs.declared.refusal.Refusal.{Refusal}
 use Rattle.base.specs.declared.refusal.Refusal.the-variants.{Month, Record}
 use Rattle.base.specs.declared.refusal.Verdict.{Verdict}
 use Rattle.base.specs.declared.refusal.Verdict.the-variants.{Accepted, Refused}
-use Rattle.base.specs.MonthFile.{Part, IsPart, emptyPart, accepted, monthRecordCheck, monthStart, monthPart}
+use Rattle.base.specs.Refusal.{refuseUnless, _then_}
+use Rattle.base.specs.Ranges.{monthCheck}
+use Rattle.base.specs.MonthFile.{recordSize, Part, IsPart, emptyPart, accepted, monthRecordCheck, monthStart, monthPart}
 use Rattle.base.proofs.Picks.{cond-true, cond-false, never'}
-
-and-no : (a : Bool) → (a && false) ≡ false
-and-no true = refl
-and-no false = refl
-
-module _ (s : List ℕ) (m : ℕ) where
-  pub month-low : m < 1 → monthRecordCheck s m ≡ Refused Month
-  unfolding monthRecordCheck
-  month-low h = rw (lt-leb 1 m h)
-
-  pub month-high : 12 < m → monthRecordCheck s m ≡ Refused Month
-  unfolding monthRecordCheck
-  month-high h = rw (lt-leb m 12 h, and-no)
-
-  pub month-short : 1 ≤ m → m ≤ 12 → length s < m * 7904 → monthRecordCheck s m ≡ Refused Record
-  unfolding monthRecordCheck
-  month-short a b h = rw (le-leb 1 m a, le-leb m 12 b, lt-leb (m * 7904) (length s) h)
-
-  pub month-there : 1 ≤ m → m ≤ 12 → m * 7904 ≤ length s → monthRecordCheck s m ≡ Accepted
-  unfolding monthRecordCheck
-  month-there a b h = rw (le-leb 1 m a, le-leb m 12 b, le-leb (m * 7904) (length s) h)
 
 -- no answer is both
 pub refused-accepted : {A : Type 0} {why : Refusal} → Refused why ≡ Accepted → A
@@ -44,23 +25,23 @@ refused-accepted e = never' (sym (ap accepted e))
 pub record MonthThere (s : List ℕ) (m : ℕ) : Type 0 where
   pub low : 1 ≤ m
   pub high : m ≤ 12
-  pub room : m * 7904 ≤ length s
+  pub room : m * recordSize ≤ length s
 
 -- what an accepted record has
 pub month-known : (s : List ℕ) (m : ℕ) → monthRecordCheck s m ≡ Accepted → MonthThere s m
-unfolding monthRecordCheck
-month-known s m e = go (leb 1 m) (leb m 12) (leb (m * 7904) (length s)) (leb-true 1 m) (leb-true m 12) (leb-true (m * 7904) (length s)) e
+unfolding monthRecordCheck monthCheck
+month-known s m e = go (leb 1 m) (leb m 12) (leb (m * recordSize) (length s)) (leb-true 1 m) (leb-true m 12) (leb-true (m * recordSize) (length s)) e
   where
     go :
-        (a b c : Bool) → (a ≡ true → 1 ≤ m) → (b ≡ true → m ≤ 12) → (c ≡ true → m * 7904 ≤ length s) →
-        cond (a && b) (cond c Accepted (Refused Record)) (Refused Month) ≡ Accepted → MonthThere s m
+        (a b c : Bool) → (a ≡ true → 1 ≤ m) → (b ≡ true → m ≤ 12) → (c ≡ true → m * recordSize ≤ length s) →
+        (refuseUnless (a && b) Month then refuseUnless c Record) ≡ Accepted → MonthThere s m
     go true true true f g h e = record { low = f refl; high = g refl; room = h refl }
     go true true false f g h e = refused-accepted e
     go true false c f g h e = refused-accepted e
     go false b c f g h e = refused-accepted e
 
 module _ (s : List ℕ) (m : ℕ) {v : Verdict} (e : v ≡ monthRecordCheck s m) where
-  pub month-part : v ≡ Accepted → monthPart s m ≡ record { from = monthStart m; size = 7904 }
+  pub month-part : v ≡ Accepted → monthPart s m ≡ record { from = monthStart m; size = recordSize }
   unfolding monthPart
   month-part z = cond-true _ _ (ap accepted (sym e ∙ z))
 

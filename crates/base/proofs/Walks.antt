@@ -16,7 +16,7 @@ use Rattle.base.specs.Words.{wordAt}
 use Rattle.base.specs.declared.refusal.Refusal.the-variants.{Ended, Marker}
 use Rattle.base.specs.declared.refusal.Verdict.{Verdict}
 use Rattle.base.specs.declared.refusal.Verdict.the-variants.{Accepted, Refused}
-use Rattle.base.specs.MonthFile.{sizes, Four, marker, anything, layout, isRight, walk, monthFileCheck, Sized}
+use Rattle.base.specs.MonthFile.{monthFileSize, sizes, Four, marker, anything, layout, isRight, walk, monthFileCheck, Sized}
 use Rattle.base.proofs.Entries.{at as entry}
 use Rattle.base.proofs.Records.{refused-accepted}
 
@@ -157,6 +157,6 @@ unfolding layout
 all-fours = refl
 
 -- 'in all 38,552 bytes'
-pub accepted-length : (s : List ℕ) → monthFileCheck s ≡ Accepted → 38552 ≤ length s
+pub accepted-length : (s : List ℕ) → monthFileCheck s ≡ Accepted → monthFileSize ≤ length s
 unfolding monthFileCheck
 accepted-length s e = omega (arith, walked s 0 (layout sizes) (omega arith) e, all-fours)

@@ -2,11 +2,11 @@
 use Prim.Native.Nat.{ℕ, _+_, _*_}
 use mathlib.Core.List.{List, [], _∷_, _++_}
 use lib.Ieee.{Float}
-use Rattle.base.specs.declared.coefficients.Weights.{Weights}
+use Rattle.base.specs.declared.blend.Weights.{Weights}
 use Rattle.base.specs.Single.{_⊕_, _⊖_, _⊗_, _⊘_, decimal}
 use Rattle.base.specs.Fill.{run}
 use Rattle.base.specs.Words.{floatAt}
-use Rattle.base.specs.Tables.{placeOf, wordsOf, planeOf, fakmap, xfm3cf, xesmcf, xpmap, xeslcf, xesucf, xercof}
+use Rattle.base.specs.Tables.{placeOf, wordsOf, planeOf, f2Plane, fakmap, xfm3cf, xesmcf, xpmap, xeslcf, xesucf, xercof}
 
 -- ---- the blend
 
@@ -45,9 +45,8 @@ esmcofOf month s = blendTable xesmcf (eWeights s) month
 unfoldable pub esucofOf : List ℕ → Float → List Float
 esucofOf month s = blendTable xesucf (eWeights s) month
 
--- the F2 record is `XF2COF(13,76,2)` and nothing else
 unfoldable pub f2cofOf : List ℕ → Float → List Float
-f2cofOf f2 s = run (blendAt f2 0 (13 * 76) (f2Weights s)) (13 * 76)
+f2cofOf f2 s = run (blendAt f2 0 f2Plane (f2Weights s)) f2Plane
 
 unfoldable pub fm3cofOf : List ℕ → Float → List Float
 fm3cofOf month s = blendTable xfm3cf (f2Weights s) month

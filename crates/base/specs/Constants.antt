@@ -1,7 +1,7 @@
 -- The constants of constants.rs, in the digits written there. Assumes nothing.
 use mathlib.Core.List.{List, [], _∷_}
 use lib.Ieee.{Float}
-use Rattle.base.specs.Single.{decimal, minusDecimal}
+use Rattle.base.specs.Single.{decimal}
 
 unfoldable pub D2R : Float
 D2R = decimal 1745329251 11
@@ -23,13 +23,6 @@ PIO2 = decimal 1570796326 9
 unfoldable pub RZ : Float
 RZ = decimal 63700 1
 
--- the default pole, degrees
-unfoldable pub poleLat : Float
-poleLat = decimal 785 1
-
-unfoldable pub poleLon : Float
-poleLon = minusDecimal 690 1
-
 -- all of them, in this order
 abbrev pub constants : List Float
-constants = D2R ∷ R2D ∷ PI ∷ PI2 ∷ PIO2 ∷ RZ ∷ poleLat ∷ poleLon ∷ []
+constants = D2R ∷ R2D ∷ PI ∷ PI2 ∷ PIO2 ∷ RZ ∷ []

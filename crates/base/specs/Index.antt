@@ -12,7 +12,7 @@ use Rattle.base.specs.declared.refusal.Verdict.{Verdict}
 use Rattle.base.specs.declared.refusal.Verdict.the-variants.{Accepted, Refused}
 use Rattle.base.specs.Fill.{run}
 use Rattle.base.specs.Words.{wordAt, integerAt}
-use Rattle.base.specs.Tables.{ikim, placeOf}
+use Rattle.base.specs.Tables.{ikim, placeOf, wordsOf}
 
 -- ---- the words
 
@@ -26,7 +26,7 @@ ikimAt month k j = integerAt month (ikimPlace k j)
 
 -- the 60 words of `ikim`, unsigned
 unfoldable pub indexOf : List ℕ → List ℕ
-indexOf month = run (λ i. wordAt month (placeOf ikim + i * 4)) 60
+indexOf month = run (λ i. wordAt month (placeOf ikim + i * 4)) (wordsOf ikim)
 
 -- ---- the check
 

@@ -13,3 +13,4 @@ pub mod MonthFile
 pub mod Tables
 pub mod Index
 pub mod Blend
+pub mod Files

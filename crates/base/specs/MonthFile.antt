@@ -1,15 +1,27 @@
 -- Document 01, Files: the month record of the `.daw` file, and the month file's walk. Assumes nothing.
 use mathlib.Core.Path.{_≡_}
 use Prim.Native.Nat.{ℕ, _+_, _-_, _*_, _/_, _%_, _≤_}
-use mathlib.Core.Bool.{Bool, true, false, cond, _&&_}
+use mathlib.Core.Bool.{Bool, true, false, cond}
 use mathlib.Core.List.{List, [], _∷_, _++_}
 use lib.Dec.{leb, eqb}
 use lib.ListN.{length, getD, take, drop, replicate}
 use denote.Ref.{RefT, ptr, now}
-use Rattle.base.specs.declared.refusal.Refusal.the-variants.{Month, Record, Ended, Marker}
+use Rattle.base.specs.declared.refusal.Refusal.the-variants.{Record, Ended, Marker}
 use Rattle.base.specs.declared.refusal.Verdict.{Verdict}
 use Rattle.base.specs.declared.refusal.Verdict.the-variants.{Accepted, Refused}
+use Rattle.base.specs.Refusal.{refuseUnless, _then_}
+use Rattle.base.specs.Ranges.{monthCheck}
 use Rattle.base.specs.Words.{wordAt}
+
+-- ---- lengths
+
+-- the bytes of an F2 record, which are those of its planes (`planes-fill`)
+abbrev pub recordSize : ℕ
+recordSize = 7904
+
+-- 'in all 38,552 bytes': the nine records with their markers (`tables-packed`)
+abbrev pub monthFileSize : ℕ
+monthFileSize = 38552
 
 -- ---- a part of a lent file
 
@@ -35,18 +47,15 @@ accepted (Refused why) = false
 
 -- 'refuses 1 (place 1), then 8 if the file has under month × 7,904 bytes'
 unfoldable pub monthRecordCheck : List ℕ → ℕ → Verdict
-monthRecordCheck s month =
-    cond (leb 1 month && leb month 12)
-    (cond (leb (month * 7904) (length s)) Accepted (Refused Record))
-    (Refused Month)
+monthRecordCheck s month = monthCheck month then refuseUnless (leb (month * recordSize) (length s)) Record
 
 abbrev pub monthStart : ℕ → ℕ
-monthStart month = (month - 1) * 7904
+monthStart month = (month - 1) * recordSize
 
 -- 'It hands back those 7,904 bytes from (month - 1) × 7,904'
 unfoldable pub monthPart : List ℕ → ℕ → Part
 monthPart s month =
-    cond (accepted (monthRecordCheck s month)) (record { from = monthStart month; size = 7904 }) emptyPart
+    cond (accepted (monthRecordCheck s month)) (record { from = monthStart month; size = recordSize }) emptyPart
 
 -- ---- Month file
 

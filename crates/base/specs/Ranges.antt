@@ -1,12 +1,20 @@
--- Document 01, At the desks: the ranges of the fields that Clocks has too. Assumes nothing.
+-- Document 01, At the desks: the ranges of the fields that more than one call is held to. Assumes nothing.
 use Prim.Native.Nat.{ℕ}
 use mathlib.Core.Bool.{Bool, _&&_}
+use lib.Dec.{leb}
 use lib.Ieee.{Float, le}
 use Rattle.base.specs.declared.angle.Degrees.{Degrees}
-use Rattle.base.specs.declared.refusal.Refusal.the-variants.{Hour, Latitude, Longitude}
+use Rattle.base.specs.declared.refusal.Refusal.the-variants.{Month, Hour, Latitude, Longitude}
 use Rattle.base.specs.declared.refusal.Verdict.{Verdict}
 use Rattle.base.specs.Refusal.{refuseUnless}
 use Rattle.base.specs.Single.{decimal, minusDecimal}
+
+-- 'month 1 to 12'
+abbrev pub isMonth : ℕ → Bool
+isMonth m = leb 1 m && leb m 12
+
+unfoldable pub monthCheck : ℕ → Verdict
+monthCheck m = refuseUnless (isMonth m) Month
 
 -- 'Ends are included; NaN is outside'
 abbrev pub isTo : Float → Float → Float → Bool

@@ -44,3 +44,8 @@ infixr 30 _then_
 abbrev pub _then_ : Verdict → Verdict → Verdict
 Accepted then next = next
 Refused why then next = Refused why
+
+-- the value where nothing is refused, else what was there
+abbrev pub writtenOver : {A : Type 0} → Verdict → A → A → A
+writtenOver Accepted new old = new
+writtenOver (Refused why) new old = old

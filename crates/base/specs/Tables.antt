@@ -9,7 +9,7 @@ use denote.Ref.{RefT, now}
 use Rattle.base.specs.declared.refusal.Refusal.the-variants.{Record, Table as NoTable}
 use Rattle.base.specs.declared.refusal.Verdict.{Verdict}
 use Rattle.base.specs.declared.refusal.Verdict.the-variants.{Refused}
-use Rattle.base.specs.MonthFile.{Part, emptyPart, accepted, sizes, monthFileCheck}
+use Rattle.base.specs.MonthFile.{Part, emptyPart, accepted, recordSize, sizes, monthFileCheck}
 
 -- ---- shapes
 
@@ -68,6 +68,14 @@ joined (ts ∷ rs) = ts ++ joined rs
 
 abbrev pub tables : List Table
 tables = joined tablesByRecord
+
+-- the F2 record is `XF2COF(13,76,2)` and nothing else
+abbrev pub f2Shape : List ℕ
+f2Shape = 13 ∷ 76 ∷ 2 ∷ []
+
+-- the words of one of its two planes
+abbrev pub f2Plane : ℕ
+f2Plane = product f2Shape / 2
 
 -- ---- by number
 
@@ -152,9 +160,9 @@ PackedRecords at end (n ∷ ns) (ts ∷ rs) =
 
 -- ---- Table
 
--- 'number 0 (F2 planes)': the planes are `XF2COF(13,76,2)`
+-- 'number 0 (F2 planes)'
 abbrev pub f2Planes : Part
-f2Planes = record { from = 0; size = 4 * product (13 ∷ 76 ∷ 2 ∷ []) }
+f2Planes = record { from = 0; size = 4 * product f2Shape }
 
 abbrev pub bytesIn : Table → Part
 bytesIn t = record { from = t .from; size = 4 * t .words }
@@ -167,7 +175,7 @@ partOf number = getD (f2Planes ∷ map bytesIn tables) number emptyPart
 unfoldable pub tableCheck : ℕ → List ℕ → List ℕ → Verdict
 tableCheck number f2 month =
     cond (leb number 20)
-    (cond (leb 7904 (length f2)) (monthFileCheck month) (Refused Record))
+    (cond (leb recordSize (length f2)) (monthFileCheck month) (Refused Record))
     (Refused NoTable)
 
 -- 'Where this or Table refuses, the part handed back is empty'

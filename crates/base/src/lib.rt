@@ -1,9 +1,13 @@
 // Arithmetic and files: what the maps and the worksheet stand on.
 pub mod angle;
-pub mod coefficients;
+pub mod blend;
 pub mod constants;
 pub mod elementary;
+pub mod files;
+pub mod index;
+pub mod month_file;
 pub mod number;
 pub mod ranges;
 pub mod refusal;
 pub mod tables;
+pub mod words;

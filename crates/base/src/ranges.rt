@@ -4,7 +4,19 @@ use crate::refusal::Refusal;
 use crate::refusal::Verdict;
 use crate::refusal::refuse_unless;
 ghost use mathlib.Core.Path.{_≡_};
-ghost use Rattle.base.specs.Ranges.{isTo, hourCheck, latitudeCheck, longitudeCheck};
+ghost use Rattle.base.specs.Ranges.{isMonth, monthCheck, isTo, hourCheck, latitudeCheck, longitudeCheck};
+
+fn is_month(m: u32) -> bool
+    ensures { λ r. ⌜ r ≡ isMonth m ⌝ }
+{
+    if 1 <= m { m <= 12 } else { false }
+}
+
+pub fn month_check(m: u32) -> Verdict
+    ensures { λ r. ⌜ r ≡ monthCheck m ⌝ }
+{
+    refuse_unless(is_month(m), Refusal::Month)
+}
 
 // Ends are included; a NaN is outside.
 pub fn is_to(low: f32, high: f32, x: f32) -> bool

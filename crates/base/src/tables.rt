@@ -1,5 +1,6 @@
 // The tables of a month by number: which are there, and their bytes as parts of the files lent.
-use crate::coefficients;
+use crate::month_file::RECORD;
+use crate::month_file::month_file_check;
 use crate::refusal::Refusal;
 use crate::refusal::Verdict;
 ghost use mathlib.Core.Path.{_≡_};
@@ -12,29 +13,56 @@ pub struct Place {
     pub size: usize,
 }
 
+// Where the tables that are read by name start in the month file.
+pub const IKIM: usize = 4;
+
+pub const XFM3CF: usize = 16780;
+
+pub const ANEW: usize = 23492;
+
+pub const BNEW: usize = 23504;
+
+pub const ACHI: usize = 23516;
+
+pub const BCHI: usize = 23524;
+
+pub const FAKMAP: usize = 23532;
+
+pub const ABMAP: usize = 25388;
+
+pub const XESMCF: usize = 25420;
+
+pub const XPMAP: usize = 28836;
+
+pub const XESLCF: usize = 32556;
+
+pub const XESUCF: usize = 34756;
+
+pub const XERCOF: usize = 36964;
+
 // Start and size of the F2 planes, then of `ikim` to `xercof`.
 const PLACES: [[usize; 2]; 21] = [
-    [0, 7904],
-    [4, 240],
+    [0, RECORD],
+    [IKIM, 240],
     [252, 11136],
     [11388, 48],
     [11444, 1200],
     [12644, 672],
     [13316, 3456],
-    [16780, 3528],
+    [XFM3CF, 3528],
     [20316, 2304],
     [22620, 864],
-    [23492, 12],
-    [23504, 12],
-    [23516, 8],
-    [23524, 8],
-    [23532, 1856],
-    [25388, 24],
-    [25420, 3416],
-    [28836, 3712],
-    [32556, 2200],
-    [34756, 2200],
-    [36964, 1584],
+    [ANEW, 12],
+    [BNEW, 12],
+    [ACHI, 8],
+    [BCHI, 8],
+    [FAKMAP, 1856],
+    [ABMAP, 24],
+    [XESMCF, 3416],
+    [XPMAP, 3712],
+    [XESLCF, 2200],
+    [XESUCF, 2200],
+    [XERCOF, 1584],
 ];
 
 // The place of a table; of no bytes where there is no such table.
@@ -58,10 +86,10 @@ pub fn table_check(number: u32, f2: &[u8], month: &[u8]) -> Verdict
     if 20 < number {
         return Verdict::Refused(Refusal::Table);
     }
-    if f2.len() < 7904 {
+    if f2.len() < RECORD {
         return Verdict::Refused(Refusal::Record);
     }
-    coefficients::month_file_check(month)
+    month_file_check(month)
 }
 
 // A table's bytes, a part of the file that holds them; refused, the empty part at the F2 record's

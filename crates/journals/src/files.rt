@@ -1,9 +1,11 @@
 // A file, piece by piece.
-use base::coefficients;
+use base::words::word;
 ghost use Prim.Native.Nat.{_≤_};
 
-// The longest piece that is read.
-pub const LONGEST: usize = 1024;
+// The most bytes that the calls of a journal have, and a wanted text.
+pub const CALLS: usize = 1024;
+
+pub const WANTED: usize = 32768;
 
 // A file's descriptor. Where there is no such file that is said.
 pub fn opened(path: &[u8]) -> i32 {
@@ -18,7 +20,7 @@ pub fn opened(path: &[u8]) -> i32 {
 pub fn next(fd: i32) -> u32 {
     let mut four = [0u8; 4];
     io::read_full(fd, &mut four);
-    coefficients::word(&four, 0)
+    word(&four, 0)
 }
 
 // The next word of a file, as a length or a place.
@@ -27,10 +29,10 @@ pub fn next_size(fd: i32) -> usize {
 }
 
 // The next n bytes of a file, at the start of a buffer.
-pub fn bytes(fd: i32, n: usize) -> [u8; 1024]
-    requires { ⌜ n ≤ 1024 ⌝ }
+pub fn bytes(fd: i32, n: usize) -> [u8; WANTED]
+    requires { ⌜ n ≤ 32768 ⌝ }
 {
-    let mut buffer = [0u8; 1024];
+    let mut buffer = [0u8; WANTED];
     let a = 0usize;
     io::read_full(fd, &mut buffer[a..n]);
     buffer

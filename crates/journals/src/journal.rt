@@ -1,6 +1,7 @@
 // The journals: an open and the calls that follow it, answered as `replay` answers them, over one pair
 // of files. Of each journal the file has the 14 words, the calls and the wanted text.
-use crate::files::LONGEST;
+use crate::files::CALLS;
+use crate::files::WANTED;
 use crate::files::bytes;
 use crate::files::next;
 use crate::files::next_size;
@@ -8,28 +9,33 @@ use crate::files::opened;
 use crate::tally::counted;
 use crate::tally::none;
 use crate::tally::print_line;
-use crate::wanted::say_count;
-use crate::wanted::say_figures;
-use crate::wanted::say_refusal;
-use crate::wanted::say_verdict;
-use base::coefficients::word;
-use listing::call::Call;
-use listing::call::Move;
-use listing::call::Next;
+use crate::wanted::say;
+use base::month_file::MONTH_FILE;
+use base::month_file::RECORD;
+use base::refusal::Verdict;
+use base::words::word;
+use listing::answer::ANSWER;
+use listing::answer::stopped_text;
+use listing::answer::verdict_text;
+use listing::call::Read;
 use listing::call::call_in;
-use listing::call::moved;
 use listing::call::size_of;
-use maps::figures::Shown;
-use worksheet::desks::Opened;
+use listing::turn::answered;
+use worksheet::desks;
 use worksheet::desks::Worksheet;
-use worksheet::opening;
-use worksheet::showing::show;
+use worksheet::journal::Call;
 ghost use mathlib.Core.Path.{_≡_};
 ghost use Prim.Native.Nat.{_+_, _<_, _≤_};
 ghost use lib.ListN.{length};
 
-// The first byte of the first call: 56 of words, 7,904 of record, 38,552 of month file.
-const START: u32 = 46512;
+// The first byte of the first call: 56 of words, the record, the month file.
+const START: u64 = 46512;
+
+// What stands at a place of the calls, and its size in bytes.
+struct Next {
+    read: Read,
+    size: usize,
+}
 
 // The worksheet that a call leaves, and the place after what it said.
 struct Step {
@@ -42,7 +48,7 @@ fn cut_short(left: usize) -> Next
     ensures { λ r. ⌜ r .size ≡ left ⌝ }
 {
     Next {
-        call: Call::Bad,
+        read: Read::Bad,
         size: left,
     }
 }
@@ -63,38 +69,8 @@ fn call_at(calls: &[u8], from: usize) -> Next
     let a = from + 4;
     let e = from + size;
     Next {
-        call: call_in(operation, &calls[a..e]),
+        read: call_in(operation, &calls[a..e]),
         size: size,
-    }
-}
-
-fn say_show(
-    w: Worksheet,
-    desk: u32,
-    record: &[u8],
-    month: &[u8],
-    wanted: &[u8],
-    at: usize,
-) -> usize {
-    let mut figures = [0.0f32; 151];
-    let shown = show(w, desk, record, month, &mut figures);
-    match shown {
-        Shown::Points(count) => say_sheet(wanted, at, count, &figures),
-        Shown::Refused(why) => say_refusal(wanted, at, why),
-    }
-}
-
-fn say_sheet(wanted: &[u8], at: usize, count: u32, figures: &[f32; 151]) -> usize {
-    say_figures(wanted, say_count(wanted, at, b"points ", count), figures)
-}
-
-fn say_move(w: Worksheet, m: Move, wanted: &[u8], at: usize) -> Step {
-    let o = moved(w, m);
-    let answer = o.answer;
-    let sheet = o.sheet;
-    Step {
-        sheet: sheet,
-        at: say_verdict(wanted, at, answer),
     }
 }
 
@@ -106,23 +82,13 @@ fn say_call(
     wanted: &[u8],
     at: usize,
 ) -> Step {
-    match call {
-        Call::Move(m) => say_move(w, m, wanted, at),
-        Call::Show(desk) => Step {
-            sheet: w,
-            at: say_show(w, desk, record, month, wanted, at),
-        },
-        Call::End => Step { sheet: w, at: at },
-        Call::Bad => Step { sheet: w, at: at },
-    }
-}
-
-fn is_bad(call: Call) -> bool {
-    match call {
-        Call::Bad => true,
-        Call::End => false,
-        Call::Move(_) => false,
-        Call::Show(_) => false,
+    let mut text = [0u8; ANSWER];
+    let turn = answered(w, call, record, month, &mut text);
+    let n = turn.size;
+    let sheet = turn.sheet;
+    Step {
+        sheet: sheet,
+        at: say(wanted, at, &text[..n]),
     }
 }
 
@@ -130,7 +96,9 @@ fn is_bad(call: Call) -> bool {
 fn say_stop(wanted: &[u8], at: usize, from: usize) -> usize
     requires { ⌜ from ≤ 1024 ⌝ }
 {
-    say_count(wanted, at, b"stopped at ", START + from as u32)
+    let mut text = [0u8; ANSWER];
+    let n = stopped_text(START + from as u64, &mut text);
+    say(wanted, at, &text[..n])
 }
 
 // Call by call; the place after all that is said.
@@ -142,25 +110,40 @@ fn say_calls(w: Worksheet, calls: &[u8], record: &[u8], month: &[u8], wanted: &[
     let mut from: usize = 0;
     while from < calls.len() {
         let next = call_at(calls, from);
-        let call = next.call;
-        if is_bad(call) {
-            return say_stop(wanted, at, from);
+        let read = next.read;
+        match read {
+            Read::Call(call) => {
+                let step = say_call(w, call, record, month, wanted, at);
+                w = step.sheet;
+                at = step.at;
+            }
+            Read::Bad => {
+                return say_stop(wanted, at, from);
+            }
+            Read::End => {
+                return at;
+            }
         }
-        let step = say_call(w, call, record, month, wanted, at);
-        w = step.sheet;
-        at = step.at;
         from += next.size;
     }
     at
 }
 
+fn say_refusal(verdict: Verdict, wanted: &[u8]) -> usize {
+    let mut text = [0u8; ANSWER];
+    let n = verdict_text(verdict, &mut text);
+    say(wanted, 0, &text[..n])
+}
+
 fn is_replay(words: &[u8], calls: &[u8], record: &[u8], month: &[u8], wanted: &[u8]) -> bool
     requires { ⌜ length (now calls) ≤ 1024 ⌝ }
 {
-    let sheet = opening::opened(words);
-    let at = match sheet {
-        Opened::Sheet(w) => say_calls(w, calls, record, month, wanted),
-        Opened::Refused(why) => say_refusal(wanted, 0, why),
+    let o = desks::opened(words);
+    let verdict = o.answer;
+    let sheet = o.sheet;
+    let at = match verdict {
+        Verdict::Accepted => say_calls(sheet, calls, record, month, wanted),
+        Verdict::Refused(why) => say_refusal(Verdict::Refused(why), wanted),
     };
     at == wanted.len()
 }
@@ -170,12 +153,12 @@ fn is_journal(fd: i32, record: &[u8], month: &[u8]) -> bool {
     let mut words = [0u8; 56];
     io::read_full(fd, &mut words);
     let c = next_size(fd);
-    if c > LONGEST {
+    if c > CALLS {
         return false;
     }
     let calls = bytes(fd, c);
     let o = next_size(fd);
-    if o > LONGEST {
+    if o > WANTED {
         return false;
     }
     let text = bytes(fd, o);
@@ -186,9 +169,9 @@ fn is_journal(fd: i32, record: &[u8], month: &[u8]) -> bool {
 fn replay_all(fd: i32) {
     let mut t = none();
     let mut left = next(fd);
-    let mut record = [0u8; 7904];
+    let mut record = [0u8; RECORD];
     io::read_full(fd, &mut record);
-    let mut month = [0u8; 38552];
+    let mut month = [0u8; MONTH_FILE];
     io::read_full(fd, &mut month);
     while left > 0 {
         t = counted(t, is_journal(fd, &record, &month));

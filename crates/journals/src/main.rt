@@ -1,8 +1,8 @@
-// Replays the Rust side's answers in data/: what `replay` and `sheet` print, byte by byte, with each
-// sheet's 151 figures as one hash. Prints of each kind how many were compared and how many differ.
+// Replays the Rust side's answers in data/: what `replay`, `sheet` and `sheet page` print, byte by byte.
+// Prints of each kind how many were compared and how many differ.
 mod files;
-mod hash;
 mod journal;
+mod pages;
 mod sheets;
 mod tally;
 mod wanted;
@@ -10,4 +10,5 @@ mod wanted;
 fn main() {
     journal::replay();
     sheets::replay();
+    pages::replay();
 }

@@ -1,4 +1,6 @@
 -- Laws that belong to no one function. Assumes nothing.
 pub mod Stored
 pub mod Returned
+pub mod Crossed
 pub mod Carried
+pub mod Unopened

@@ -1,39 +1,25 @@
--- A worksheet that is written and read is the same worksheet, if its numbers are values of an f32; what is read off words always is such a one. By sets: the words of each stand whole where they are read. Assumes nothing.
+-- A worksheet that is written and read is the same worksheet, if its numbers are values of an f32; what is read off
+-- words always is such a one. By sets: the words of each stand whole where they are read. Assumes nothing.
 use mathlib.Core.Path.{_≡_, refl, sym, ap, _∙_}
-use mathlib.Core.Bool.{Bool, true, false, cond, not}
+use mathlib.Core.Bool.{Bool, true, false, cond}
 use mathlib.Core.List.{List, [], _++_, append-nil}
 use Prim.Native.Nat.{ℕ, _+_}
 use native.Mathlib.Omega.{arith}
 use lib.Dec.{eqb}
 use lib.ListN.{length, getD}
 use lib.Seq.{getD-append-add}
-use lib.Ieee.{Float, binary32, ofBits, toBits}
-use lib.Ieee.Bits.{ofBits-toBits, ofBits-fits}
-use Rattle.maps.specs.declared.figures.Inputs.{Inputs}
+use Rattle.maps.specs.Inputs.{routeFrom, factorsFrom, poleFrom, inputsFrom, fieldWords, Singles}
+use Rattle.maps.specs.declared.inputs.Inputs.{Inputs}
+use Rattle.maps.proofs.Codec.{fields-back, from-single}
 use Rattle.worksheet.specs.declared.desks.Draft.{Draft}
 use Rattle.worksheet.specs.declared.desks.Draft.the-variants.{Closed, Fresh, Stale}
 use Rattle.worksheet.specs.declared.desks.Earlier.{Earlier}
 use Rattle.worksheet.specs.declared.desks.Earlier.the-variants.{Nothing, Set}
 use Rattle.worksheet.specs.declared.desks.Worksheet.{Worksheet}
-use Rattle.jutetrowel.specs.Calls.{Single}
-use Rattle.jutetrowel.specs.Words.{wordIn, routeIn, factorsIn, poleIn, inputsIn, earlierIn, draftIn, worksheetOf, setWords, earlierWords, draftWords, wordsOf}
+use Rattle.jutetrowel.specs.Words.{wordIn, fieldIn, inputsIn, earlierIn, draftIn, worksheetOf, setWords, earlierWords, draftWords, wordsOf}
 use Rattle.jutetrowel.proofs.Stored.{set-length, earlier-length, draft-length}
 
--- ---- numbers that an f32 can be
-
-pub record Singles (i : Inputs) : Type 0 where
-  pub ssn : Single (i .ssn)
-  pub gmt : Single (i .gmt)
-  pub tlat : Single (i .route .tlat .0)
-  pub tlong : Single (i .route .tlong .0)
-  pub rlat : Single (i .route .rlat .0)
-  pub rlong : Single (i .route .rlong .0)
-  pub e : Single (i .psc .e)
-  pub f1 : Single (i .psc .f1)
-  pub f2 : Single (i .psc .f2)
-  pub es : Single (i .psc .es)
-  pub lat : Single (i .pole .lat .0)
-  pub lon : Single (i .pole .lon .0)
+-- ---- worksheets of numbers that an f32 can be
 
 abbrev pub EarlierSingles : Earlier → Type 0
 EarlierSingles Nothing = Unit
@@ -54,37 +40,9 @@ pub record SheetSingles (w : Worksheet) : Type 0 where
 
 -- ---- a set read where it stands first
 
-back : (x : Float) → Single x → ofBits binary32 (toBits binary32 x) ≡ x
-back x h = ofBits-toBits binary32 x h
-
-flag-back : (b : Bool) → not (eqb (cond b 1 0) 0) ≡ b
-flag-back true = refl
-flag-back false = refl
-
 inputs-back : (what : ℕ) (i : Inputs) (rest : List ℕ) → Singles i → inputsIn (setWords what i ++ rest) 0 ≡ i
-unfolding inputsIn routeIn factorsIn poleIn setWords
-inputs-back what i rest h =
-    let ssn = back (i .ssn) (h .ssn) in
-    let gmt = back (i .gmt) (h .gmt) in
-    let tlat = back (i .route .tlat .0) (h .tlat) in
-    let tlong = back (i .route .tlong .0) (h .tlong) in
-    let rlat = back (i .route .rlat .0) (h .rlat) in
-    let rlong = back (i .route .rlong .0) (h .rlong) in
-    let long = flag-back (i .route .«long_path») in
-    let e = back (i .psc .e) (h .e) in
-    let f1 = back (i .psc .f1) (h .f1) in
-    let f2 = back (i .psc .f2) (h .f2) in
-    let es = back (i .psc .es) (h .es) in
-    let lat = back (i .pole .lat .0) (h .lat) in
-    let lon = back (i .pole .lon .0) (h .lon) in
-    λ t. record {
-      month = i .month;
-      ssn = ssn t;
-      gmt = gmt t;
-      route = record { tlat = record { 0 = tlat t }; tlong = record { 0 = tlong t }; rlat = record { 0 = rlat t }; rlong = record { 0 = rlong t }; «long_path» = long t };
-      psc = record { e = e t; f1 = f1 t; f2 = f2 t; es = es t };
-      pole = record { lat = record { 0 = lat t }; lon = record { 0 = lon t } };
-    }
+unfolding inputsIn inputsFrom routeFrom factorsFrom poleFrom setWords fieldWords
+inputs-back what i rest h = fields-back i h
 
 earlier-back : (e : Earlier) (rest : List ℕ) → EarlierSingles e → earlierIn (earlierWords e ++ rest) 0 ≡ e
 unfolding earlierIn earlierWords setWords
@@ -103,21 +61,14 @@ module _ (v rest : List ℕ) (n : length v ≡ 15) where
   behind : (k : ℕ) → wordIn (v ++ rest) (15 + k) ≡ wordIn rest k
   behind k = ap (λ (m : ℕ). getD (v ++ rest) (m + k) 0) (sym n) ∙ getD-append-add v rest k 0
 
-  further : (at k : ℕ) → wordIn (v ++ rest) (15 + at + k) ≡ wordIn rest (at + k)
-  further at k = let e : 15 + at + k ≡ 15 + (at + k) = omega arith in ap (wordIn (v ++ rest)) e ∙ behind (at + k)
+  further : (at k : ℕ) → fieldIn (v ++ rest) (15 + at) k ≡ fieldIn rest at k
+  further at k =
+      let e : 15 + at + 1 + k ≡ 15 + (at + 1 + k) = omega arith in
+      ap (wordIn (v ++ rest)) e ∙ behind (at + 1 + k)
 
   inputs-behind : (at : ℕ) → inputsIn (v ++ rest) (15 + at) ≡ inputsIn rest at
-  unfolding inputsIn routeIn factorsIn poleIn
-  inputs-behind at =
-      let p = further at in
-      λ t. record {
-        month = p 1 t;
-        ssn = ofBits binary32 (p 2 t);
-        gmt = ofBits binary32 (p 3 t);
-        route = record { tlat = record { 0 = ofBits binary32 (p 4 t) }; tlong = record { 0 = ofBits binary32 (p 5 t) }; rlat = record { 0 = ofBits binary32 (p 6 t) }; rlong = record { 0 = ofBits binary32 (p 7 t) }; «long_path» = not (eqb (p 8 t) 0) };
-        psc = record { e = ofBits binary32 (p 9 t); f1 = ofBits binary32 (p 10 t); f2 = ofBits binary32 (p 11 t); es = ofBits binary32 (p 12 t) };
-        pole = record { lat = record { 0 = ofBits binary32 (p 13 t) }; lon = record { 0 = ofBits binary32 (p 14 t) } };
-      }
+  unfolding inputsIn
+  inputs-behind at = λ t. inputsFrom (λ (k : ℕ). further at k t)
 
   earlier-behind : (at : ℕ) → earlierIn (v ++ rest) (15 + at) ≡ earlierIn rest at
   unfolding earlierIn
@@ -179,32 +130,23 @@ module _ (w : Worksheet) (h : SheetSingles w) where
       let inputs = inputs-back 1 (w .inputs) r1 (h .inputs) in
       let earlier = earlier-behind v0 r1 n0 0 ∙ earlier-back (w .earlier) r2 (h .earlier) in
       let d1 = draft-behind v0 r1 n0 15 ∙ draft-behind v1 r2 n1 0 ∙ draft-back (w .d1) r3 (h .d1) in
-      let d2 = draft-behind v0 r1 n0 30 ∙ draft-behind v1 r2 n1 15 ∙ draft-behind v2 r3 n2 0 ∙ draft-back (w .d2) r4 (h .d2) in
-      let d3 = draft-behind v0 r1 n0 45 ∙ draft-behind v1 r2 n1 30 ∙ draft-behind v2 r3 n2 15 ∙ draft-behind v3 r4 n3 0 ∙ draft-back (w .d3) v5 (h .d3) in
+      let d2 =
+      draft-behind v0 r1 n0 30 ∙ draft-behind v1 r2 n1 15 ∙ draft-behind v2 r3 n2 0 ∙ draft-back (w .d2) r4 (h .d2) in
+      let d3 =
+      draft-behind v0 r1 n0 45 ∙ draft-behind v1 r2 n1 30 ∙ draft-behind v2 r3 n2 15 ∙ draft-behind v3 r4 n3 0
+      ∙ draft-back (w .d3) v5 (h .d3) in
       let last = ap (λ (x : List ℕ). draftIn x 0) (sym (append-nil v5)) ∙ draft-back (w .d4) [] (h .d4) in
-      let d4 = draft-behind v0 r1 n0 60 ∙ draft-behind v1 r2 n1 45 ∙ draft-behind v2 r3 n2 30 ∙ draft-behind v3 r4 n3 15 ∙ draft-behind v4 v5 n4 0 ∙ last in
+      let d4 =
+      draft-behind v0 r1 n0 60 ∙ draft-behind v1 r2 n1 45 ∙ draft-behind v2 r3 n2 30 ∙ draft-behind v3 r4 n3 15
+      ∙ draft-behind v4 v5 n4 0 ∙ last in
       λ t. record { inputs = inputs t; earlier = earlier t; d1 = d1 t; d2 = d2 t; d3 = d3 t; d4 = d4 t }
 
 -- ---- what is read off words
 
 module _ (l : List ℕ) where
   inputs-single : (at : ℕ) → Singles (inputsIn l at)
-  unfolding inputsIn routeIn factorsIn poleIn
-  inputs-single at =
-      record {
-        ssn = ofBits-fits binary32 _;
-        gmt = ofBits-fits binary32 _;
-        tlat = ofBits-fits binary32 _;
-        tlong = ofBits-fits binary32 _;
-        rlat = ofBits-fits binary32 _;
-        rlong = ofBits-fits binary32 _;
-        e = ofBits-fits binary32 _;
-        f1 = ofBits-fits binary32 _;
-        f2 = ofBits-fits binary32 _;
-        es = ofBits-fits binary32 _;
-        lat = ofBits-fits binary32 _;
-        lon = ofBits-fits binary32 _;
-      }
+  unfolding inputsIn
+  inputs-single at = from-single (fieldIn l at)
 
   earlier-single : (at : ℕ) → EarlierSingles (earlierIn l at)
   unfolding earlierIn

@@ -17,6 +17,10 @@ unfoldable pub showingOf : Shown → Showing
 showingOf (Points count) = record { points = count; number = 0; place = 0 }
 showingOf (Refused why) = record { points = 0; number = reportOf why .0; place = reportOf why .1 }
 
+-- its number and place alone
+abbrev pub shownNumbers : Shown → Answer
+shownNumbers s = record { number = showingOf s .number; place = showingOf s .place }
+
 -- a part of a lent file, with the answer of the check that it rests on
 unfoldable pub spanOf : Verdict → Part → Span
 spanOf v p = record { start = p .from; size = p .size; number = verdictReport v .0; place = verdictReport v .1 }

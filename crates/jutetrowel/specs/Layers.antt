@@ -1,25 +1,14 @@
--- How the parts of `maps` cross to another language: numbers in structs, in the order of the Rust's fields. Assumes nothing.
+-- How the parts of `maps` cross: numbers in structs, the Rust's fields in their order, and what is worked out beside them. Assumes nothing.
 use Prim.Native.Nat.{ℕ}
 use lib.Ieee.{Float}
 use Rattle.base.specs.Refusal.{verdictReport}
-use Rattle.base.specs.declared.angle.Degrees.{Degrees}
-use Rattle.base.specs.declared.angle.Radians.{Radians}
-use Rattle.base.specs.declared.constants.MagneticPole.{MagneticPole}
 use Rattle.maps.specs.Geometry.{alatdOf, btrDeg, brtDeg}
 use Rattle.maps.specs.declared.geometry.PathGeometry.{PathGeometry}
 use Rattle.maps.specs.declared.ionosphere.LayerInputs.{LayerInputs}
 use Rattle.maps.specs.declared.ionosphere.LayersAt.{LayersAt}
 use Rattle.jutetrowel.specs.declared.layers.Measured.{Measured}
 use Rattle.jutetrowel.specs.declared.layers.Layers.{Layers}
-
-abbrev pub degrees : Float → Degrees
-degrees x = record { 0 = x }
-
-abbrev pub radians : Float → Radians
-radians x = record { 0 = x }
-
-abbrev pub poleAt : Float → Float → MagneticPole
-poleAt lat lon = record { lat = degrees lat; lon = degrees lon }
+use Rattle.jutetrowel.specs.Fields.{factorsOf}
 
 unfoldable pub measuredOf : PathGeometry → Measured
 measuredOf g =
@@ -36,7 +25,8 @@ measuredOf g =
     }
 
 abbrev pub layerInputs : ℕ → Float → Float → Float → Float → Float → Float → LayerInputs
-layerInputs month ssn gmt e f1 f2 es = record { month = month; ssn = ssn; gmt = gmt; psc = record { e = e; f1 = f1; f2 = f2; es = es } }
+layerInputs month ssn gmt e f1 f2 es =
+    record { month = month; ssn = ssn; gmt = gmt; psc = factorsOf e f1 f2 es }
 
 unfoldable pub layersAs : LayersAt → Layers
 layersAs l =

@@ -5,7 +5,7 @@ use maps::figures::Shown;
 ghost use mathlib.Core.Path.{_≡_};
 ghost use Rattle.base.specs.declared.refusal.Verdict.the-variants.{Refused};
 ghost use Rattle.base.specs.MonthFile.{emptyPart};
-ghost use Rattle.jutetrowel.specs.Answers.{answerOf, showingOf, spanOf};
+ghost use Rattle.jutetrowel.specs.Answers.{answerOf, showingOf, shownNumbers, spanOf};
 
 // Document 01's number of a refusal, and its place; 0 and 0 where nothing is refused.
 #[repr(C)]
@@ -40,12 +40,6 @@ pub(crate) fn answered(v: Verdict) -> Answer
     }
 }
 
-pub(crate) fn refused(why: Refusal) -> Answer
-    ensures { λ r. ⌜ r ≡ answerOf (Refused why) ⌝ }
-{
-    answered(Verdict::Refused(why))
-}
-
 pub(crate) fn shown_as(shown: Shown) -> Showing
     ensures { λ r. ⌜ r ≡ showingOf shown ⌝ }
 {
@@ -60,6 +54,17 @@ pub(crate) fn shown_as(shown: Shown) -> Showing
             number: why.number(),
             place: why.place(),
         },
+    }
+}
+
+// A showing's number and place.
+pub(crate) fn numbers_of(shown: Shown) -> Answer
+    ensures { λ r. ⌜ r ≡ shownNumbers shown ⌝ }
+{
+    let s = shown_as(shown);
+    Answer {
+        number: s.number,
+        place: s.place,
     }
 }
 

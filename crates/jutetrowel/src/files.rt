@@ -1,25 +1,28 @@
-// The files of `base::coefficients`, and the tables of `base::tables`.
+// The files of `base::month_file` and `base::files`, and the tables of `base::tables`.
 use crate::answers::Answer;
 use crate::answers::Span;
 use crate::answers::answered;
 use crate::answers::no_span;
-use crate::answers::refused;
-use base::coefficients;
+use base::blend::HeightMap;
+use base::blend::SixMaps;
+use base::files;
+use base::month_file;
+use base::month_file::RECORD;
 use base::refusal::Verdict;
 use base::tables;
-use maps::ionosphere;
 ghost use mathlib.Core.Path.{_≡_};
+ghost use Rattle.base.specs.Refusal.{writtenOver};
 ghost use Rattle.base.specs.MonthFile.{monthFileCheck, monthRecordCheck, monthPart};
 ghost use Rattle.base.specs.Tables.{tableCheck, tablePart};
 ghost use Rattle.base.specs.Blend.{cofionOf, hmymOf};
-ghost use Rattle.maps.specs.Ionosphere.{fileCheck, filesCheck, writtenOver};
+ghost use Rattle.base.specs.Files.{fileCheck, filesCheck};
 ghost use Rattle.jutetrowel.specs.Answers.{answerOf, spanOf};
 
 #[no_mangle]
 pub extern "C" fn jt_month_file_check(s: &[u8]) -> Answer
     ensures { λ r. ⌜ r ≡ answerOf (monthFileCheck (now (s .entry))) ⌝ }
 {
-    answered(coefficients::month_file_check(s))
+    answered(month_file::month_file_check(s))
 }
 
 // Whether a month file can be used: its form, and then its index table.
@@ -27,19 +30,22 @@ pub extern "C" fn jt_month_file_check(s: &[u8]) -> Answer
 pub extern "C" fn jt_file_check(month: &[u8]) -> Answer
     ensures { λ r. ⌜ r ≡ answerOf (fileCheck (now (month .entry))) ⌝ }
 {
-    answered(ionosphere::file_check(month))
+    answered(files::file_check(month))
 }
 
 // Where a month's record lies in the `.daw` file.
 #[no_mangle]
 pub extern "C" fn jt_month_record(daw: &[u8], month: u32) -> Span
-    ensures { λ r. ⌜ r ≡ spanOf (monthRecordCheck (now (daw .entry)) month) (monthPart (now (daw .entry)) month) ⌝ }
+    ensures { λ r. ⌜ (
+        let s = now (daw .entry) in
+        r ≡ spanOf (monthRecordCheck s month) (monthPart s month)
+        ) ⌝ }
 {
-    let verdict = coefficients::month_record_check(daw, month);
+    let verdict = month_file::month_record_check(daw, month);
     match verdict {
         Verdict::Accepted => Span {
-            start: (month as usize - 1) * 7904,
-            size: 7904,
+            start: (month as usize - 1) * RECORD,
+            size: RECORD,
             number: 0,
             place: 0,
         },
@@ -50,7 +56,11 @@ pub extern "C" fn jt_month_record(daw: &[u8], month: u32) -> Span
 // Where a table lies: number 0 in the F2 record, 1 to 20 in the month file.
 #[no_mangle]
 pub extern "C" fn jt_table(number: u32, f2: &[u8], month: &[u8]) -> Span
-    ensures { λ r. ⌜ r ≡ spanOf (tableCheck number (now (f2 .entry)) (now (month .entry))) (tablePart number (now (f2 .entry)) (now (month .entry))) ⌝ }
+    ensures { λ r. ⌜ (
+        let f = now (f2 .entry) in
+        let m = now (month .entry) in
+        r ≡ spanOf (tableCheck number f m) (tablePart number f m)
+        ) ⌝ }
 {
     let verdict = tables::table_check(number, f2, month);
     match verdict {
@@ -69,30 +79,27 @@ pub extern "C" fn jt_table(number: u32, f2: &[u8], month: &[u8]) -> Span
 
 // The blended coefficients of the six maps at a sunspot number; refused, the array stays as it is.
 #[no_mangle]
-pub extern "C" fn jt_cofion(f2: &[u8], month: &[u8], ssn: f32, out: &mut [f32; 2604]) -> Answer
-    ensures { λ r. ⌜ (r ≡ answerOf (filesCheck (now (f2 .entry)) (now (month .entry)))) × (now (out .exit) ≡ writtenOver (filesCheck (now (f2 .entry)) (now (month .entry))) (cofionOf (now (f2 .entry)) (now (month .entry)) ssn) (now (out .entry))) ⌝ }
+pub extern "C" fn jt_cofion(f2: &[u8], month: &[u8], ssn: f32, out: &mut SixMaps) -> Answer
+    ensures { λ r. ⌜ (
+        let f = now (f2 .entry) in
+        let m = now (month .entry) in
+        let v = filesCheck f m in
+        (r ≡ answerOf v)
+        × (now (out .exit) ≡ writtenOver v (cofionOf f m ssn) (now (out .entry)))
+        ) ⌝ }
 {
-    let verdict = ionosphere::files_check(f2, month);
-    match verdict {
-        Verdict::Accepted => {
-            *out = coefficients::cofion(f2, month, ssn);
-            answered(Verdict::Accepted)
-        }
-        Verdict::Refused(why) => refused(why),
-    }
+    answered(files::cofion(f2, month, ssn, out))
 }
 
 // The blended coefficients of the height map; refused, the array stays as it is.
 #[no_mangle]
-pub extern "C" fn jt_hmym(month: &[u8], ssn: f32, out: &mut [f32; 464]) -> Answer
-    ensures { λ r. ⌜ (r ≡ answerOf (fileCheck (now (month .entry)))) × (now (out .exit) ≡ writtenOver (fileCheck (now (month .entry))) (hmymOf (now (month .entry)) ssn) (now (out .entry))) ⌝ }
+pub extern "C" fn jt_hmym(month: &[u8], ssn: f32, out: &mut HeightMap) -> Answer
+    ensures { λ r. ⌜ (
+        let m = now (month .entry) in
+        let v = fileCheck m in
+        (r ≡ answerOf v)
+        × (now (out .exit) ≡ writtenOver v (hmymOf m ssn) (now (out .entry)))
+        ) ⌝ }
 {
-    let verdict = ionosphere::file_check(month);
-    match verdict {
-        Verdict::Accepted => {
-            *out = coefficients::hmym(month, ssn);
-            answered(Verdict::Accepted)
-        }
-        Verdict::Refused(why) => refused(why),
-    }
+    answered(files::hmym(month, ssn, out))
 }

@@ -1,22 +1,25 @@
-// The parts of `maps` by themselves: a path, the six maps at an hour, the layers at a place. The
-// fields are taken as they are: a whole sheet judges them, these do not.
+// The parts of `maps` by themselves: a path, the six maps at an hour, the layers at a place. Of the
+// fields only the layers' month is judged: a whole sheet judges all, these take them as they are.
 use crate::answers::Answer;
 use crate::answers::answered;
+use crate::fields::factors;
+use crate::fields::pole;
 use base::angle::Degrees;
 use base::angle::Radians;
-use base::constants::MagneticPole;
-use maps::figures::Factors;
 use maps::geometry;
 use maps::ionosphere;
 use maps::ionosphere::LayerInputs;
 use maps::ionosphere::LayersAt;
+use maps::ionosphere::virtim::TimeMaps;
 ghost use mathlib.Core.Path.{_≡_};
-ghost use mathlib.Core.Bool.{not};
-ghost use lib.Dec.{eqb};
+ghost use Rattle.base.specs.Refusal.{writtenOver};
+ghost use Rattle.base.specs.Files.{filesCheck};
+ghost use Rattle.maps.specs.Inputs.{isLong};
 ghost use Rattle.maps.specs.Geometry.{pathOf};
-ghost use Rattle.maps.specs.Ionosphere.{filesCheck, hourMapsOf, writtenOver, layersAtOf};
+ghost use Rattle.maps.specs.Ionosphere.{hourMapsOf, layersAtOf};
 ghost use Rattle.jutetrowel.specs.Answers.{answerOf};
-ghost use Rattle.jutetrowel.specs.Layers.{degrees, radians, poleAt, layerInputs, measuredOf, layersAs};
+ghost use Rattle.jutetrowel.specs.Fields.{degrees, radians, poleOf};
+ghost use Rattle.jutetrowel.specs.Layers.{layerInputs, measuredOf, layersAs};
 
 // The lengths and bearings of a path, radians but for the names that say otherwise, and its points.
 #[repr(C)]
@@ -47,15 +50,6 @@ pub struct Layers {
     pub clck: f32,
     pub zenang: f32,
     pub zenmax: f32,
-}
-
-fn pole_at(lat: f32, lon: f32) -> MagneticPole
-    ensures { λ r. ⌜ r ≡ poleAt lat lon ⌝ }
-{
-    MagneticPole {
-        lat: Degrees(lat),
-        lon: Degrees(lon),
-    }
 }
 
 fn path_as(g: geometry::PathGeometry) -> Measured
@@ -89,7 +83,11 @@ pub extern "C" fn jt_path(
     pole_lat: f32,
     pole_lon: f32,
 ) -> Measured
-    ensures { λ r. ⌜ r ≡ measuredOf (pathOf (degrees tlat) (degrees tlong) (degrees rlat) (degrees rlong) (not (eqb «long_path» 0)) (poleAt «pole_lat» «pole_lon»)) ⌝ }
+    ensures { λ r. ⌜ (
+        let long = isLong «long_path» in
+        let pole = poleOf «pole_lat» «pole_lon» in
+        r ≡ measuredOf (pathOf (degrees tlat) (degrees tlong) (degrees rlat) (degrees rlong) long pole)
+        ) ⌝ }
 {
     path_as(geometry::path_geometry(
         Degrees(tlat),
@@ -97,7 +95,7 @@ pub extern "C" fn jt_path(
         Degrees(rlat),
         Degrees(rlong),
         long_path != 0,
-        pole_at(pole_lat, pole_lon),
+        pole(pole_lat, pole_lon),
     ))
 }
 
@@ -108,9 +106,15 @@ pub extern "C" fn jt_hour_maps(
     file: &[u8],
     ssn: f32,
     gmt: f32,
-    ab: &mut [f32; 318],
+    ab: &mut TimeMaps,
 ) -> Answer
-    ensures { λ r. ⌜ (r ≡ answerOf (filesCheck (now (f2 .entry)) (now (file .entry)))) × (now (ab .exit) ≡ writtenOver (filesCheck (now (f2 .entry)) (now (file .entry))) (hourMapsOf (now (f2 .entry)) (now (file .entry)) ssn gmt) (now (ab .entry))) ⌝ }
+    ensures { λ r. ⌜ (
+        let f = now (f2 .entry) in
+        let m = now (file .entry) in
+        let v = filesCheck f m in
+        (r ≡ answerOf v)
+        × (now (ab .exit) ≡ writtenOver v (hourMapsOf f m ssn gmt) (now (ab .entry)))
+        ) ⌝ }
 {
     answered(ionosphere::hour_maps(f2, file, ssn, gmt, ab))
 }
@@ -141,7 +145,8 @@ fn layers_as(l: LayersAt) -> Layers
     }
 }
 
-// The layers at a place in radians, from the maps at the hour and a month file.
+// The layers at a place in radians, from the maps at the hour and a month file. A month that there is
+// not is refused first.
 #[no_mangle]
 pub extern "C" fn jt_layers_at(
     month: u32,
@@ -151,32 +156,30 @@ pub extern "C" fn jt_layers_at(
     psc_f1: f32,
     psc_f2: f32,
     psc_es: f32,
-    ab: &[f32; 318],
+    ab: &TimeMaps,
     file: &[u8],
     pole_lat: f32,
     pole_lon: f32,
     lat: f32,
     lon: f32,
 ) -> Layers
-    ensures { λ r. ⌜ r ≡ layersAs (layersAtOf (layerInputs month ssn gmt «psc_e» «psc_f1» «psc_f2» «psc_es») (now (ab .entry)) (now (file .entry)) (poleAt «pole_lat» «pole_lon») (radians lat) (radians lon)) ⌝ }
+    ensures { λ r. ⌜ (
+        let i = layerInputs month ssn gmt «psc_e» «psc_f1» «psc_f2» «psc_es» in
+        let pole = poleOf «pole_lat» «pole_lon» in
+        r ≡ layersAs (layersAtOf i (now (ab .entry)) (now (file .entry)) pole (radians lat) (radians lon))
+        ) ⌝ }
 {
-    let psc = Factors {
-        e: psc_e,
-        f1: psc_f1,
-        f2: psc_f2,
-        es: psc_es,
-    };
     let inputs = LayerInputs {
         month,
         ssn,
         gmt,
-        psc,
+        psc: factors(psc_e, psc_f1, psc_f2, psc_es),
     };
     layers_as(ionosphere::layer_parameters_at(
         inputs,
         ab,
         file,
-        pole_at(pole_lat, pole_lon),
+        pole(pole_lat, pole_lon),
         Radians(lat),
         Radians(lon),
     ))

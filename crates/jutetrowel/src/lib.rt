@@ -3,6 +3,7 @@
 pub mod answers;
 pub mod clocks;
 pub mod desks;
+mod fields;
 pub mod files;
 pub mod layers;
 pub mod numbers;

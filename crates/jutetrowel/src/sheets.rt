@@ -1,22 +1,23 @@
-// The figures of `maps::figures`, and a whole sheet as the program `sheet` gives it.
+// The figures of a sheet by its fields, and a whole sheet as the program `sheet` gives it.
 use crate::answers::Showing;
 use crate::answers::shown_as;
-use base::angle::Degrees;
-use base::constants::MagneticPole;
-use maps::figures;
-use maps::figures::Factors;
-use maps::figures::Inputs;
-use maps::figures::Route;
-use maps::figures::Shown;
-use worksheet::desks::Opened;
-use worksheet::opening::opened;
+use crate::fields::factors;
+use crate::fields::pole;
+use crate::fields::route;
+use maps::inputs::Inputs;
+use worksheet::desks::opened;
+use worksheet::showing::drawn;
 use worksheet::showing::show;
 ghost use mathlib.Core.Path.{_≡_};
-ghost use Rattle.maps.specs.Figures.{shownOf, bufferAfter};
+ghost use Rattle.worksheet.specs.Desks.{openedOf};
+ghost use Rattle.worksheet.specs.Showing.{pair, drawnOf, drawnBuffer};
+ghost use Rattle.worksheet.specs.Journal.{show as showing, step};
 ghost use Rattle.jutetrowel.specs.Answers.{showingOf};
-ghost use Rattle.jutetrowel.specs.Sheets.{inputsOf, sheetOf, sheetBuffer};
+ghost use Rattle.jutetrowel.specs.Fields.{inputsOf};
+ghost use Rattle.jutetrowel.specs.Calls.{Shows};
 
-// The figures of a sheet, its fields one by one; a flag that is not 0 is the long way round.
+// The figures of a sheet, its fields one by one. Nothing judges them: a flag that is not 0 is the long
+// way round.
 #[no_mangle]
 pub extern "C" fn jt_figures(
     month: u32,
@@ -37,45 +38,34 @@ pub extern "C" fn jt_figures(
     file: &[u8],
     out: &mut [f32],
 ) -> Showing
-    ensures { λ r. ⌜ (let i = inputsOf month ssn gmt tlat tlong rlat rlong «long_path» «psc_e» «psc_f1» «psc_f2» «psc_es» «pole_lat» «pole_lon» in (r ≡ showingOf (shownOf (now (f2 .entry)) (now (file .entry)) i (now (out .entry)))) × (now (out .exit) ≡ bufferAfter (now (f2 .entry)) (now (file .entry)) i (now (out .entry)))) ⌝ }
+    ensures { λ r. ⌜ (
+        let i = inputsOf month ssn gmt tlat tlong rlat rlong «long_path»
+        «psc_e» «psc_f1» «psc_f2» «psc_es» «pole_lat» «pole_lon» in
+        let files = pair (now (f2 .entry)) (now (file .entry)) i in
+        (r ≡ showingOf (drawnOf files i (now (out .entry))))
+        × (now (out .exit) ≡ drawnBuffer files i (now (out .entry)))
+        ) ⌝ }
 {
-    let route = Route {
-        tlat: Degrees(tlat),
-        tlong: Degrees(tlong),
-        rlat: Degrees(rlat),
-        rlong: Degrees(rlong),
-        long_path: long_path != 0,
-    };
-    let psc = Factors {
-        e: psc_e,
-        f1: psc_f1,
-        f2: psc_f2,
-        es: psc_es,
-    };
-    let pole = MagneticPole {
-        lat: Degrees(pole_lat),
-        lon: Degrees(pole_lon),
-    };
     let i = Inputs {
         month,
         ssn,
         gmt,
-        route,
-        psc,
-        pole,
+        route: route(tlat, tlong, rlat, rlong, long_path),
+        psc: factors(psc_e, psc_f1, psc_f2, psc_es),
+        pole: pole(pole_lat, pole_lon),
     };
-    shown_as(figures::figures(i, f2, file, out))
+    shown_as(drawn(i, f2, file, out))
 }
 
 // A whole sheet: 14 little-endian words, an F2 record and a month file, as the program `sheet` reads
-// them.
+// them. A showing judges the fields that an open does, so it gives a refused open's refusal.
 #[no_mangle]
 pub extern "C" fn jt_sheet(words: &[u8], f2: &[u8], file: &[u8], out: &mut [f32]) -> Showing
-    ensures { λ r. ⌜ (r ≡ showingOf (sheetOf (now (words .entry)) (now (f2 .entry)) (now (file .entry)) (now (out .entry)))) × (now (out .exit) ≡ sheetBuffer (now (words .entry)) (now (f2 .entry)) (now (file .entry)) (now (out .entry))) ⌝ }
+    ensures { λ r. ⌜ Shows (step (pair (now (f2 .entry)) (now (file .entry)))
+        (showing 0 (now (out .entry))) (openedOf (now (words .entry)) .sheet) .answer)
+        r (now (out .exit)) ⌝ }
 {
-    let sheet = opened(words);
-    match sheet {
-        Opened::Sheet(w) => shown_as(show(w, 0, f2, file, out)),
-        Opened::Refused(why) => shown_as(Shown::Refused(why)),
-    }
+    let new = opened(words);
+    let w = new.sheet;
+    shown_as(show(w, 0, f2, file, out))
 }

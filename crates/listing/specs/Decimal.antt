@@ -1,20 +1,14 @@
--- Numbers in decimal digits. Assumes nothing.
-use Prim.Native.Nat.{ℕ, _+_, _/_, _%_, _^_}
-use mathlib.Core.Bool.{Bool, true, cond}
-use mathlib.Core.List.{List, [], _∷_}
-use lib.Dec.{eqb, ltb}
+-- A float in decimal digits for a person to read, from its exact value. Assumes nothing.
+use Prim.Native.Nat.{ℕ, _+_, _-_, _*_, _/_, _^_}
+use mathlib.Core.Bool.{Bool, cond}
+use mathlib.Core.List.{List, [], _∷_, _++_}
+use lib.Dec.{ltb}
+use lib.Ieee.{Float, nan, inf, fin, up, down, size}
+use Rattle.listing.specs.Text.{ascii, digitOf, hasDigit, decimalOf}
 
--- n / 2 ^ s to the nearest whole number, half way to the next
-unfoldable pub halvedOf : ℕ → ℕ → ℕ
-halvedOf n s = (n + 2 ^ s / 2) / 2 ^ s
-
--- the digit of n for 10 ^ k, in ASCII
-unfoldable pub digitOf : ℕ → ℕ → ℕ
-digitOf n k = 48 + n / 10 ^ k % 10
-
--- whether the whole number n is written with a digit for 10 ^ k: its lowest is always there
-unfoldable pub hasDigit : ℕ → ℕ → Bool
-hasDigit n k = cond (eqb k 0) true (ltb 0 (n / 10 ^ k))
+-- n / d to the nearest whole number, half way up: n / d + 1 / 2 without its fraction
+unfoldable pub nearestOf : ℕ → ℕ → ℕ
+nearestOf n d = (2 * n + d) / (2 * d)
 
 -- a minus sign or a blank
 unfoldable pub signOf : Bool → ℕ
@@ -45,3 +39,28 @@ textOf m negative =
     ∷ digitOf m 1
     ∷ digitOf m 0
     ∷ []
+
+-- a minus sign or nothing
+unfoldable pub minusOf : Bool → List ℕ
+minusOf negative = cond negative (ascii "-") []
+
+-- q * 2 ^ k, as `8388608*2^1`
+unfoldable pub scaledText : Bool → ℕ → ℕ → List ℕ
+scaledText negative q k = minusOf negative ++ (decimalOf q ++ (ascii "*2^" ++ decimalOf k))
+
+-- a whole number of 24 binary digits or more: its 24 highest digits, and a power of two for the others
+unfoldable pub largeText : Bool → ℕ → List ℕ
+largeText negative n =
+    let k = size n - 24 in
+    scaledText negative (n / 2 ^ k) k
+
+-- a / c: six digits after the point, or from 2 ^ 24 on the whole number
+unfoldable pub sizedText : Bool → ℕ → ℕ → List ℕ
+sizedText negative a c =
+    cond (ltb a (2 ^ 24 * c)) (textOf (nearestOf (a * 10 ^ 6) c) negative) (largeText negative (a / c))
+
+-- the finite number is m * 2 ^ e, which is m * up e / down e
+unfoldable pub decimalText : Float → List ℕ
+decimalText nan = ascii "             nan"
+decimalText (inf negative) = cond negative (ascii "            -inf") (ascii "             inf")
+decimalText (fin negative m e) = sizedText negative (m * up e) (down e)

@@ -1,4 +1,8 @@
 -- The definitions that the contracts of `listing` cite. Assumes nothing.
 pub mod Answer
 pub mod Calls
+pub mod Turn
+pub mod Sheet
 pub mod Decimal
+pub mod Page
+pub mod Text

@@ -1,45 +1,19 @@
-// Answers as text on standard output.
+// Answers as text: each function writes one into a lent buffer and gives its length.
+use crate::text::put;
+use crate::text::put_number;
 use base::number;
 use base::refusal::Refusal;
 use base::refusal::Verdict;
-use libc::STDOUT_FILENO;
+use maps::figures::Shown;
 ghost use mathlib.Core.Path.{_≡_};
-ghost use Prim.Native.Nat.{ℕ, _≤_};
-ghost use lib.ListN.{length, getD};
-ghost use Rattle.base.specs.Fill.{fill};
-ghost use Rattle.listing.specs.Answer.{glyphOf, lineOf, linesOf};
+ghost use Prim.Native.Nat.{_+_, _≤_};
+ghost use lib.ListN.{length, take};
+ghost use Rattle.io.specs.Counts.{Counts};
+ghost use Rattle.listing.specs.Text.{Put};
+ghost use Rattle.listing.specs.Answer.{glyphOf, hexOf, lineOf, linesOf, refusalText, verdictText, pointsText, shownText, sheetText, stoppedText};
 
-pub fn print(text: &[u8]) {
-    io::write_all(STDOUT_FILENO, text);
-}
-
-pub fn print_number(n: u32) {
-    io::print_decimal(STDOUT_FILENO, n as u64);
-}
-
-// The line `refused`, number, place.
-pub fn print_refusal(why: Refusal) {
-    print(b"refused ");
-    print_number(why.number());
-    print(b" ");
-    print_number(why.place());
-    print(b"\n");
-}
-
-// The line of a call that shows nothing.
-pub fn print_verdict(v: Verdict) {
-    match v {
-        Verdict::Accepted => print(b"accepted\n"),
-        Verdict::Refused(why) => print_refusal(why),
-    }
-}
-
-// The line `points`, number.
-pub fn print_points(count: u32) {
-    print(b"points ");
-    print_number(count);
-    print(b"\n");
-}
+// The bytes of the longest answer: `points`, a number of ten digits, and 151 lines of nine bytes.
+pub const ANSWER: usize = 1377;
 
 // The hexadecimal digit of d, of its last one where d has more.
 pub fn glyph(d: u32) -> u8
@@ -49,9 +23,9 @@ pub fn glyph(d: u32) -> u8
     if d < 10 { 48 + d as u8 } else { 87 + d as u8 }
 }
 
-// The line of a word: its eight hexadecimal digits, the highest first.
-fn line(w: u32) -> [u8; 9]
-    ensures { λ r. ⌜ r ≡ lineOf w ⌝ }
+// A word's eight hexadecimal digits, the highest first.
+pub(crate) fn hex(w: u32) -> [u8; 8]
+    ensures { λ r. ⌜ r ≡ hexOf w ⌝ }
 {
     [
         glyph(w / 0x1000_0000),
@@ -62,38 +36,94 @@ fn line(w: u32) -> [u8; 9]
         glyph(w / 0x100),
         glyph(w / 0x10),
         glyph(w),
-        b'\n',
     ]
 }
 
-// Puts a line into the text, from `at` on.
-fn put(text: &mut [u8; 1359], at: usize, line: &[u8; 9])
-    requires { ⌜ at ≤ 1350 ⌝ }
-    ensures { λ _. ⌜ now (text .exit) ≡ fill (λ (i : ℕ). getD (now (line .entry)) i 0) at (now (text .entry)) 9 ⌝ }
+// The line of a figure: its bits in hexadecimal digits, 7fc00000 for any NaN.
+fn put_line(out: &mut [u8], at: usize, x: f32) -> usize
+    requires { ⌜ at + length (lineOf x) ≤ length (now out) ⌝ }
+    ensures { λ r. ⌜ Put (now (out .entry)) at (lineOf x) (now (out .exit)) r ⌝ }
 {
-    let mut i: usize = 0;
-    while i < 9 {
-        text[at + i] = line[i];
-        i += 1;
-    }
+    let digits = hex(number::bits32(x));
+    let next = put(out, at, &digits);
+    put(out, next, b"\n")
 }
 
-// A line for each figure: its bits in eight hexadecimal digits, 7fc00000 for any NaN.
-fn lines(figures: &[f32]) -> [u8; 1359]
-    requires { ⌜ length (now figures) ≡ 151 ⌝ }
-    ensures { λ r. ⌜ r ≡ linesOf (now (figures .entry)) ⌝ }
+fn put_lines(out: &mut [u8], at: usize, figures: &[f32]) -> usize
+    requires { ⌜ at + length (linesOf (now figures)) ≤ length (now out) ⌝ }
+    ensures { λ r. ⌜ Put (now (out .entry)) at (linesOf (now (figures .entry))) (now (out .exit)) r ⌝ }
 {
-    let mut text = [0u8; 1359];
+    let mut next = at;
     let mut k: usize = 0;
-    while k < 151 {
-        let next = line(number::bits32(figures[k]));
-        put(&mut text, 9 * k, &next);
+    while k < figures.len() {
+        next = put_line(out, next, figures[k]);
         k += 1;
     }
-    text
+    next
 }
 
-pub fn print_figures(figures: &[f32; 151]) {
-    let text = lines(figures);
-    print(&text);
+// The line `refused`, number, place.
+pub fn refusal_text(why: Refusal, out: &mut [u8; ANSWER]) -> usize
+    ensures { λ r. ⌜ take r (now (out .exit)) ≡ refusalText why ⌝ }
+    ensures { λ r. ⌜ Counts r (now (out .exit)) ⌝ }
+{
+    let next = put(out, 0, b"refused ");
+    let next = put_number(out, next, why.number() as u64);
+    let next = put(out, next, b" ");
+    let next = put_number(out, next, why.place() as u64);
+    put(out, next, b"\n")
+}
+
+// The line of a call that shows nothing.
+pub fn verdict_text(v: Verdict, out: &mut [u8; ANSWER]) -> usize
+    ensures { λ r. ⌜ take r (now (out .exit)) ≡ verdictText v ⌝ }
+    ensures { λ r. ⌜ Counts r (now (out .exit)) ⌝ }
+{
+    match v {
+        Verdict::Accepted => put(out, 0, b"accepted\n"),
+        Verdict::Refused(why) => refusal_text(why, out),
+    }
+}
+
+// The line `points`, number, and the lines of the figures.
+fn points_text(count: u32, figures: &[f32; 151], out: &mut [u8; ANSWER]) -> usize
+    ensures { λ r. ⌜ take r (now (out .exit)) ≡ pointsText count (now (figures .entry)) ⌝ }
+    ensures { λ r. ⌜ Counts r (now (out .exit)) ⌝ }
+{
+    let next = put(out, 0, b"points ");
+    let next = put_number(out, next, count as u64);
+    let next = put(out, next, b"\n");
+    put_lines(out, next, figures)
+}
+
+// What a showing in a journal answers.
+pub fn shown_text(s: Shown, figures: &[f32; 151], out: &mut [u8; ANSWER]) -> usize
+    ensures { λ r. ⌜ take r (now (out .exit)) ≡ shownText s (now (figures .entry)) ⌝ }
+    ensures { λ r. ⌜ Counts r (now (out .exit)) ⌝ }
+{
+    match s {
+        Shown::Points(count) => points_text(count, figures, out),
+        Shown::Refused(why) => refusal_text(why, out),
+    }
+}
+
+// What a sheet by itself answers: the lines alone, or the refusal.
+pub fn sheet_text(s: Shown, figures: &[f32; 151], out: &mut [u8; ANSWER]) -> usize
+    ensures { λ r. ⌜ take r (now (out .exit)) ≡ sheetText s (now (figures .entry)) ⌝ }
+    ensures { λ r. ⌜ Counts r (now (out .exit)) ⌝ }
+{
+    match s {
+        Shown::Points(_) => put_lines(out, 0, figures),
+        Shown::Refused(why) => refusal_text(why, out),
+    }
+}
+
+// The line where bytes make no call, with the place of the first of them.
+pub fn stopped_text(at: u64, out: &mut [u8; ANSWER]) -> usize
+    ensures { λ r. ⌜ take r (now (out .exit)) ≡ stoppedText at ⌝ }
+    ensures { λ r. ⌜ Counts r (now (out .exit)) ⌝ }
+{
+    let next = put(out, 0, b"stopped at ");
+    let next = put_number(out, next, at);
+    put(out, next, b"\n")
 }

@@ -1,41 +1,23 @@
 // A call as a run of little-endian words: the operation's number, the desk (take-back has none) and
 // the numbers of a change.
 use base::angle::Degrees;
-use base::coefficients::float;
-use base::coefficients::word;
-use base::constants::MagneticPole;
-use maps::figures::Factors;
-use maps::figures::Route;
-use worksheet::desks;
-use worksheet::desks::Outcome;
-use worksheet::desks::Worksheet;
+use base::words::float;
+use base::words::word;
+use maps::inputs::Factors;
+use maps::inputs::MagneticPole;
+use maps::inputs::Route;
 use worksheet::inputs::Edit;
+use worksheet::journal::Call;
 ghost use mathlib.Core.Path.{_≡_};
 ghost use Prim.Native.Nat.{_≤_};
-ghost use Rattle.listing.specs.Calls.{pathEdit, pscEdit, poleEdit, changeIn, pathCall, sizeOf, callIn, movedBy};
+ghost use Rattle.listing.specs.Calls.{pathEdit, pscEdit, poleEdit, changeIn, sizeOf, callIn};
 
-pub enum Move {
-    Begin(u32),
-    Change(u32, Edit),
-    Commit(u32),
-    Cancel(u32),
-    TakeBack,
-}
-
-pub enum Call {
+pub enum Read {
     // The input has ended.
     End,
-    // An unknown operation, a flag that is neither 0 nor 1, or a call cut short.
+    // An unknown operation, or a call cut short.
     Bad,
-    Move(Move),
-    // 0 is the worksheet.
-    Show(u32),
-}
-
-// A call and its size in bytes.
-pub struct Next {
-    pub call: Call,
-    pub size: usize,
+    Call(Call),
 }
 
 // By the operation's number, of which 0 is none.
@@ -59,7 +41,7 @@ fn path_in(s: &[u8]) -> Edit
         tlong: Degrees(float(s, 8)),
         rlat: Degrees(float(s, 12)),
         rlong: Degrees(float(s, 16)),
-        long_path: word(s, 20) == 1,
+        long_path: word(s, 20),
     })
 }
 
@@ -83,50 +65,27 @@ fn pole_in(s: &[u8]) -> Edit
     })
 }
 
-fn change_in(s: &[u8], e: Edit) -> Call
+fn change_in(s: &[u8], e: Edit) -> Read
     ensures { λ r. ⌜ r ≡ changeIn (now (s .entry)) e ⌝ }
 {
-    Call::Move(Move::Change(word(s, 0), e))
-}
-
-// A path's flag is 0 or 1.
-fn path_call(s: &[u8]) -> Call
-    ensures { λ r. ⌜ r ≡ pathCall (now (s .entry)) ⌝ }
-{
-    if word(s, 20) > 1 {
-        return Call::Bad;
-    }
-    change_in(s, path_in(s))
+    Read::Call(Call::Change(word(s, 0), e))
 }
 
 // The call of an operation, from the bytes after its word.
-pub fn call_in(operation: u32, s: &[u8]) -> Call
+pub fn call_in(operation: u32, s: &[u8]) -> Read
     ensures { λ r. ⌜ r ≡ callIn operation (now (s .entry)) ⌝ }
 {
     match operation {
-        1 => Call::Move(Move::Begin(word(s, 0))),
+        1 => Read::Call(Call::Begin(word(s, 0))),
         2 => change_in(s, Edit::Sunspot(float(s, 4))),
         3 => change_in(s, Edit::Hour(float(s, 4))),
-        4 => path_call(s),
+        4 => change_in(s, path_in(s)),
         5 => change_in(s, psc_in(s)),
         6 => change_in(s, pole_in(s)),
-        7 => Call::Move(Move::Commit(word(s, 0))),
-        8 => Call::Move(Move::Cancel(word(s, 0))),
-        9 => Call::Move(Move::TakeBack),
-        10 => Call::Show(word(s, 0)),
-        _ => Call::Bad,
-    }
-}
-
-// What a call that shows nothing answers and leaves.
-pub fn moved(w: Worksheet, m: Move) -> Outcome
-    ensures { λ r. ⌜ r ≡ movedBy w m ⌝ }
-{
-    match m {
-        Move::Begin(desk) => desks::begin(w, desk),
-        Move::Change(desk, e) => desks::change(w, desk, e),
-        Move::Commit(desk) => desks::commit(w, desk),
-        Move::Cancel(desk) => desks::cancel(w, desk),
-        Move::TakeBack => desks::take_back(w),
+        7 => Read::Call(Call::Commit(word(s, 0))),
+        8 => Read::Call(Call::Cancel(word(s, 0))),
+        9 => Read::Call(Call::TakeBack),
+        10 => Read::Call(Call::Show(word(s, 0))),
+        _ => Read::Bad,
     }
 }

@@ -1,49 +1,26 @@
 // An f32 in decimal digits, six of them after the point, for a person to read.
-use crate::answer::print;
-use crate::answer::print_number;
+use crate::text::digit;
+use crate::text::divided;
+use crate::text::has_digit;
+use crate::text::put;
+use crate::text::put_number;
 use base::number;
 ghost use mathlib.Core.Path.{_≡_};
-ghost use Prim.Native.Nat.{_/_, _^_, _≤_, _<_};
-ghost use Rattle.listing.specs.Decimal.{halvedOf, digitOf, hasDigit, signOf, leadingOf, textOf};
-
-// n / b^k, without its fraction.
-fn divided(n: u64, b: u64, k: u32) -> u64
-    requires { ⌜ 0 < b ⌝ }
-    ensures { λ r. ⌜ r ≡ n / b ^ k ⌝ }
-{
-    let mut n = n;
-    let mut left = k;
-    while left > 0 {
-        n /= b;
-        left -= 1;
-    }
-    n
-}
+ghost use Prim.Native.Nat.{_+_, _^_, _≤_, _<_};
+ghost use lib.ListN.{length};
+ghost use lib.Ieee.{binary32, ofFields};
+ghost use Rattle.listing.specs.Text.{Put};
+ghost use Rattle.listing.specs.Decimal.{nearestOf, signOf, leadingOf, textOf, minusOf, scaledText, decimalText};
 
 // n / 2^s, to the nearest whole number.
 fn halved(n: u64, s: u32) -> u64
-    ensures { λ r. ⌜ r ≡ halvedOf n s ⌝ }
+    ensures { λ r. ⌜ r ≡ nearestOf n (2 ^ s) ⌝ }
 {
     if s == 0 {
         return n;
     }
     let twice = divided(n, 2, s - 1);
     twice / 2 + twice % 2
-}
-
-fn digit(n: u64, k: u32) -> u8
-    ensures { λ r. ⌜ r ≡ digitOf n k ⌝ }
-{
-    48 + (divided(n, 10, k) % 10) as u8
-}
-
-fn has_digit(n: u64, k: u32) -> bool
-    ensures { λ r. ⌜ r ≡ hasDigit n k ⌝ }
-{
-    if k == 0 {
-        return true;
-    }
-    divided(n, 10, k) > 0
 }
 
 fn sign(negative: bool) -> u8
@@ -92,50 +69,78 @@ fn text_of(millionths: u64, negative: bool) -> [u8; 16]
     ]
 }
 
-// A number of 2^24 or more in size is a whole number: its 24 bits times a power of two.
-fn print_large(negative: bool, exponent: u32, fraction: u32)
-    requires { ⌜ 150 < exponent ⌝ }
-    requires { ⌜ fraction < 8388608 ⌝ }
-{
-    if negative {
-        print(b"-");
-    }
-    print_number(8388608 + fraction);
-    print(b"*2^");
-    print_number(exponent - 150);
-}
-
-fn print_small(negative: bool, exponent: u32, fraction: u32)
+// Of a number below 2^24 in size: its fraction's bits count 2^-149, or with the leading one more as
+// the exponent has it.
+fn small(negative: bool, exponent: u32, fraction: u32) -> [u8; 16]
     requires { ⌜ exponent ≤ 150 ⌝ }
     requires { ⌜ fraction < 8388608 ⌝ }
+    ensures { λ r. ⌜ r ≡ decimalText (ofFields binary32 negative exponent fraction) ⌝ }
 {
-    let millionths = if exponent == 0 {
-        halved((fraction as u64) * 1000000, 149)
-    } else {
-        halved((8388608 + fraction as u64) * 1000000, 150 - exponent)
-    };
-    let text = text_of(millionths, negative);
-    print(&text);
+    if exponent == 0 {
+        return text_of(halved((fraction as u64) * 1000000, 149), negative);
+    }
+    text_of(
+        halved((8388608 + fraction as u64) * 1000000, 150 - exponent),
+        negative,
+    )
 }
 
-// The number whose bits these are, from the sign, the exponent and the fraction.
-fn print_parts(negative: bool, exponent: u32, fraction: u32)
+fn put_sign(out: &mut [u8], at: usize, negative: bool) -> usize
+    requires { ⌜ at < length (now out) ⌝ }
+    ensures { λ r. ⌜ Put (now (out .entry)) at (minusOf negative) (now (out .exit)) r ⌝ }
+{
+    if negative {
+        return put(out, at, b"-");
+    }
+    at
+}
+
+// A number of 2^24 or more in size is a whole number: its 24 bits times a power of two.
+fn put_scaled(out: &mut [u8], at: usize, negative: bool, q: u32, k: u32) -> usize
+    requires { ⌜ at + 44 ≤ length (now out) ⌝ }
+    ensures { λ r. ⌜ Put (now (out .entry)) at (scaledText negative q k) (now (out .exit)) r ⌝ }
+{
+    let next = put_sign(out, at, negative);
+    let next = put_number(out, next, q as u64);
+    let next = put(out, next, b"*2^");
+    put_number(out, next, k as u64)
+}
+
+// The number whose bits these are: the sign, the exponent and the fraction.
+fn put_parts(out: &mut [u8], at: usize, negative: bool, exponent: u32, fraction: u32) -> usize
+    requires { ⌜ exponent ≤ 255 ⌝ }
     requires { ⌜ fraction < 8388608 ⌝ }
+    requires { ⌜ at + 44 ≤ length (now out) ⌝ }
+    ensures { λ r. ⌜ Put (now (out .entry)) at
+        (decimalText (ofFields binary32 negative exponent fraction)) (now (out .exit)) r ⌝ }
 {
     if exponent <= 150 {
-        print_small(negative, exponent, fraction);
-    } else if exponent < 255 {
-        print_large(negative, exponent, fraction);
-    } else if fraction > 0 {
-        print(b"             nan");
-    } else if negative {
-        print(b"            -inf");
-    } else {
-        print(b"             inf");
+        let text = small(negative, exponent, fraction);
+        return put(out, at, &text);
     }
+    if exponent < 255 {
+        return put_scaled(out, at, negative, 8388608 + fraction, exponent - 150);
+    }
+    if fraction > 0 {
+        return put(out, at, b"             nan");
+    }
+    if negative {
+        return put(out, at, b"            -inf");
+    }
+    put(out, at, b"             inf")
 }
 
-pub fn print_float(x: f32) {
+// A float, in 16 bytes but for the largest.
+pub(crate) fn put_float(out: &mut [u8], at: usize, x: f32) -> usize
+    requires { ⌜ at + 44 ≤ length (now out) ⌝ }
+    ensures { λ r. ⌜ Put (now (out .entry)) at (decimalText x) (now (out .exit)) r ⌝ }
+{
     let w = number::bits32(x);
-    print_parts(w >= 0x8000_0000, w / 8388608 % 256, w % 8388608);
+    put_parts(
+        out,
+        at,
+        w >= 0x8000_0000,
+        w % 0x8000_0000 / 0x80_0000,
+        w % 0x80_0000,
+    )
 }

@@ -3,3 +3,6 @@ pub mod answer;
 pub mod call;
 pub mod decimal;
 pub mod page;
+pub mod sheet;
+mod text;
+pub mod turn;

@@ -11,17 +11,19 @@ use lib.Ieee.{Float, nan}
 use Rattle.base.specs.declared.refusal.Refusal.{Refusal}
 use Rattle.base.specs.declared.refusal.Verdict.{Verdict}
 use Rattle.base.specs.declared.refusal.Verdict.the-variants.{Accepted, Refused}
+use Rattle.base.specs.Refusal.{writtenOver}
 use Rattle.base.specs.Single.{decimal}
-use Rattle.maps.specs.declared.figures.Inputs.{Inputs}
-use Rattle.maps.specs.declared.figures.Route.{Route}
+use Rattle.base.specs.Files.{filesCheck}
+use Rattle.maps.specs.declared.inputs.Inputs.{Inputs}
+use Rattle.maps.specs.declared.inputs.Route.{Route}
 use Rattle.maps.specs.declared.figures.Shown.the-variants.{Points, Refused as NotShown}
-use Rattle.base.specs.declared.constants.MagneticPole.{MagneticPole}
+use Rattle.maps.specs.declared.inputs.MagneticPole.{MagneticPole}
 use Rattle.maps.specs.declared.geometry.ControlPoint.{ControlPoint}
 use Rattle.maps.specs.declared.geometry.PathGeometry.{PathGeometry}
+use Rattle.maps.specs.Inputs.{isLong}
 use Rattle.maps.specs.Geometry.{pathOf, nowhere}
 use Rattle.maps.specs.Layers.{monthlyOf, groundOf}
-use Rattle.maps.specs.Ionosphere.{writtenOver}
-use Rattle.maps.specs.Figures.{figuresCheck, Hour, hourOf, headOf, numbersOf, pointRow, rowAt, figuresTo, routeOf, figuresOf, answerOf, shownOf, bufferAfter}
+use Rattle.maps.specs.Figures.{Hour, hourFrom, hourOf, headOf, numbersOf, pointRow, rowAt, figuresTo, routeOf, figuresOf, answerOf, shownOf, bufferAfter}
 
 -- ---- 151 of them
 
@@ -47,37 +49,31 @@ module _ (f2 file : List ℕ) (i : Inputs) where
 
   -- ---- from nothing else
 
-  -- the answer takes of the buffer its length only
-  pub same-answer : (b c : List Float) → length b ≡ length c → shownOf f2 file i b ≡ shownOf f2 file i c
-  unfolding shownOf
-  same-answer b c e = ap (λ (n : ℕ). answerOf (figuresCheck f2 file n) (routeOf i .count)) e
-
   -- accepted, every number is one of the figures, whatever the buffer held
-  pub all-written : (b : List Float) → figuresCheck f2 file (length b) ≡ Accepted → bufferAfter f2 file i b ≡ figuresOf f2 file i
+  pub all-written : (b : List Float) → filesCheck f2 file ≡ Accepted → bufferAfter f2 file i b ≡ figuresOf f2 file i
   unfolding bufferAfter
   all-written b e = ap (λ (v : Verdict). writtenOver v (figuresOf f2 file i) b) e
 
-  pub same-figures :
-      (b c : List Float) → length b ≡ length c → figuresCheck f2 file (length b) ≡ Accepted → bufferAfter f2 file i b ≡ bufferAfter f2 file i c
-  same-figures b c e a = all-written b a ∙ sym (all-written c (ap (figuresCheck f2 file) (sym e) ∙ a))
+  pub same-figures : (b c : List Float) → filesCheck f2 file ≡ Accepted → bufferAfter f2 file i b ≡ bufferAfter f2 file i c
+  same-figures b c a = all-written b a ∙ sym (all-written c a)
 
   -- refused, none
-  pub none-written : (b : List Float) (why : Refusal) → figuresCheck f2 file (length b) ≡ Refused why → bufferAfter f2 file i b ≡ b
+  pub none-written : (b : List Float) (why : Refusal) → filesCheck f2 file ≡ Refused why → bufferAfter f2 file i b ≡ b
   unfolding bufferAfter
   none-written b why e = ap (λ (v : Verdict). writtenOver v (figuresOf f2 file i) b) e
 
   -- the same by the answer: a count is the path's, with every figure in the buffer; a refusal leaves the buffer
-  pub counted-written : (b : List Float) (count : ℕ) → shownOf f2 file i b ≡ Points count → (count ≡ routeOf i .count) × (bufferAfter f2 file i b ≡ figuresOf f2 file i)
+  pub counted-written : (b : List Float) (count : ℕ) → shownOf f2 file i ≡ Points count → (count ≡ routeOf i .count) × (bufferAfter f2 file i b ≡ figuresOf f2 file i)
   unfolding shownOf bufferAfter
-  counted-written b count h = go (figuresCheck f2 file (length b)) h
+  counted-written b count h = go (filesCheck f2 file) h
     where
       go : (v : Verdict) → answerOf v (routeOf i .count) ≡ Points count → (count ≡ routeOf i .count) × (writtenOver v (figuresOf f2 file i) b ≡ figuresOf f2 file i)
       go Accepted e = (cc, refl)
       go (Refused why) e = let z : _≡_ {A = ℕ} 0 1 = cc in absurd (omega arith)
 
-  pub refused-left : (b : List Float) (why : Refusal) → shownOf f2 file i b ≡ NotShown why → bufferAfter f2 file i b ≡ b
+  pub refused-left : (b : List Float) (why : Refusal) → shownOf f2 file i ≡ NotShown why → bufferAfter f2 file i b ≡ b
   unfolding shownOf bufferAfter
-  refused-left b why h = go (figuresCheck f2 file (length b)) h
+  refused-left b why h = go (filesCheck f2 file) h
     where
       go : (v : Verdict) → answerOf v (routeOf i .count) ≡ NotShown why → writtenOver v (figuresOf f2 file i) b ≡ b
       go Accepted e = let z : _≡_ {A = ℕ} 0 1 = cc in absurd (omega arith)
@@ -104,15 +100,15 @@ placed-same h k i j g p f = go (ltb p (g .count))
 
 point-placed : (f2 f2' file : List ℕ) (i j : Inputs) (pt : ControlPoint) →
     placed (pointRow (hourOf f2 file i) i pt) ≡ placed (pointRow (hourOf f2' file j) j pt)
-unfolding pointRow numbersOf hourOf groundOf monthlyOf
+unfolding pointRow numbersOf hourOf hourFrom groundOf monthlyOf
 point-placed f2 f2' file i j pt = refl
 
 module _ (f2 f2' file : List ℕ) (i j : Inputs) (same-route : i .route ≡ j .route) (same-pole : i .pole ≡ j .pole) where
   same-path : routeOf i ≡ routeOf j
   unfolding routeOf
   same-path =
-      ap (λ (r : Route). pathOf (r .tlat) (r .tlong) (r .rlat) (r .rlong) (r .«long_path») (i .pole)) same-route
-      ∙ ap (λ (p : MagneticPole). pathOf (j .route .tlat) (j .route .tlong) (j .route .rlat) (j .route .rlong) (j .route .«long_path») p) same-pole
+      ap (λ (r : Route). pathOf (r .tlat) (r .tlong) (r .rlat) (r .rlong) (isLong (r .«long_path»)) (i .pole)) same-route
+      ∙ ap (λ (p : MagneticPole). pathOf (j .route .tlat) (j .route .tlong) (j .route .rlat) (j .route .rlong) (isLong (j .route .«long_path»)) p) same-pole
 
   -- the six figures of the path
   pub same-head : headOf (routeOf i) ≡ headOf (routeOf j)

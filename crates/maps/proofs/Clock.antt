@@ -22,7 +22,7 @@ use Rattle.base.proofs.Monotone.{rounds-mono, sub-rounds, sub-mono, div-right}
 use Rattle.base.proofs.Intervals.{exactly, add-in, sub-in, mul-about}
 use Rattle.maps.specs.declared.geometry.ControlPoint.{ControlPoint}
 use Rattle.maps.specs.declared.magnetic.MagneticVars.{MagneticVars}
-use Rattle.maps.specs.declared.figures.Factors.{Factors}
+use Rattle.maps.specs.declared.inputs.Factors.{Factors}
 use Rattle.maps.specs.declared.ionosphere.versy.Gammas.{Gammas}
 use Rattle.maps.specs.declared.ionosphere.layers.Monthly.{Monthly}
 use Rattle.maps.specs.Layers.{clockOf, timvarOf, layersOf}

@@ -5,24 +5,24 @@ use mathlib.Core.Bool.{cond}
 use mathlib.Core.List.{List, [], _∷_}
 use Prim.Native.Nat.{ℕ, _+_, _*_, _≤_}
 use native.Mathlib.Omega.{arith}
-use lib.Dec.{leb, eqb, lit≤}
+use lib.Dec.{leb, lit≤}
 use lib.ListN.{length}
 use lib.Ieee.{Float}
 use borrow.Author.Tests.{le-leb}
-use Rattle.base.specs.declared.refusal.Refusal.the-variants.{Record, Figures}
+use Rattle.base.specs.declared.refusal.Refusal.the-variants.{Record}
 use Rattle.base.specs.declared.refusal.Verdict.{Verdict}
 use Rattle.base.specs.declared.refusal.Verdict.the-variants.{Accepted, Refused}
 use Rattle.base.specs.Single.{_⊕_, _⊗_}
-use Rattle.base.specs.Refusal.{_then_}
+use Rattle.base.specs.Refusal.{_then_, writtenOver}
+use Rattle.base.specs.Files.{fileCheck, filesCheck}
 use Rattle.base.specs.Tables.{placeOf, achi, bchi, anew, bnew, abmap}
 use Rattle.base.specs.Words.{floatAt}
 use Rattle.base.proofs.Later.{Alike, float-alike, file-alike, check-alike, index-alike, cofion-alike, hmym-alike, fakmap-alike}
-use Rattle.maps.specs.declared.figures.Inputs.{Inputs}
+use Rattle.maps.specs.declared.inputs.Inputs.{Inputs}
 use Rattle.maps.specs.declared.ionosphere.layers.Monthly.{Monthly}
 use Rattle.maps.specs.Virtim.{virtimOf}
 use Rattle.maps.specs.Layers.{sunOf, termOf, abmapAt, monthlyOf}
-use Rattle.maps.specs.Ionosphere.{fileCheck, filesCheck, hourMapsOf, writtenOver}
-use Rattle.maps.specs.Figures.{figuresCheck, Hour, hour, hourOf, figuresTo, routeOf, figuresOf, answerOf, shownOf, bufferAfter}
+use Rattle.maps.specs.Figures.{Hour, hour, hourFrom, hourOf, figuresTo, routeOf, figuresOf, answerOf, shownOf, bufferAfter}
 
 module _ (f g s t : List ℕ) (b : Alike 7904 f g) (a : Alike 38552 s t) where
   term-alike : (x y k : ℕ) (ssn : Float) → placeOf x + 4 * k + 4 ≤ 38552 → placeOf y + 4 * k + 4 ≤ 38552 → termOf s x y k ssn ≡ termOf t x y k ssn
@@ -74,7 +74,7 @@ module _ (f g s t : List ℕ) (b : Alike 7904 f g) (a : Alike 38552 s t) where
 
   module _ (x : Inputs) where
     hour-alike : hourOf f s x ≡ hourOf g t x
-    unfolding hourOf hourMapsOf
+    unfolding hourOf hourFrom
     hour-alike =
         let cof = cofion-alike s t a f g b (x .ssn) in
         let index = index-alike 38552 s t a (lit≤ tt) in
@@ -87,15 +87,10 @@ module _ (f g s t : List ℕ) (b : Alike 7904 f g) (a : Alike 38552 s t) where
     unfolding figuresOf
     later-figures = ap (λ (h : Hour). figuresTo h x (routeOf x) 5) hour-alike
 
-    module _ (out : List Float) where
-      check-same : figuresCheck f s (length out) ≡ figuresCheck g t (length out)
-      unfolding figuresCheck
-      check-same = ap (λ (v : Verdict). cond (eqb (length out) 151) v (Refused Figures)) files-alike
+    pub later-answer : shownOf f s x ≡ shownOf g t x
+    unfolding shownOf
+    later-answer = ap (λ (v : Verdict). answerOf v (routeOf x .count)) files-alike
 
-      pub later-answer : shownOf f s x out ≡ shownOf g t x out
-      unfolding shownOf
-      later-answer = ap (λ (v : Verdict). answerOf v (routeOf x .count)) check-same
-
-      pub later-buffer : bufferAfter f s x out ≡ bufferAfter g t x out
-      unfolding bufferAfter
-      later-buffer = let c = check-same in let l = later-figures in λ i. writtenOver (c i) (l i) out
+    pub later-buffer : (out : List Float) → bufferAfter f s x out ≡ bufferAfter g t x out
+    unfolding bufferAfter
+    later-buffer out = let c = files-alike in let l = later-figures in λ i. writtenOver (c i) (l i) out

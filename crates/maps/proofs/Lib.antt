@@ -1,5 +1,6 @@
 -- Laws that belong to no one function. Assumes nothing.
 pub mod Loops
+pub mod Codec
 pub mod SignRules
 pub mod PointCounts
 pub mod PointRows

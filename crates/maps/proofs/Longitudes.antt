@@ -14,7 +14,7 @@ use lib.Ieee.Fits.{round-fits, sub-fits}
 use lib.Ieee.Positive.{positive}
 use lib.ListN.{length, getD}
 use Rattle.base.specs.declared.angle.Degrees.{Degrees}
-use Rattle.base.specs.declared.constants.MagneticPole.{MagneticPole}
+use Rattle.maps.specs.declared.inputs.MagneticPole.{MagneticPole}
 use Rattle.base.specs.Single.{_⊕_, _⊖_, _⊗_, _⊘_, decimal, minusDecimal}
 use Rattle.base.specs.Double.{fraction}
 use Rattle.base.specs.Number.{negative, absOf, narrowOf}

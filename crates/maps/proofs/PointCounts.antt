@@ -6,7 +6,7 @@ use lib.Dec.{T, T-not, not-T}
 use lib.Ieee.{Float, nan, inf, fin, binary32, round, add, neg, sub, mul, lt, le, isNan}
 use lib.Ieee.Bits.{is-false}
 use Rattle.base.specs.declared.angle.Degrees.{Degrees}
-use Rattle.base.specs.declared.constants.MagneticPole.{MagneticPole}
+use Rattle.maps.specs.declared.inputs.MagneticPole.{MagneticPole}
 use Rattle.base.specs.Single.{_⊖_, _⊗_, decimal}
 use Rattle.base.specs.Double.{fraction}
 use Rattle.base.specs.Constants.{PI2, RZ}

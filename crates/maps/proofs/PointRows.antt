@@ -9,7 +9,7 @@ use lib.ListN.{length, getD}
 use lib.Ieee.{Float, nan, lt}
 use Rattle.base.specs.declared.angle.Degrees.{Degrees}
 use Rattle.base.specs.declared.angle.Radians.{Radians}
-use Rattle.base.specs.declared.constants.MagneticPole.{MagneticPole}
+use Rattle.maps.specs.declared.inputs.MagneticPole.{MagneticPole}
 use Rattle.base.specs.Single.{_⊖_, decimal}
 use Rattle.base.specs.Angle.{degreesOf}
 use Rattle.base.proofs.Picks.{cond-true, cond-false}

@@ -7,7 +7,7 @@ use Prim.Native.Nat.{ℕ}
 use lib.Ieee.{Float, lt}
 use Rattle.base.specs.declared.angle.Degrees.{Degrees}
 use Rattle.base.specs.declared.angle.Radians.{Radians}
-use Rattle.base.specs.declared.constants.MagneticPole.{MagneticPole}
+use Rattle.maps.specs.declared.inputs.MagneticPole.{MagneticPole}
 use Rattle.base.specs.Single.{_⊗_, decimal}
 use Rattle.base.specs.Number.{absOf}
 use Rattle.base.specs.Constants.{RZ}

@@ -2,16 +2,17 @@
 use Prim.Native.Nat.{ℕ, zero, suc}
 use mathlib.Core.Bool.{cond}
 use mathlib.Core.List.{List, [], _∷_, _++_}
-use lib.Dec.{eqb, ltb}
-use lib.ListN.{length, getD, replicate}
+use lib.Dec.{ltb}
+use lib.ListN.{getD, replicate}
 use lib.Ieee.{Float, nan}
 use Rattle.base.specs.declared.refusal.Verdict.{Verdict}
 use Rattle.base.specs.declared.refusal.Verdict.the-variants.{Accepted, Refused}
-use Rattle.base.specs.declared.refusal.Refusal.the-variants.{Figures}
+use Rattle.base.specs.Refusal.{writtenOver}
 use Rattle.base.specs.Single.{decimal}
 use Rattle.base.specs.Index.{indexOf}
-use Rattle.base.specs.Blend.{hmymOf, fakmapOf}
-use Rattle.maps.specs.declared.figures.Inputs.{Inputs}
+use Rattle.base.specs.Blend.{cofionOf, hmymOf, fakmapOf}
+use Rattle.base.specs.Files.{filesCheck}
+use Rattle.maps.specs.declared.inputs.Inputs.{Inputs}
 use Rattle.maps.specs.declared.figures.Shown.{Shown}
 use Rattle.maps.specs.declared.figures.Shown.the-variants.{Points, Refused as NotShown}
 use Rattle.maps.specs.declared.geometry.ControlPoint.{ControlPoint}
@@ -21,17 +22,12 @@ use Rattle.maps.specs.declared.ionosphere.layers.Monthly.{Monthly}
 use Rattle.maps.specs.declared.ionosphere.layers.LayerParams.{LayerParams}
 use Rattle.maps.specs.declared.ionosphere.layers.EsParams.{EsParams}
 use Rattle.maps.specs.declared.ionosphere.layers.Ground.{Ground}
+use Rattle.maps.specs.Inputs.{isLong}
 use Rattle.maps.specs.Magnetic.{magvarOf}
+use Rattle.maps.specs.Virtim.{virtimOf}
 use Rattle.maps.specs.Geometry.{pathOf, alatdOf, nowhere}
 use Rattle.maps.specs.Layers.{monthlyOf, layersOf, esindOf, groundOf}
-use Rattle.maps.specs.Ionosphere.{filesCheck, hourMapsOf, writtenOver, gammasAt}
-
--- ---- what is refused
-
--- '12 (figures buffer not 151 f32)', then 8, 9, 10, 11
-unfoldable pub figuresCheck : List ℕ → List ℕ → ℕ → Verdict
-figuresCheck f2 file size =
-    cond (eqb size 151) (filesCheck f2 file) (Refused Figures)
+use Rattle.maps.specs.Ionosphere.{gammasAt}
 
 -- ---- what the points of a sheet share
 
@@ -45,10 +41,14 @@ pub record Hour : Type 0 where
 abbrev pub hour : List Float → List ℕ → Monthly → List Float → List Float → Hour
 hour ab index m hmym fakmap = record { ab = ab; index = index; monthly = m; hmym = hmym; fakmap = fakmap }
 
+-- from a month file and the tables that were read
+unfoldable pub hourFrom : List ℕ → List ℕ → List Float → List Float → List Float → Inputs → Hour
+hourFrom file index cofion hmym fakmap i =
+    hour (virtimOf cofion index (i .gmt)) index (monthlyOf file (i .month) (i .ssn)) hmym fakmap
+
 unfoldable pub hourOf : List ℕ → List ℕ → Inputs → Hour
 hourOf f2 file i =
-    hour (hourMapsOf f2 file (i .ssn) (i .gmt)) (indexOf file) (monthlyOf file (i .month) (i .ssn)) (hmymOf file (i .ssn))
-    (fakmapOf file)
+    hourFrom file (indexOf file) (cofionOf f2 file (i .ssn)) (hmymOf file (i .ssn)) (fakmapOf file) i
 
 -- ---- the figures
 
@@ -112,20 +112,20 @@ figuresTo h i g (suc p) = figuresTo h i g p ++ rowAt h i g p
 -- the path of a sheet
 unfoldable pub routeOf : Inputs → PathGeometry
 routeOf i =
-    pathOf (i .route .tlat) (i .route .tlong) (i .route .rlat) (i .route .rlong) (i .route .«long_path») (i .pole)
+    pathOf (i .route .tlat) (i .route .tlong) (i .route .rlat) (i .route .rlong) (isLong (i .route .«long_path»)) (i .pole)
 
 -- the 151 figures: '29 numbers for each of five points'
 unfoldable pub figuresOf : List ℕ → List ℕ → Inputs → List Float
 figuresOf f2 file i = figuresTo (hourOf f2 file i) i (routeOf i) 5
 
--- ---- what a showing answers, and what the buffer holds afterwards
+-- ---- what `figures` answers, and what the buffer holds afterwards
 
 abbrev pub answerOf : Verdict → ℕ → Shown
 answerOf Accepted count = Points count
 answerOf (Refused why) count = NotShown why
 
-unfoldable pub shownOf : List ℕ → List ℕ → Inputs → List Float → Shown
-shownOf f2 file i out = answerOf (figuresCheck f2 file (length out)) (routeOf i .count)
+unfoldable pub shownOf : List ℕ → List ℕ → Inputs → Shown
+shownOf f2 file i = answerOf (filesCheck f2 file) (routeOf i .count)
 
 unfoldable pub bufferAfter : List ℕ → List ℕ → Inputs → List Float → List Float
-bufferAfter f2 file i out = writtenOver (figuresCheck f2 file (length out)) (figuresOf f2 file i) out
+bufferAfter f2 file i out = writtenOver (filesCheck f2 file) (figuresOf f2 file i) out

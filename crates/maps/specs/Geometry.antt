@@ -9,7 +9,7 @@ use lib.ListN.{getD}
 use lib.Ieee.{Float, nan, neg, lt, le}
 use Rattle.base.specs.declared.angle.Degrees.{Degrees}
 use Rattle.base.specs.declared.angle.Radians.{Radians}
-use Rattle.base.specs.declared.constants.MagneticPole.{MagneticPole}
+use Rattle.maps.specs.declared.inputs.MagneticPole.{MagneticPole}
 use Rattle.base.specs.Single.{_⊕_, _⊖_, _⊗_, _⊘_, decimal}
 use Rattle.base.specs.Number.{absOf}
 use Rattle.base.specs.Constants.{PI, PI2, PIO2, RZ}

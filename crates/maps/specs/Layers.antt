@@ -16,7 +16,7 @@ use Rattle.base.specs.Words.{floatAt}
 use Rattle.base.specs.Tables.{placeOf, anew, bnew, achi, bchi, abmap}
 use Rattle.maps.specs.declared.geometry.ControlPoint.{ControlPoint}
 use Rattle.maps.specs.declared.magnetic.MagneticVars.{MagneticVars}
-use Rattle.maps.specs.declared.figures.Factors.{Factors}
+use Rattle.maps.specs.declared.inputs.Factors.{Factors}
 use Rattle.maps.specs.declared.ionosphere.versy.Gammas.{Gammas}
 use Rattle.maps.specs.declared.ionosphere.layers.Sun.{Sun}
 use Rattle.maps.specs.declared.ionosphere.layers.Monthly.{Monthly}

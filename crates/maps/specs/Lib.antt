@@ -1,5 +1,6 @@
 -- The definitions that the contracts of `maps` cite, one file for each module. Assumes nothing.
 pub mod Loop
+pub mod Inputs
 pub mod Magnetic
 pub mod Geometry
 pub mod Virtim

@@ -1,59 +1,43 @@
-// A sheet: its inputs and its 151 figures.
+// The 151 figures of a sheet.
 use crate::geometry;
 use crate::geometry::ControlPoint;
 use crate::geometry::PathGeometry;
+use crate::inputs::Inputs;
 use crate::ionosphere;
+use crate::ionosphere::INDEX;
 use crate::ionosphere::layers;
 use crate::ionosphere::layers::EsParams;
 use crate::ionosphere::layers::Ground;
 use crate::ionosphere::layers::LayerParams;
 use crate::ionosphere::layers::Monthly;
+use crate::ionosphere::noisy::PLANE;
+use crate::ionosphere::virtim;
+use crate::ionosphere::virtim::TimeMaps;
 use crate::magnetic;
 use crate::magnetic::MagneticVars;
-use base::angle::Degrees;
-use base::coefficients;
-use base::constants::MagneticPole;
+use base::blend::COFION;
+use base::blend::HMYM;
+use base::blend::HeightMap;
+use base::blend::LandMap;
+use base::blend::SixMaps;
+use base::files::redmap;
+use base::index::IndexTable;
 use base::refusal::Refusal;
 use base::refusal::Verdict;
 ghost use mathlib.Core.Path.{_≡_};
-ghost use mathlib.Core.Bool.{true};
 ghost use Prim.Native.Nat.{ℕ, _+_, _*_, _<_, _≤_};
 ghost use lib.ListN.{length, getD};
 ghost use lib.Ieee.{nan};
-ghost use Rattle.base.specs.declared.refusal.Verdict.the-variants.{Accepted};
 ghost use Rattle.base.specs.Fill.{fill};
-ghost use Rattle.base.specs.Index.{indexCheck};
 ghost use Rattle.maps.specs.Virtim.{GoodTable};
-ghost use Rattle.maps.specs.Figures.{figuresCheck, hour, hourOf, headOf, numbersOf, pointRow, rowAt, figuresTo, routeOf, figuresOf, shownOf, bufferAfter};
+ghost use Rattle.maps.specs.Figures.{hour, hourFrom, headOf, numbersOf, pointRow, rowAt, figuresTo, routeOf, shownOf, bufferAfter};
 
-// Transmitter and receiver, and whether the path goes the long way round.
-pub struct Route {
-    pub tlat: Degrees,
-    pub tlong: Degrees,
-    pub rlat: Degrees,
-    pub rlong: Degrees,
-    pub long_path: bool,
-}
+// How many figures a sheet has, those of its path before a row for each of five points.
+pub const FIGURES: usize = 151;
 
-// `psc`, what the critical frequencies of the layers are multiplied with.
-pub struct Factors {
-    pub e: f32,
-    pub f1: f32,
-    pub f2: f32,
-    pub es: f32,
-}
+const HEAD: usize = 6;
 
-// The 14 fields of a sheet.
-pub struct Inputs {
-    pub month: u32,
-    // The sunspot number.
-    pub ssn: f32,
-    // The hour, GMT.
-    pub gmt: f32,
-    pub route: Route,
-    pub psc: Factors,
-    pub pole: MagneticPole,
-}
+const ROW: usize = 29;
 
 // What a showing answers: the number of points, or why it is refused.
 pub enum Shown {
@@ -61,18 +45,8 @@ pub enum Shown {
     Refused(Refusal),
 }
 
-// Whether figures can be made: a buffer of 151, a whole record, a good month file.
-fn figures_check(f2: &[u8], file: &[u8], size: usize) -> Verdict
-    ensures { λ r. ⌜ r ≡ figuresCheck (now (f2 .entry)) (now (file .entry)) size ⌝ }
-{
-    if size != 151 {
-        return Verdict::Refused(Refusal::Figures);
-    }
-    ionosphere::files_check(f2, file)
-}
-
 // The figures of the path.
-fn head(g: PathGeometry) -> [f32; 6]
+fn head(g: PathGeometry) -> [f32; HEAD]
     ensures { λ r. ⌜ r ≡ headOf g ⌝ }
 {
     let gcd = g.gcd;
@@ -90,7 +64,7 @@ fn numbers(
     l: LayerParams,
     es: EsParams,
     ground: Ground,
-) -> [f32; 29]
+) -> [f32; ROW]
     ensures { λ r. ⌜ r ≡ numbersOf pt mag l es ground ⌝ }
 {
     let rd = pt.rd;
@@ -142,12 +116,12 @@ fn numbers(
 fn point_row(
     i: Inputs,
     m: Monthly,
-    ab: &[f32; 318],
-    index: &[u32; 60],
-    hmym: &[f32; 464],
-    fakmap: &[f32; 464],
+    ab: &TimeMaps,
+    index: &IndexTable,
+    hmym: &HeightMap,
+    fakmap: &LandMap,
     pt: ControlPoint,
-) -> [f32; 29]
+) -> [f32; ROW]
     requires { ⌜ GoodTable (now index) ⌝ }
     ensures { λ r. ⌜ r ≡ pointRow (hour (now (ab .entry)) (now (index .entry)) m (now (hmym .entry)) (now (fakmap .entry))) i pt ⌝ }
 {
@@ -166,13 +140,13 @@ fn point_row(
 fn row(
     i: Inputs,
     m: Monthly,
-    ab: &[f32; 318],
-    index: &[u32; 60],
-    hmym: &[f32; 464],
-    fakmap: &[f32; 464],
+    ab: &TimeMaps,
+    index: &IndexTable,
+    hmym: &HeightMap,
+    fakmap: &LandMap,
     g: PathGeometry,
     p: usize,
-) -> [f32; 29]
+) -> [f32; ROW]
     requires { ⌜ GoodTable (now index) × (p < 5) ⌝ }
     ensures { λ r. ⌜ r ≡ rowAt (hour (now (ab .entry)) (now (index .entry)) m (now (hmym .entry)) (now (fakmap .entry))) i g p ⌝ }
 {
@@ -180,7 +154,7 @@ fn row(
         let points = g.points;
         point_row(i, m, ab, index, hmym, fakmap, points[p])
     } else {
-        [0.0f32; 29]
+        [0.0f32; ROW]
     }
 }
 
@@ -200,10 +174,10 @@ fn put(out: &mut [f32], at: usize, from: &[f32])
 fn put_figures(
     i: Inputs,
     m: Monthly,
-    ab: &[f32; 318],
-    index: &[u32; 60],
-    hmym: &[f32; 464],
-    fakmap: &[f32; 464],
+    ab: &TimeMaps,
+    index: &IndexTable,
+    hmym: &HeightMap,
+    fakmap: &LandMap,
     g: PathGeometry,
     out: &mut [f32],
 )
@@ -215,7 +189,7 @@ fn put_figures(
     let mut p = 0usize;
     while p < 5 {
         let numbers = row(i, m, ab, index, hmym, fakmap, g, p);
-        put(out, 6 + 29 * p, &numbers);
+        put(out, HEAD + ROW * p, &numbers);
         p += 1;
     }
 }
@@ -230,34 +204,62 @@ fn path(i: Inputs) -> PathGeometry
         route.tlong,
         route.rlat,
         route.rlong,
-        route.long_path,
+        route.long_path != 0,
         i.pole,
     )
 }
 
-// Every figure of a sheet, into a buffer of 151, from files that were checked; the number of points.
-fn fill_in(i: Inputs, f2: &[u8], file: &[u8], out: &mut [f32]) -> u32
-    requires { ⌜ (length (now out) ≡ 151) × (indexCheck (now file) ≡ Accepted) ⌝ }
-    ensures { λ r. ⌜ (r ≡ routeOf i .count) × (now (out .exit) ≡ figuresOf (now (f2 .entry)) (now (file .entry)) i) ⌝ }
+// Every figure of a sheet, from the tables of good files; the number of points.
+fn fill_in(
+    i: Inputs,
+    file: &[u8],
+    index: &IndexTable,
+    cofion: &SixMaps,
+    hmym: &HeightMap,
+    fakmap: &LandMap,
+    out: &mut [f32],
+) -> u32
+    requires { ⌜ GoodTable (now index) × (length (now out) ≡ 151) ⌝ }
+    ensures { λ r. ⌜ (
+        let g = routeOf i in
+        let m = now (file .entry) in
+        let h = hourFrom m (now (index .entry)) (now (cofion .entry)) (now (hmym .entry)) (now (fakmap .entry)) i in
+        (r ≡ g .count)
+        × (now (out .exit) ≡ figuresTo h i g 5)
+        ) ⌝ }
 {
-    let index = coefficients::index(file);
-    let ab = ionosphere::hour_maps_of(f2, file, i.ssn, i.gmt);
+    let ab = virtim::virtim(cofion, index, i.gmt);
     let m = layers::monthly_of(file, i.month, i.ssn);
-    let hmym = coefficients::hmym(file, i.ssn);
-    let fakmap = coefficients::fakmap(file);
     let g = path(i);
-    put_figures(i, m, &ab, &index, &hmym, &fakmap, g, out);
+    put_figures(i, m, &ab, index, hmym, fakmap, g, out);
     g.count
 }
 
 // The figures of a sheet into the lent buffer, from a lent F2 record and month file. Refused, the
 // buffer stays as it is.
-pub fn figures(i: Inputs, f2: &[u8], file: &[u8], out: &mut [f32]) -> Shown
-    ensures { λ r. ⌜ (r ≡ shownOf (now (f2 .entry)) (now (file .entry)) i (now (out .entry))) × (now (out .exit) ≡ bufferAfter (now (f2 .entry)) (now (file .entry)) i (now (out .entry))) ⌝ }
+pub fn figures(i: Inputs, f2: &[u8], file: &[u8], out: &mut [f32; FIGURES]) -> Shown
+    ensures { λ r. ⌜ (
+        let f = now (f2 .entry) in
+        let m = now (file .entry) in
+        (r ≡ shownOf f m i)
+        × (now (out .exit) ≡ bufferAfter f m i (now (out .entry)))
+        ) ⌝ }
 {
-    let verdict = figures_check(f2, file, out.len());
+    let mut index = [0u32; INDEX];
+    let mut cofion = [0.0f32; COFION];
+    let mut hmym = [0.0f32; HMYM];
+    let mut fakmap = [0.0f32; PLANE];
+    let verdict = redmap(
+        f2,
+        file,
+        i.ssn,
+        &mut index,
+        &mut cofion,
+        &mut hmym,
+        &mut fakmap,
+    );
     match verdict {
-        Verdict::Accepted => Shown::Points(fill_in(i, f2, file, out)),
+        Verdict::Accepted => Shown::Points(fill_in(i, file, &index, &cofion, &hmym, &fakmap, out)),
         Verdict::Refused(why) => Shown::Refused(why),
     }
 }

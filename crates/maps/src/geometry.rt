@@ -1,9 +1,9 @@
 // A path between two ends, after geometry.rs: its length, its two bearings and the places on it where the
 // ionosphere is asked for.
 // Degrees are always `Degrees`; inside, an angle that is worked with is a plain `f32` in radians.
+use crate::inputs::MagneticPole;
 use base::angle::Degrees;
 use base::angle::Radians;
-use base::constants::MagneticPole;
 use base::constants::PI;
 use base::constants::PI2;
 use base::constants::PIO2;

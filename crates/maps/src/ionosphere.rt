@@ -1,71 +1,59 @@
-// What the maps give at a point, after ionosphere.rs: a module for each of the Fortran routines that
-// it has in one file, and here what works over lent files.
+// What the maps give at a point, after ionosphere.rs: a module for each group of the Fortran routines
+// that it has in one file, and here what works over lent files.
 pub mod clocks;
 pub mod layers;
 pub mod noisy;
 pub mod versy;
 pub mod virtim;
 
-use crate::figures::Factors;
 use crate::geometry;
 use crate::geometry::ControlPoint;
+use crate::inputs::Factors;
+use crate::inputs::MagneticPole;
 use crate::magnetic;
 use crate::magnetic::MagneticVars;
 use base::angle::Degrees;
 use base::angle::Radians;
-use base::coefficients;
-use base::constants::MagneticPole;
+use base::blend::COFION;
+use base::blend::HMYM;
+use base::blend::HeightMap;
 use base::elementary::cos32;
-use base::refusal::Refusal;
+use base::files;
+use base::index::IndexTable;
+use base::ranges::month_check;
 use base::refusal::Verdict;
 use layers::LayerParams;
+use layers::Monthly;
 use versy::Gammas;
 use virtim::TimeMaps;
 ghost use mathlib.Core.Path.{_≡_};
-ghost use Rattle.base.specs.declared.refusal.Verdict.the-variants.{Accepted};
-ghost use Rattle.base.specs.Index.{indexCheck};
+ghost use Rattle.base.specs.Refusal.{writtenOver};
+ghost use Rattle.base.specs.Index.{indexOf};
+ghost use Rattle.base.specs.Blend.{hmymOf};
+ghost use Rattle.base.specs.Files.{filesCheck};
 ghost use Rattle.maps.specs.Virtim.{GoodTable};
-ghost use Rattle.maps.specs.Ionosphere.{fileCheck, filesCheck, hourMapsOf, writtenOver, gammasAt, pointAt, layersThere, noLayers, layersAtOf};
+ghost use Rattle.maps.specs.Ionosphere.{hourMapsOf, gammasAt, pointAt, layersCheck, layersThere, noLayers, layersAtOf};
 
-// Whether a month file can be used.
-pub fn file_check(file: &[u8]) -> Verdict
-    ensures { λ r. ⌜ r ≡ fileCheck (now (file .entry)) ⌝ }
-{
-    let walked = coefficients::month_file_check(file);
-    match walked {
-        Verdict::Accepted => coefficients::index_check(file),
-        Verdict::Refused(why) => Verdict::Refused(why),
-    }
-}
-
-// Whether an F2 record and a month file can be used.
-pub fn files_check(f2: &[u8], file: &[u8]) -> Verdict
-    ensures { λ r. ⌜ r ≡ filesCheck (now (f2 .entry)) (now (file .entry)) ⌝ }
-{
-    if f2.len() < 7904 {
-        return Verdict::Refused(Refusal::Record);
-    }
-    file_check(file)
-}
-
-// The coefficients of the six maps at an hour, from files that were checked.
-pub(crate) fn hour_maps_of(f2: &[u8], file: &[u8], ssn: f32, gmt: f32) -> TimeMaps
-    requires { ⌜ indexCheck (now file) ≡ Accepted ⌝ }
-    ensures { λ r. ⌜ r ≡ hourMapsOf (now (f2 .entry)) (now (file .entry)) ssn gmt ⌝ }
-{
-    let index = coefficients::index(file);
-    let cof = coefficients::cofion(f2, file, ssn);
-    virtim::virtim(&cof, &index, gmt)
-}
+// The words of an index table.
+pub(crate) const INDEX: usize = 60;
 
 // The coefficients of the six maps at an hour into a lent array, which a refusal leaves as it is.
-pub fn hour_maps(f2: &[u8], file: &[u8], ssn: f32, gmt: f32, ab: &mut [f32; 318]) -> Verdict
-    ensures { λ r. ⌜ (r ≡ filesCheck (now (f2 .entry)) (now (file .entry))) × (now (ab .exit) ≡ writtenOver (filesCheck (now (f2 .entry)) (now (file .entry))) (hourMapsOf (now (f2 .entry)) (now (file .entry)) ssn gmt) (now (ab .entry))) ⌝ }
+pub fn hour_maps(f2: &[u8], file: &[u8], ssn: f32, gmt: f32, ab: &mut TimeMaps) -> Verdict
+    ensures { λ r. ⌜ (
+        let f = now (f2 .entry) in
+        let m = now (file .entry) in
+        let v = filesCheck f m in
+        (r ≡ v)
+        × (now (ab .exit) ≡ writtenOver v (hourMapsOf f m ssn gmt) (now (ab .entry)))
+        ) ⌝ }
 {
-    let verdict = files_check(f2, file);
+    let mut index = [0u32; INDEX];
+    let mut cof = [0.0f32; COFION];
+    files::index(file, &mut index);
+    let verdict = files::cofion(f2, file, ssn, &mut cof);
     match verdict {
         Verdict::Accepted => {
-            *ab = hour_maps_of(f2, file, ssn, gmt);
+            *ab = virtim::virtim(&cof, &index, gmt);
             Verdict::Accepted
         }
         Verdict::Refused(why) => Verdict::Refused(why),
@@ -74,8 +62,8 @@ pub fn hour_maps(f2: &[u8], file: &[u8], ssn: f32, gmt: f32, ab: &mut [f32; 318]
 
 // The six maps at a place.
 pub(crate) fn gammas_at(
-    ab: &[f32; 318],
-    index: &[u32; 60],
+    ab: &TimeMaps,
+    index: &IndexTable,
     lat: Radians,
     lon: Radians,
     mag: MagneticVars,
@@ -114,24 +102,51 @@ fn point_at(pole: MagneticPole, lat: Radians, lon: Radians) -> ControlPoint
     }
 }
 
+// The tables that the layers take, from a good month file in a month that there is.
+fn layer_tables(
+    month: u32,
+    ssn: f32,
+    file: &[u8],
+    index: &mut IndexTable,
+    hmym: &mut HeightMap,
+) -> Verdict
+    ensures { λ r. ⌜ (
+        let m = now (file .entry) in
+        let v = layersCheck month m in
+        (r ≡ v)
+        × (now (index .exit) ≡ writtenOver v (indexOf m) (now (index .entry)))
+        × (now (hmym .exit) ≡ writtenOver v (hmymOf m ssn) (now (hmym .entry)))
+        ) ⌝ }
+{
+    let verdict = month_check(month);
+    match verdict {
+        Verdict::Accepted => {
+            files::index(file, index);
+            files::hmym(file, ssn, hmym)
+        }
+        Verdict::Refused(why) => Verdict::Refused(why),
+    }
+}
+
 fn layers_there(
     inputs: LayerInputs,
-    ab: &[f32; 318],
-    file: &[u8],
+    m: Monthly,
+    ab: &TimeMaps,
+    index: &IndexTable,
+    hmym: &HeightMap,
     pole: MagneticPole,
     lat: Radians,
     lon: Radians,
 ) -> LayerParams
-    requires { ⌜ indexCheck (now file) ≡ Accepted ⌝ }
-    ensures { λ r. ⌜ r ≡ layersThere inputs (now (ab .entry)) (now (file .entry)) pole lat lon ⌝ }
+    requires { ⌜ GoodTable (now index) ⌝ }
+    ensures { λ r. ⌜ (
+        r ≡ layersThere inputs m (now (ab .entry)) (now (index .entry)) (now (hmym .entry)) pole lat lon
+        ) ⌝ }
 {
-    let index = coefficients::index(file);
     let mag = magnetic::magvar(lat, lon);
-    let g = gammas_at(ab, &index, lat, lon, mag);
-    let m = layers::monthly_of(file, inputs.month, inputs.ssn);
-    let hmym = coefficients::hmym(file, inputs.ssn);
+    let g = gammas_at(ab, index, lat, lon, mag);
     let pt = point_at(pole, lat, lon);
-    layers::layer_parameters(m, inputs.ssn, inputs.gmt, inputs.psc, &hmym, pt, mag, g)
+    layers::layer_parameters(m, inputs.ssn, inputs.gmt, inputs.psc, hmym, pt, mag, g)
 }
 
 fn no_layers() -> LayerParams
@@ -155,7 +170,7 @@ fn no_layers() -> LayerParams
 // at the hour and a month file.
 pub fn layer_parameters_at(
     inputs: LayerInputs,
-    ab: &[f32; 318],
+    ab: &TimeMaps,
     file: &[u8],
     pole: MagneticPole,
     lat: Radians,
@@ -163,12 +178,17 @@ pub fn layer_parameters_at(
 ) -> LayersAt
     ensures { λ r. ⌜ r ≡ layersAtOf inputs (now (ab .entry)) (now (file .entry)) pole lat lon ⌝ }
 {
-    let verdict = file_check(file);
+    let mut index = [0u32; INDEX];
+    let mut hmym = [0.0f32; HMYM];
+    let verdict = layer_tables(inputs.month, inputs.ssn, file, &mut index, &mut hmym);
     match verdict {
-        Verdict::Accepted => LayersAt {
-            verdict: Verdict::Accepted,
-            params: layers_there(inputs, ab, file, pole, lat, lon),
-        },
+        Verdict::Accepted => {
+            let m = layers::monthly_of(file, inputs.month, inputs.ssn);
+            LayersAt {
+                verdict: Verdict::Accepted,
+                params: layers_there(inputs, m, ab, &index, &hmym, pole, lat, lon),
+            }
+        }
         Verdict::Refused(why) => LayersAt {
             verdict: Verdict::Refused(why),
             params: no_layers(),

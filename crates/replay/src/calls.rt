@@ -1,11 +1,16 @@
 // The calls of standard input.
-use base::coefficients::word;
+use base::words::word;
 use libc::STDIN_FILENO;
-use listing::call::Call;
-use listing::call::Next;
+use listing::call::Read;
 use listing::call::call_in;
 use listing::call::size_of;
 ghost use Prim.Native.Nat.{_≤_};
+
+// What is read, and its size in bytes.
+pub struct Next {
+    pub read: Read,
+    pub size: usize,
+}
 
 fn operation_of(head: &[u8; 4]) -> u32 {
     word(head, 0)
@@ -19,18 +24,18 @@ fn rest_call(operation: u32) -> Next
     let from: usize = 0;
     let n = size_of(operation);
     let got = io::read_full(STDIN_FILENO, &mut s[from..n]);
-    let call = if got < n {
-        Call::Bad
+    let read = if got < n {
+        Read::Bad
     } else {
         from_rest(operation, &s)
     };
     Next {
-        call: call,
+        read: read,
         size: 4 + n,
     }
 }
 
-fn from_rest(operation: u32, s: &[u8; 24]) -> Call {
+fn from_rest(operation: u32, s: &[u8; 24]) -> Read {
     call_in(operation, s)
 }
 
@@ -42,13 +47,13 @@ pub fn next_call() -> Next
     let got = io::read_full(STDIN_FILENO, &mut head);
     if got == 0 {
         return Next {
-            call: Call::End,
+            read: Read::End,
             size: 0,
         };
     }
     if got < 4 {
         return Next {
-            call: Call::Bad,
+            read: Read::Bad,
             size: 0,
         };
     }

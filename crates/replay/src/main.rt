@@ -3,106 +3,101 @@
 // then calls until it ends.
 mod calls;
 
+use base::month_file::MONTH_FILE;
+use base::month_file::RECORD;
+use base::refusal::Verdict;
 use calls::next_call;
 use libc::STDIN_FILENO;
-use listing::answer::print;
-use listing::answer::print_figures;
-use listing::answer::print_points;
-use listing::answer::print_refusal;
-use listing::answer::print_verdict;
-use listing::call::Call;
-use listing::call::Move;
-use listing::call::moved;
-use maps::figures::Shown;
-use worksheet::desks::Opened;
+use libc::STDOUT_FILENO;
+use listing::answer::ANSWER;
+use listing::answer::stopped_text;
+use listing::answer::verdict_text;
+use listing::call::Read;
+use listing::turn::answered;
 use worksheet::desks::Worksheet;
-use worksheet::opening::opened;
-use worksheet::showing::show;
+use worksheet::desks::opened;
+use worksheet::journal::Call;
+ghost use mathlib.Core.Path.{_≡_};
+ghost use mathlib.Core.List.{List};
+ghost use Rattle.worksheet.specs.Showing.{pair};
+ghost use Rattle.worksheet.specs.Journal.{Call as Called, step, run};
+ghost use Rattle.worksheet.specs.Calls.{called};
+ghost use Rattle.listing.specs.Turn.{blank};
 
-// The first byte of the first call: 56 of words, 7,904 of record, 38,552 of month file.
+// The first byte of the first call: 56 of words, the record, the month file.
 const START: u64 = 46512;
 
-fn answer_move(w: Worksheet, m: Move) -> Worksheet {
-    let o = moved(w, m);
-    let answer = o.answer;
-    print_verdict(answer);
-    o.sheet
-}
-
-fn print_sheet(count: u32, figures: &[f32; 151]) {
-    print_points(count);
-    print_figures(figures);
-}
-
-fn answer_show(w: Worksheet, desk: u32, record: &[u8], month: &[u8]) {
-    let mut figures = [0.0f32; 151];
-    let shown = show(w, desk, record, month, &mut figures);
-    match shown {
-        Shown::Points(count) => print_sheet(count, &figures),
-        Shown::Refused(why) => print_refusal(why),
-    }
-}
-
 // Answers a call, and hands on the worksheet that it leaves.
-fn answered(w: Worksheet, call: Call, record: &[u8], month: &[u8]) -> Worksheet {
-    match call {
-        Call::Move(m) => answer_move(w, m),
-        Call::Show(desk) => {
-            answer_show(w, desk, record, month);
-            w
-        }
-        Call::End => w,
-        Call::Bad => w,
-    }
+fn answer(w: Worksheet, call: Call, f2: &[u8], file: &[u8]) -> Worksheet
+    ensures { λ r. ⌜ r ≡ step (pair (now (f2 .entry)) (now (file .entry))) (called call blank) w .sheet ⌝ }
+{
+    let mut text = [0u8; ANSWER];
+    let turn = answered(w, call, f2, file, &mut text);
+    let n = turn.size;
+    io::write_all(STDOUT_FILENO, &text[..n]);
+    turn.sheet
 }
 
-// Whether the calls end here, at the byte `at`.
-fn is_last(call: Call, at: u64) -> bool {
-    match call {
-        Call::End => true,
-        Call::Bad => {
-            print(b"stopped at ");
-            io::print_decimal(libc::STDOUT_FILENO, at);
-            print(b"\n");
-            true
-        }
-        Call::Move(_) => false,
-        Call::Show(_) => false,
-    }
+// The line of a byte where the words are no call.
+fn stop(at: u64) {
+    let mut text = [0u8; ANSWER];
+    let n = stopped_text(at, &mut text);
+    io::write_all(STDOUT_FILENO, &text[..n]);
 }
 
-// Call by call. Nothing says that the input ends, so the turns are counted down from a number that no
-// run uses up.
-fn answer_all(w: Worksheet, record: &[u8], month: &[u8]) {
+// Call by call: the worksheet is always the one that the calls read so far leave (the contract says: that
+// some calls leave). Nothing says that the input ends, so the turns are counted down from a number that
+// no run uses up.
+fn answer_all(w: Worksheet, f2: &[u8], file: &[u8]) -> Worksheet
+    ensures { λ r. ⌜ ((cs : List Called) × (r ≡ run (pair (now (f2 .entry)) (now (file .entry))) cs w .sheet)) ⌝ }
+{
     let mut w = w;
     let mut at = START;
     let mut turns: u64 = 0x100_0000_0000;
     while turns > 0 {
         turns -= 1;
         let next = next_call();
-        let call = next.call;
-        if is_last(call, at) {
-            return;
+        let read = next.read;
+        match read {
+            Read::Call(call) => {
+                w = answer(w, call, f2, file);
+            }
+            Read::Bad => {
+                stop(at);
+                return w;
+            }
+            Read::End => {
+                return w;
+            }
         }
-        w = answered(w, call, record, month);
         at += next.size as u64;
     }
+    w
 }
 
-fn run(words: &[u8], record: &[u8], month: &[u8]) {
-    let sheet = opened(words);
-    match sheet {
-        Opened::Sheet(w) => answer_all(w, record, month),
-        Opened::Refused(why) => print_refusal(why),
+fn refuse(verdict: Verdict) {
+    let mut text = [0u8; ANSWER];
+    let n = verdict_text(verdict, &mut text);
+    io::write_all(STDOUT_FILENO, &text[..n]);
+}
+
+fn replay(words: &[u8], f2: &[u8], file: &[u8]) {
+    let o = opened(words);
+    let verdict = o.answer;
+    match verdict {
+        Verdict::Accepted => {
+            answer_all(o.sheet, f2, file);
+        }
+        Verdict::Refused(why) => refuse(Verdict::Refused(why)),
     }
 }
 
 fn main() {
     let mut words = [0u8; 56];
-    let mut record = [0u8; 7904];
-    let mut month = [0u8; 38552];
+    let mut record = [0u8; RECORD];
+    let mut month = [0u8; MONTH_FILE];
     let a = io::read_full(STDIN_FILENO, &mut words);
     let b = io::read_full(STDIN_FILENO, &mut record);
     let c = io::read_full(STDIN_FILENO, &mut month);
-    run(&words[..a], &record[..b], &month[..c]);
+    replay(&words[..a], &record[..b], &month[..c]);
 }

@@ -1,53 +1,39 @@
 // One sheet: 14 little-endian words, an F2 record and a month file on standard input, and the 151
 // figures or the refusal on standard output. `sheet page` prints the fields, names the figures and adds
-// their decimals.
+// their decimals and units.
+use base::month_file::MONTH_FILE;
+use base::month_file::RECORD;
 use libc::STDIN_FILENO;
-use listing::answer::print_figures;
-use listing::answer::print_refusal;
-use listing::page::print_inputs;
-use listing::page::print_page;
-use maps::figures::Inputs;
-use maps::figures::Shown;
-use worksheet::desks::Opened;
-use worksheet::desks::Worksheet;
-use worksheet::opening::opened;
-use worksheet::showing::show;
+use libc::STDOUT_FILENO;
+use listing::answer::ANSWER;
+use listing::page::PAGE;
+use listing::sheet::page_answer;
+use listing::sheet::sheet_answer;
 
-fn print_sheet(page: bool, i: Inputs, count: u32, figures: &[f32; 151]) {
-    if page {
-        print_inputs(i);
-        print_page(count, figures);
-    } else {
-        print_figures(figures);
-    }
+fn print_sheet(words: &[u8], record: &[u8], month: &[u8]) {
+    let mut text = [0u8; ANSWER];
+    let n = sheet_answer(words, record, month, &mut text);
+    io::write_all(STDOUT_FILENO, &text[..n]);
 }
 
-fn show_sheet(page: bool, w: Worksheet, record: &[u8], month: &[u8]) {
-    let mut figures = [0.0f32; 151];
-    let i = w.inputs;
-    let shown = show(w, 0, record, month, &mut figures);
-    match shown {
-        Shown::Points(count) => print_sheet(page, i, count, &figures),
-        Shown::Refused(why) => print_refusal(why),
-    }
-}
-
-fn open_sheet(page: bool, words: &[u8], record: &[u8], month: &[u8]) {
-    let sheet = opened(words);
-    match sheet {
-        Opened::Sheet(w) => show_sheet(page, w, record, month),
-        Opened::Refused(why) => print_refusal(why),
-    }
+fn print_page(words: &[u8], record: &[u8], month: &[u8]) {
+    let mut text = [0u8; PAGE];
+    let n = page_answer(words, record, month, &mut text);
+    io::write_all(STDOUT_FILENO, &text[..n]);
 }
 
 fn run(page: bool) {
     let mut words = [0u8; 56];
-    let mut record = [0u8; 7904];
-    let mut month = [0u8; 38552];
+    let mut record = [0u8; RECORD];
+    let mut month = [0u8; MONTH_FILE];
     let a = io::read_full(STDIN_FILENO, &mut words);
     let b = io::read_full(STDIN_FILENO, &mut record);
     let c = io::read_full(STDIN_FILENO, &mut month);
-    open_sheet(page, &words[..a], &record[..b], &month[..c]);
+    if page {
+        print_page(&words[..a], &record[..b], &month[..c]);
+    } else {
+        print_sheet(&words[..a], &record[..b], &month[..c]);
+    }
 }
 
 // Whether the first argument is `page`.
@@ -60,7 +46,7 @@ fn is_page() -> bool {
 fn main() {
     if os::arg_count() < 2 {
         run(false);
-    } else if is_page() {
+    } else if os::arg_count() == 2 && is_page() {
         run(true);
     } else {
         io::write_all(libc::STDERR_FILENO, b"usage: sheet [page] < INPUT\n");

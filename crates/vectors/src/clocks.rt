@@ -6,8 +6,8 @@ use crate::tally::counted;
 use crate::tally::is_float;
 use crate::tally::none;
 use base::angle::Degrees;
-use base::coefficients;
 use base::refusal::Refusal;
+use base::words;
 use maps::ionosphere::clocks;
 use maps::ionosphere::clocks::Direction;
 use maps::ionosphere::clocks::LocalTime;
@@ -15,7 +15,7 @@ use maps::ionosphere::clocks::Moved;
 use maps::ionosphere::clocks::Times;
 
 fn degrees(row: &[u8], at: usize) -> Degrees {
-    Degrees(coefficients::float(row, at))
+    Degrees(words::float(row, at))
 }
 
 // 1, or -1 as a word.
@@ -29,45 +29,42 @@ fn direction(w: u32) -> Direction {
 
 // Whether a row has this refusal.
 fn is_refusal(why: Refusal, row: &[u8], number_at: usize, place_at: usize) -> bool {
-    why.number() == coefficients::word(row, number_at)
-        && why.place() == coefficients::word(row, place_at)
+    why.number() == words::word(row, number_at) && why.place() == words::word(row, place_at)
 }
 
 fn is_shift(row: &[u8; 28]) -> bool {
-    let towards = direction(coefficients::word(row, 8));
-    match clocks::cngtim(coefficients::float(row, 0), degrees(row, 4), towards) {
+    let towards = direction(words::word(row, 8));
+    match clocks::cngtim(words::float(row, 0), degrees(row, 4), towards) {
         Moved::To(s) => {
-            coefficients::word(row, 12) == 0
-                && is_float(s.time, coefficients::word(row, 20))
-                && is_float(s.day, coefficients::word(row, 24))
+            words::word(row, 12) == 0
+                && is_float(s.time, words::word(row, 20))
+                && is_float(s.day, words::word(row, 24))
         }
         Moved::Refused(why) => is_refusal(why, row, 12, 16),
     }
 }
 
 fn is_hour(row: &[u8; 36]) -> bool {
-    let local = coefficients::word(row, 4) != 0;
+    let local = words::word(row, 4) != 0;
     match clocks::geotim(
-        coefficients::word(row, 0),
+        words::word(row, 0),
         local,
         degrees(row, 8),
         degrees(row, 12),
     ) {
         Times::Hours(h) => {
-            coefficients::word(row, 16) == 0
-                && is_float(h.gmt, coefficients::word(row, 24))
-                && is_float(h.lmt_tx, coefficients::word(row, 28))
-                && is_float(h.gmtr, coefficients::word(row, 32))
+            words::word(row, 16) == 0
+                && is_float(h.gmt, words::word(row, 24))
+                && is_float(h.lmt_tx, words::word(row, 28))
+                && is_float(h.gmtr, words::word(row, 32))
         }
         Times::Refused(why) => is_refusal(why, row, 16, 20),
     }
 }
 
 fn is_local_time(row: &[u8; 20]) -> bool {
-    match clocks::geotim_clck(coefficients::float(row, 0), degrees(row, 4)) {
-        LocalTime::At(clck) => {
-            coefficients::word(row, 8) == 0 && is_float(clck, coefficients::word(row, 16))
-        }
+    match clocks::geotim_clck(words::float(row, 0), degrees(row, 4)) {
+        LocalTime::At(clck) => { words::word(row, 8) == 0 && is_float(clck, words::word(row, 16)) }
         LocalTime::Refused(why) => is_refusal(why, row, 8, 12),
     }
 }

@@ -5,9 +5,21 @@ use crate::tally::Tally;
 use crate::tally::counted;
 use crate::tally::is_float;
 use crate::tally::none;
-use base::coefficients;
+use base::blend::COFION;
+use base::blend::HMYM;
+use base::files::cofion;
+use base::files::hmym;
+use base::index::index_check;
+use base::month_file::MONTH_FILE;
+use base::month_file::RECORD;
+use base::month_file::month_file_check;
+use base::month_file::month_record;
+use base::month_file::month_record_check;
 use base::number;
 use base::refusal::Verdict;
+use base::words::float;
+use base::words::integer;
+use base::words::word;
 use libc::STDOUT_FILENO;
 ghost use Prim.Native.Nat.{_≤_};
 ghost use lib.ListN.{length};
@@ -21,7 +33,7 @@ pub fn print_line(name: &[u8], t: Tally) {
 pub fn next(fd: i32) -> u32 {
     let mut four = [0u8; 4];
     io::read_full(fd, &mut four);
-    coefficients::word(&four, 0)
+    word(&four, 0)
 }
 
 pub fn index(w: u32) -> usize {
@@ -62,7 +74,7 @@ pub fn cut(s: &[u8], n: usize) -> &[u8] {
 }
 
 fn walk(month: &[u8; 38616], len: usize) -> Verdict {
-    coefficients::month_file_check(cut(month, len))
+    month_file_check(cut(month, len))
 }
 
 // One damaged month file: cut to a length, with one byte changed.
@@ -97,9 +109,9 @@ fn is_part(s: &[u8], start: usize, part: &[u8], accepted: bool) -> bool {
     if start > 86944 {
         return false;
     }
-    part.len() == 7904
-        && coefficients::word(part, 0) == coefficients::word(s, start)
-        && coefficients::word(part, 7900) == coefficients::word(s, start + 7900)
+    part.len() == RECORD
+        && word(part, 0) == word(s, start)
+        && word(part, RECORD - 4) == word(s, start + RECORD - 4)
 }
 
 fn is_record(fd: i32, daw: &[u8]) -> bool {
@@ -109,8 +121,8 @@ fn is_record(fd: i32, daw: &[u8]) -> bool {
     let place = next(fd);
     let start = index(next(fd));
     let s = cut(daw, len);
-    is_report(coefficients::month_record_check(s, month), number, place)
-        && is_part(s, start, coefficients::month_record(s, month), number == 0)
+    is_report(month_record_check(s, month), number, place)
+        && is_part(s, start, month_record(s, month), number == 0)
 }
 
 fn records(fd: i32, daw: &[u8]) -> Tally {
@@ -124,7 +136,7 @@ fn records(fd: i32, daw: &[u8]) -> Tally {
 }
 
 fn checked(month: &[u8; 244]) -> Verdict {
-    coefficients::index_check(month)
+    index_check(month)
 }
 
 // An index table, in its place in a month file that ends with it.
@@ -153,7 +165,7 @@ fn floats(fd: i32, s: &[u8], at: usize, n: usize, t: Tally) -> Tally {
     while k < n {
         let place = std::num::wrapping_add_usize(at, std::num::wrapping_add_usize(k, k));
         let place = std::num::wrapping_add_usize(place, std::num::wrapping_add_usize(k, k));
-        t = counted(t, is_float(coefficients::float(s, place), next(fd)));
+        t = counted(t, is_float(float(s, place), next(fd)));
         k += 1;
     }
     t
@@ -163,10 +175,7 @@ fn integers(fd: i32, month: &[u8], t: Tally) -> Tally {
     let mut t = t;
     let mut k: usize = 0;
     while k < 60 {
-        t = counted(
-            t,
-            coefficients::integer(month, 4 + 4 * k) == number::signed(next(fd)),
-        );
+        t = counted(t, integer(month, 4 + 4 * k) == number::signed(next(fd)));
         k += 1;
     }
     t
@@ -188,12 +197,14 @@ fn words(fd: i32, record: &[u8], month: &[u8]) -> Tally {
     t
 }
 
-// The blended coefficients of a pair at the next sunspot number.
+// The blended coefficients of a pair at the next sunspot number. The array is lent with what no map
+// has, so that a refusal would count.
 fn cofions(fd: i32, record: &[u8], month: &[u8], ssn: f32, t: Tally) -> Tally {
-    let all = coefficients::cofion(record, month, ssn);
+    let mut all = [-12345.0f32; COFION];
+    cofion(record, month, ssn, &mut all);
     let mut t = t;
     let mut k: usize = 0;
-    while k < 2604 {
+    while k < COFION {
         t = counted(t, is_float(all[k], next(fd)));
         k += 1;
     }
@@ -201,10 +212,11 @@ fn cofions(fd: i32, record: &[u8], month: &[u8], ssn: f32, t: Tally) -> Tally {
 }
 
 fn heights(fd: i32, month: &[u8], ssn: f32, t: Tally) -> Tally {
-    let all = coefficients::hmym(month, ssn);
+    let mut all = [-12345.0f32; HMYM];
+    hmym(month, ssn, &mut all);
     let mut t = t;
     let mut k: usize = 0;
-    while k < 464 {
+    while k < HMYM {
         t = counted(t, is_float(all[k], next(fd)));
         k += 1;
     }
@@ -239,14 +251,14 @@ fn replay_records(fd: i32) {
 // One pair of files against the next answers of words.bin and blends.bin.
 fn replay_pair(daw_path: &[u8], month_path: &[u8], words_fd: i32, blends_fd: i32) {
     let mut daw = [0u8; 15808];
-    let mut month = [0u8; 38552];
+    let mut month = [0u8; MONTH_FILE];
     if !load(daw_path, &mut daw) {
         return;
     }
     if !load(month_path, &mut month) {
         return;
     }
-    let record = coefficients::month_record(&daw, 2);
+    let record = month_record(&daw, 2);
     print_line(b"words", words(words_fd, record, &month));
     print_line(b"blends", blends(blends_fd, record, &month, none()));
 }

@@ -10,6 +10,7 @@ use base::constants;
 use base::elementary;
 use base::number;
 use libc::STDOUT_FILENO;
+use maps::inputs::MagneticPole;
 ghost use Prim.Native.Nat.{_+_, _<_, _^_};
 
 fn wide(x: u8) -> u64
@@ -51,9 +52,22 @@ fn from_single(x: f32) -> u64 {
     number::bits32(x) as u64
 }
 
+// The constants in their order, and the built-in pole after them.
 fn constant(k: u64) -> f32 {
     let list = constants::all();
-    if k < 8 { list[k as usize] } else { 0.0 / 0.0 }
+    if k < 6 {
+        return list[k as usize];
+    }
+    let pole = MagneticPole::built_in();
+    let lat = pole.lat;
+    let lon = pole.lon;
+    if k == 6 {
+        lat.0
+    } else if k == 7 {
+        lon.0
+    } else {
+        0.0 / 0.0
+    }
 }
 
 // The functions of one `f32`.

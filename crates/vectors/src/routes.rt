@@ -7,12 +7,12 @@ use crate::tally::counted;
 use crate::tally::is_float;
 use crate::tally::none;
 use base::angle::Degrees;
-use base::coefficients;
-use base::constants::MagneticPole;
+use base::words;
 use libc::STDOUT_FILENO;
 use maps::geometry;
 use maps::geometry::ControlPoint;
 use maps::geometry::PathGeometry;
+use maps::inputs::MagneticPole;
 use maps::magnetic;
 ghost use Prim.Native.Nat.{_+_, _*_, _<_, _≤_};
 ghost use lib.ListN.{length};
@@ -21,13 +21,13 @@ ghost use lib.ListN.{length};
 fn word(row: &[u8], k: usize) -> u32
     requires { ⌜ k < 64 ⌝ }
 {
-    coefficients::word(row, 4 * k)
+    words::word(row, 4 * k)
 }
 
 fn float(row: &[u8], k: usize) -> f32
     requires { ⌜ k < 64 ⌝ }
 {
-    coefficients::float(row, 4 * k)
+    words::float(row, 4 * k)
 }
 
 fn path(row: &[u8]) -> PathGeometry {
@@ -149,7 +149,7 @@ fn rows(fd: i32) {
 }
 
 fn is_heading(row: &[u8; 196]) -> bool {
-    coefficients::word(row, 0) == 0xffff_ffff
+    words::word(row, 0) == 0xffff_ffff
 }
 
 fn is_right(row: &[u8; 196]) -> bool {

@@ -7,63 +7,39 @@ use crate::tally::counted;
 use crate::tally::is_float;
 use crate::tally::none;
 use base::angle::Degrees;
-use base::coefficients;
-use base::constants::MagneticPole;
-use base::number;
+use base::month_file::MONTH_FILE;
+use base::month_file::RECORD;
+use base::words;
 use libc::STDOUT_FILENO;
 use maps::figures;
-use maps::figures::Factors;
-use maps::figures::Inputs;
-use maps::figures::Route;
+use maps::figures::FIGURES;
 use maps::figures::Shown;
+use maps::inputs::Factors;
+use maps::inputs::Inputs;
+use maps::inputs::MagneticPole;
+use maps::inputs::Route;
+use maps::inputs::inputs_in;
+use worksheet::showing::drawn;
 ghost use Prim.Native.Nat.{_+_, _*_, _<_, _≤_};
 ghost use lib.ListN.{length};
+
+// What no sheet has: each buffer is lent full of it.
+const LENT: f32 = -12345.0;
+
+// The largest buffer that is lent to a refused showing.
+const LARGEST: usize = 200;
 
 // The word k of a row.
 fn word(row: &[u8], k: usize) -> u32
     requires { ⌜ k < 200 ⌝ }
 {
-    coefficients::word(row, 4 * k)
-}
-
-fn float(row: &[u8], k: usize) -> f32
-    requires { ⌜ k < 200 ⌝ }
-{
-    coefficients::float(row, 4 * k)
-}
-
-fn inputs(row: &[u8]) -> Inputs {
-    let route = Route {
-        tlat: Degrees(float(row, 3)),
-        tlong: Degrees(float(row, 4)),
-        rlat: Degrees(float(row, 5)),
-        rlong: Degrees(float(row, 6)),
-        long_path: word(row, 7) != 0,
-    };
-    let psc = Factors {
-        e: float(row, 8),
-        f1: float(row, 9),
-        f2: float(row, 10),
-        es: float(row, 11),
-    };
-    let pole = MagneticPole {
-        lat: Degrees(float(row, 12)),
-        lon: Degrees(float(row, 13)),
-    };
-    Inputs {
-        month: word(row, 0),
-        ssn: float(row, 1),
-        gmt: float(row, 2),
-        route,
-        psc,
-        pole,
-    }
+    words::word(row, 4 * k)
 }
 
 // Whether the buffer holds a row's figures.
-fn is_figures(out: &[f32; 151], row: &[u8]) -> bool {
+fn is_figures(out: &[f32; FIGURES], row: &[u8]) -> bool {
     let mut k = 0usize;
-    while k < 151 {
+    while k < FIGURES {
         if !is_float(out[k], word(row, 15 + k)) {
             return false;
         }
@@ -91,19 +67,19 @@ fn told(shown: Shown) -> Spoken {
     }
 }
 
-// The buffer is lent with what no sheet has, and all of it must be overwritten.
-fn is_sheet(row: &[u8; 664], record: &[u8; 7904], month: &[u8; 38552]) -> bool {
-    let mut out = [-12345.0f32; 151];
-    let t = told(figures::figures(inputs(row), record, month, &mut out));
+// All of the buffer must be overwritten.
+fn is_sheet(row: &[u8; 664], record: &[u8; RECORD], month: &[u8; MONTH_FILE]) -> bool {
+    let mut out = [LENT; FIGURES];
+    let t = told(figures::figures(inputs_in(row), record, month, &mut out));
     t.number == 0 && t.place == word(row, 14) && is_figures(&out, row)
 }
 
 // A pair of files and the sheets made of it.
 fn section(fd: i32, t: Tally) -> Tally {
     let mut t = t;
-    let mut record = [0u8; 7904];
+    let mut record = [0u8; RECORD];
     io::read_full(fd, &mut record);
-    let mut month = [0u8; 38552];
+    let mut month = [0u8; MONTH_FILE];
     io::read_full(fd, &mut month);
     let mut left = files::next(fd);
     while left > 0 {
@@ -137,7 +113,7 @@ fn in_range() -> Inputs {
             tlong: Degrees(8.1),
             rlat: Degrees(64.1),
             rlong: Degrees(-21.9),
-            long_path: false,
+            long_path: 0,
         },
         psc: Factors {
             e: 1.0,
@@ -149,10 +125,10 @@ fn in_range() -> Inputs {
     }
 }
 
-fn is_as_lent(out: &[f32; 200]) -> bool {
+fn is_as_lent(out: &[f32; LARGEST]) -> bool {
     let mut k = 0usize;
-    while k < 200 {
-        if out[k] != -12345.0 {
+    while k < LARGEST {
+        if out[k] != LENT {
             return false;
         }
         k += 1;
@@ -162,13 +138,13 @@ fn is_as_lent(out: &[f32; 200]) -> bool {
 
 // The answer of a showing over files cut to these lengths.
 fn shown_of(
-    record: &[u8; 7904],
+    record: &[u8; RECORD],
     record_length: usize,
-    month: &[u8; 38552],
+    month: &[u8; MONTH_FILE],
     month_length: usize,
     out: &mut [f32],
 ) -> Spoken {
-    told(figures::figures(
+    told(drawn(
         in_range(),
         files::cut(record, record_length),
         files::cut(month, month_length),
@@ -177,7 +153,7 @@ fn shown_of(
 }
 
 // Files cut to a length, one byte of the month file changed, and a buffer of some length.
-fn is_refused(fd: i32, record: &[u8; 7904], month: [u8; 38552]) -> bool {
+fn is_refused(fd: i32, record: &[u8; RECORD], month: [u8; MONTH_FILE]) -> bool {
     let record_length = files::index(files::next(fd));
     let month_length = files::index(files::next(fd));
     let at = files::index(files::next(fd));
@@ -186,13 +162,13 @@ fn is_refused(fd: i32, record: &[u8; 7904], month: [u8; 38552]) -> bool {
     let number = files::next(fd);
     let place = files::next(fd);
     let mut damaged = month;
-    if at < 38552 {
+    if at < MONTH_FILE {
         damaged[at] = b;
     }
-    if size > 200 {
+    if size > LARGEST {
         return false;
     }
-    let mut out = [-12345.0f32; 200];
+    let mut out = [LENT; LARGEST];
     let from = 0usize;
     let t = shown_of(
         record,
@@ -209,9 +185,9 @@ fn is_refused(fd: i32, record: &[u8; 7904], month: [u8; 38552]) -> bool {
 
 fn replay_refused(fd: i32) {
     let mut t = none();
-    let mut record = [0u8; 7904];
+    let mut record = [0u8; RECORD];
     io::read_full(fd, &mut record);
-    let mut month = [0u8; 38552];
+    let mut month = [0u8; MONTH_FILE];
     io::read_full(fd, &mut month);
     let mut left = files::next(fd);
     while left > 0 {

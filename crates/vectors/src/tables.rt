@@ -4,8 +4,9 @@ use crate::files;
 use crate::tally::Tally;
 use crate::tally::counted;
 use crate::tally::none;
-use base::coefficients;
+use base::month_file::RECORD;
 use base::tables;
+use base::words;
 ghost use Prim.Native.Nat.{_≤_};
 
 // A row's answer: the refusal, the part's place in its file, and its first word in words.bin.
@@ -19,13 +20,13 @@ struct Answer {
 
 // The word at `at` of a row.
 fn index(row: &[u8], at: usize) -> usize {
-    files::index(coefficients::word(row, at))
+    files::index(words::word(row, at))
 }
 
 fn wanted(row: &[u8]) -> Answer {
     Answer {
-        number: coefficients::word(row, 20),
-        place: coefficients::word(row, 24),
+        number: words::word(row, 20),
+        place: words::word(row, 24),
         start: index(row, 28),
         size: index(row, 32),
         first: index(row, 36),
@@ -87,10 +88,10 @@ fn is_table(row: &[u8; 40], record: &[u8], month: [u8; 38616], all: &[u8; 46384]
     let at = index(row, 12);
     let mut damaged = month;
     if at < 38616 {
-        damaged[at] = (coefficients::word(row, 16) % 256) as u8;
+        damaged[at] = (words::word(row, 16) % 256) as u8;
     }
     is_damaged(
-        coefficients::word(row, 0),
+        words::word(row, 0),
         files::cut(record, index(row, 4)),
         &damaged,
         index(row, 8),
@@ -129,7 +130,7 @@ fn replay_pair(daw_path: &[u8], month_path: &[u8], fd: i32, words_fd: i32) {
     if !files::load(month_path, &mut month) {
         return;
     }
-    files::print_line(b"tables", rows(fd, &daw[7904..15872], month, &all));
+    files::print_line(b"tables", rows(fd, &daw[RECORD..15872], month, &all));
 }
 
 pub fn replay() {

@@ -5,7 +5,7 @@ use mathlib.Core.Path.{_≡_, refl, sym, ap, _∙_, subst}
 use native.Mathlib.Omega.{arith}
 use lib.Dec.{eqb}
 use borrow.Author.Tests.{eqb-true, eqb-false}
-use Rattle.maps.specs.declared.figures.Inputs.{Inputs}
+use Rattle.maps.specs.declared.inputs.Inputs.{Inputs}
 use Rattle.worksheet.specs.declared.desks.Draft.{Draft}
 use Rattle.worksheet.specs.declared.desks.Draft.the-variants.{Closed, Fresh, Stale}
 use Rattle.worksheet.specs.declared.desks.Earlier.{Earlier}

@@ -1,13 +1,12 @@
 -- What an accepted call found and left, and what it needs to be accepted: the rules of the desks, each opened once. Assumes nothing.
 use Prim.Native.Nat.{ℕ}
 use mathlib.Core.Bool.{Bool, true, false, true≢false, false≢true}
-use mathlib.Core.List.{List}
 use mathlib.Core.Path.{_≡_, refl, ap, _∙_}
 use native.Mathlib.Omega.{arith}
 use Rattle.base.specs.declared.refusal.Refusal.{Refusal}
 use Rattle.base.specs.declared.refusal.Verdict.{Verdict}
 use Rattle.base.specs.declared.refusal.Verdict.the-variants.{Accepted, Refused}
-use Rattle.maps.specs.declared.figures.Inputs.{Inputs}
+use Rattle.maps.specs.declared.inputs.Inputs.{Inputs}
 use Rattle.worksheet.specs.declared.inputs.Edit.{Edit}
 use Rattle.worksheet.specs.declared.desks.Draft.{Draft}
 use Rattle.worksheet.specs.declared.desks.Draft.the-variants.{Closed, Fresh, Stale}
@@ -18,6 +17,7 @@ use Rattle.worksheet.specs.declared.desks.Worksheet.{Worksheet}
 use Rattle.base.specs.Refusal.{_then_}
 use Rattle.worksheet.specs.Inputs.{editCheck, edited}
 use Rattle.worksheet.specs.Desks.{draftAt, withDraft, inputsOf, movedTo, outcome, deskCheck, closedCheck, draftCheck, freshCheck, earlierCheck, beginCheck, beginOf, changeCheck, editedDraft, changeOf, commitCheck, commitOf, cancelCheck, cancelOf, setOf, takeBackOf}
+use Rattle.worksheet.specs.Showing.{Source}
 use Rattle.worksheet.specs.Journal.{Call, begin, commit, cancel, change, takeBack, show, told, accepted, Step, stepOf, step}
 use Rattle.worksheet.proofs.Drafts.{FreshAt, closed-not-fresh, stale-not-fresh}
 
@@ -80,14 +80,14 @@ edited-fresh e Closed x h = absurd (closed-not-fresh refl h)
 edited-fresh e (Fresh y) x h = (y, refl, (cc))
 edited-fresh e (Stale y) x h = absurd (stale-not-fresh h)
 
-module _ (f2 file : List ℕ) where
+module _ (source : Source) where
   -- the call c on w is accepted
   abbrev pub Accepts : Call → Worksheet → Type 0
-  Accepts c w = accepted (step f2 file c w .answer) ≡ true
+  Accepts c w = accepted (step source c w .answer) ≡ true
 
   -- ---- a refusal leaves the worksheet, whatever the call
 
-  pub refused-unmoved : (c : Call) (w : Worksheet) → accepted (step f2 file c w .answer) ≡ false → step f2 file c w .sheet ≡ w
+  pub refused-unmoved : (c : Call) (w : Worksheet) → accepted (step source c w .answer) ≡ false → step source c w .sheet ≡ w
   unfolding step beginOf changeOf commitOf cancelOf takeBackOf
   refused-unmoved (begin n) w h = was-refused (beginCheck n w) _ w h
   refused-unmoved (change n e) w h = was-refused (changeCheck n e w) _ w h
@@ -108,7 +108,7 @@ module _ (f2 file : List ℕ) where
       let b = then-both (deskCheck n) (closedCheck (draftAt n w)) (was-accepted (beginCheck n w) _ w h) in
       record { desk = b .0; closed = was-closed (draftAt n w) (b .1) }
 
-  pub begin-leaves : (n : ℕ) (w : Worksheet) → Begun n w → step f2 file (begin n) w ≡ accepting (withDraft n (Fresh (w .inputs)) w)
+  pub begin-leaves : (n : ℕ) (w : Worksheet) → Begun n w → step source (begin n) w ≡ accepting (withDraft n (Fresh (w .inputs)) w)
   unfolding step beginOf beginCheck closedCheck
   begin-leaves n w b = is-accepted (beginCheck n w) _ w (both-then (deskCheck n) _ (b .desk) (ap closedCheck (b .closed)))
 
@@ -127,13 +127,13 @@ module _ (f2 file : List ℕ) where
       record { desk = a .0; drafted = b .0; good = b .1 }
 
   pub change-leaves : (n : ℕ) (e : Edit) (w : Worksheet) → Changed n e w
-      → step f2 file (change n e) w ≡ accepting (withDraft n (editedDraft e (draftAt n w)) w)
+      → step source (change n e) w ≡ accepting (withDraft n (editedDraft e (draftAt n w)) w)
   unfolding step changeOf changeCheck
   change-leaves n e w b = is-accepted (changeCheck n e w) _ w (both-then (deskCheck n) _ (b .desk) (both-then (draftCheck (draftAt n w)) _ (b .drafted) (b .good)))
 
   -- the same of a fresh draft that is edited
   pub change-fresh : (n : ℕ) (e : Edit) (w : Worksheet) (x : Inputs) → deskCheck n ≡ Accepted → editCheck e ≡ Accepted → FreshAt n x w
-      → step f2 file (change n e) w ≡ accepting (withDraft n (Fresh (edited e x)) w)
+      → step source (change n e) w ≡ accepting (withDraft n (Fresh (edited e x)) w)
   unfolding draftCheck editedDraft
   change-fresh n e w x d g h =
       change-leaves n e w (record { desk = d; drafted = ap draftCheck h; good = g })
@@ -155,7 +155,7 @@ module _ (f2 file : List ℕ) where
       record { desk = a .0; draft = d .0; fresh = d .1 }
 
   pub commit-leaves : (n : ℕ) (w : Worksheet) (x : Inputs) → deskCheck n ≡ Accepted → FreshAt n x w
-      → step f2 file (commit n) w ≡ accepting (withDraft n Closed (movedTo x (Set (w .inputs)) w))
+      → step source (commit n) w ≡ accepting (withDraft n Closed (movedTo x (Set (w .inputs)) w))
   unfolding step commitOf commitCheck draftCheck freshCheck inputsOf
   commit-leaves n w x d h =
       is-accepted (commitCheck n w) _ w (both-then (deskCheck n) _ d (both-then (draftCheck (draftAt n w)) _ (ap draftCheck h) (ap freshCheck h)))
@@ -163,7 +163,7 @@ module _ (f2 file : List ℕ) where
 
   -- ---- cancel
 
-  pub cancel-leaves : (n : ℕ) (w : Worksheet) → Accepts (cancel n) w → step f2 file (cancel n) w ≡ accepting (withDraft n Closed w)
+  pub cancel-leaves : (n : ℕ) (w : Worksheet) → Accepts (cancel n) w → step source (cancel n) w ≡ accepting (withDraft n Closed w)
   unfolding step cancelOf
   cancel-leaves n w h = is-accepted (cancelCheck n w) _ w (was-accepted (cancelCheck n w) _ w h)
 
@@ -173,7 +173,7 @@ module _ (f2 file : List ℕ) where
   unfolding step takeBackOf
   taken-back w h = was-set (w .earlier) (was-accepted (earlierCheck (w .earlier)) _ w h)
 
-  pub takeBack-leaves : (w : Worksheet) (i : Inputs) → w .earlier ≡ Set i → step f2 file takeBack w ≡ accepting (movedTo i Nothing w)
+  pub takeBack-leaves : (w : Worksheet) (i : Inputs) → w .earlier ≡ Set i → step source takeBack w ≡ accepting (movedTo i Nothing w)
   unfolding step takeBackOf earlierCheck setOf
   takeBack-leaves w i h =
       is-accepted (earlierCheck (w .earlier)) _ w (ap earlierCheck h)

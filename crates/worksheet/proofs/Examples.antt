@@ -1,4 +1,4 @@
--- The shorter list and the changes in force worked out, an example for each clause of document 01's demand 3: by computation, for all files, opened inputs and buffers. Assumes nothing.
+-- The shorter list and the changes in force worked out, an example for each clause of document 01's demand 3: by computation, for any source of files, all inputs and buffers. Assumes nothing.
 use Prim.Native.Nat.{ℕ}
 use mathlib.Core.List.{List, [], _∷_}
 use mathlib.Core.Path.{_≡_, refl}
@@ -6,16 +6,16 @@ use lib.Ieee.{Float, round, le}
 use Rattle.base.specs.declared.refusal.Refusal.the-variants.{Hour as BadHour, Desk, Drafted, NoDraft, Stale as IsStale, NothingEarlier}
 use Rattle.base.specs.declared.refusal.Verdict.the-variants.{Accepted, Refused}
 use Rattle.base.specs.Single.{decimal}
-use Rattle.maps.specs.declared.figures.Inputs.{Inputs}
+use Rattle.maps.specs.declared.inputs.Inputs.{Inputs}
 use Rattle.maps.specs.declared.figures.Shown.the-variants.{Refused as NotShown}
 use Rattle.worksheet.specs.declared.inputs.Edit.{Edit}
 use Rattle.worksheet.specs.declared.inputs.Edit.the-variants.{Sunspot, Hour}
-use Rattle.base.specs.Ranges.{hourCheck}
-use Rattle.worksheet.specs.Inputs.{monthCheck, sunspotCheck, fieldsCheck, inputsCheck, editCheck}
+use Rattle.base.specs.Ranges.{monthCheck, hourCheck}
+use Rattle.worksheet.specs.Inputs.{sunspotCheck, inputsCheck, editCheck}
 use Rattle.worksheet.specs.Desks.{draftAt, withDraft, inputsOf, staleOf, movedTo, outcome, deskCheck, closedCheck, draftCheck, freshCheck, earlierCheck, freshSheet, beginCheck, beginOf, changeCheck, editedDraft, changeOf, commitCheck, commitOf, cancelCheck, cancelOf, setOf, takeBackOf}
-use Rattle.worksheet.specs.Showing.{inputsShown, askedCheck, showCheck, showOf, showBuffer}
+use Rattle.worksheet.specs.Showing.{Source, inputsShown, askedCheck, bufferCheck, drawnCheck, judgedCheck, showCheck, showOf, showBuffer}
 use Rattle.worksheet.specs.Journal.{Call, begin, commit, cancel, change, takeBack, show, Answer, told, shown, Entry, step, run, own, keptFor, shorter, callsOf, keptOf}
-use Rattle.worksheet.specs.InForce.{editsOf, takenBack, standing}
+use Rattle.worksheet.specs.InForce.{editsOf, changesBy, forceAfter, commitsInForce}
 
 -- two hours and a sunspot number in range, and an hour that is not
 abbrev three : Edit
@@ -37,15 +37,15 @@ outOfRange i = record { month = 1; ssn = decimal 100 0; gmt = decimal 25 0; rout
 abbrev entry : Call → Answer → Entry
 entry c r = record { call = c; answer = r }
 
-module _ (f2 file : List ℕ) (i : Inputs) (a b c d : List Float) where
+module _ (source : Source) (i : Inputs) (a b c d : List Float) where
   -- the entries of a run on a worksheet just opened, and the shorter list's; every rule is open to computation
   full : Inputs → List Call → List Entry
-  unfolding run step freshSheet draftAt withDraft inputsOf staleOf movedTo outcome deskCheck closedCheck draftCheck freshCheck earlierCheck beginCheck beginOf changeCheck editedDraft changeOf commitCheck commitOf cancelCheck cancelOf setOf takeBackOf editCheck sunspotCheck hourCheck monthCheck fieldsCheck inputsCheck inputsShown askedCheck showCheck showOf showBuffer decimal round le
-  full j cs = run f2 file cs (freshSheet j) .entries
+  unfolding run step freshSheet draftAt withDraft inputsOf staleOf movedTo outcome deskCheck closedCheck draftCheck freshCheck earlierCheck beginCheck beginOf changeCheck editedDraft changeOf commitCheck commitOf cancelCheck cancelOf setOf takeBackOf editCheck sunspotCheck hourCheck monthCheck inputsCheck inputsShown askedCheck bufferCheck drawnCheck judgedCheck showCheck showOf showBuffer decimal round le
+  full j cs = run source cs (freshSheet j) .entries
 
   short : Inputs → List Call → List Entry
   unfolding full keptOf shorter keptFor own
-  short j cs = keptOf f2 file (freshSheet j) cs
+  short j cs = keptOf source (freshSheet j) cs
 
   -- the calls of the shorter list
   kept : List Call → List Call
@@ -118,7 +118,7 @@ module _ (f2 file : List ℕ) (i : Inputs) (a b c d : List Float) where
   unfolding kept
   nothing-kept = refl
 
-  -- the same two desks, answer by answer, but for the showings
+  -- another list of two desks, answer by answer
   abbrev answersOf : List Entry → List Answer
   answersOf [] = []
   answersOf (x ∷ l) = x .answer ∷ answersOf l
@@ -131,8 +131,8 @@ module _ (f2 file : List ℕ) (i : Inputs) (a b c d : List Float) where
 
   -- the changes in force after a list of calls
   inForceAfter : List Call → List Edit
-  unfolding full standing takenBack editsOf own
-  inForceAfter cs = standing [] (full i cs)
+  unfolding full commitsInForce forceAfter changesBy editsOf own
+  inForceAfter cs = changesBy (commitsInForce (freshSheet i) (full i cs))
 
   -- a draft not committed yet, a cancelled one and a refused change have no part in them
   committed-only : inForceAfter (begin 1 ∷ change 1 three ∷ change 1 late ∷ begin 2 ∷ change 2 four ∷ cancel 2 ∷ commit 1 ∷ begin 3 ∷ change 3 hundred ∷ []) ≡ three ∷ []

@@ -4,13 +4,9 @@ use mathlib.Core.Bool.{Bool, true, false, cond, not, _&&_, false≢true}
 use mathlib.Core.List.{List, [], _∷_, _++_, reverse, reverseAux, append-nil, append-assoc, reverse-cons, reverse-reverse, List·Memᴰ, List·Memᴰ·head, List·Memᴰ·tail, List·Memᴰ·not-nil, List·Memᴰ·cases-cons, List·Memᴰ·append-cases, List·Memᴰ·eq-of-singleton}
 use mathlib.Core.Logic.{_⊎_, inl, inr}
 use mathlib.Core.Path.{_≡_, refl, sym, ap, ap₂, subst, _∙_}
-use lib.Dec.{eqb}
-use borrow.Author.Tests.{eqb-true}
-use Rattle.base.specs.declared.refusal.Verdict.the-variants.{Accepted}
 use Rattle.worksheet.specs.declared.desks.Worksheet.{Worksheet}
-use Rattle.worksheet.specs.Desks.{deskCheck}
-use Rattle.worksheet.specs.Journal.{Call, begin, commit, cancel, change, takeBack, show, Entry, accepted, step, run, isBegin, isOwn, begins, belongs, own, keptFor, shorter, keptOf, keep, none, isSettled, settled}
-use Rattle.worksheet.proofs.Effects.{refused-not-accepted, committed}
+use Rattle.worksheet.specs.Showing.{Source}
+use Rattle.worksheet.specs.Journal.{Call, commit, Role, beginning, ending, settling, belonging, returning, showing, roleOf, Entry, accepted, roleIn, good, run, isBegin, isOwn, begins, belongs, own, keptFor, shorter, keptOf, keep, none, isSettled, settled}
 
 -- ---- lists
 
@@ -38,95 +34,67 @@ keep-one p b x e = ap (λ (z : Bool). onlyIf z x) e
 
 -- ---- own calls are no settled ones
 
-begin-unsettled : (n : ℕ) (c : Call) (good : Bool) → isBegin n c good ≡ true → isSettled c good ≡ false
-begin-unsettled n (begin m) good e = refl
-begin-unsettled n (commit m) good e = absurd (false≢true e)
-begin-unsettled n (cancel m) good e = refl
-begin-unsettled n (change m k) good e = refl
-begin-unsettled n takeBack good e = absurd (false≢true e)
-begin-unsettled n (show m lent) good e = absurd (false≢true e)
+begin-unsettled : (n : ℕ) (r : Role) (b : Bool) → isBegin n r b ≡ true → isSettled r b ≡ false
+begin-unsettled n (beginning m) b e = refl
+begin-unsettled n (ending m) b e = refl
+begin-unsettled n (settling m) b e = absurd (false≢true e)
+begin-unsettled n (belonging m even es) b e = refl
+begin-unsettled n returning b e = absurd (false≢true e)
+begin-unsettled n showing b e = absurd (false≢true e)
 
-own-call-unsettled : (n : ℕ) (c : Call) (good : Bool) → eqb n 0 ≡ false → isOwn n c good ≡ true → isSettled c good ≡ false
-own-call-unsettled n (begin m) good z e = refl
-own-call-unsettled n (commit m) good z e = absurd (false≢true e)
-own-call-unsettled n (cancel m) good z e = refl
-own-call-unsettled n (change m k) good z e = refl
-own-call-unsettled n takeBack good z e = absurd (false≢true e)
-own-call-unsettled n (show m lent) good z e = ap (λ (k : ℕ). eqb k 0) (eqb-true m n e) ∙ z
+own-call-unsettled : (n : ℕ) (r : Role) (b : Bool) → isOwn n r b ≡ true → isSettled r b ≡ false
+own-call-unsettled n (beginning m) b e = refl
+own-call-unsettled n (ending m) b e = refl
+own-call-unsettled n (settling m) b e = absurd (false≢true e)
+own-call-unsettled n (belonging m even es) b e = refl
+own-call-unsettled n returning b e = absurd (false≢true e)
+own-call-unsettled n showing b e = absurd (false≢true e)
 
-own-unsettled : (n : ℕ) → eqb n 0 ≡ false → (past : List Entry) → keep settled (own n past) ≡ []
+own-unsettled : (n : ℕ) (past : List Entry) → keep settled (own n past) ≡ []
 unfolding own keep
-own-unsettled n z [] = refl
-own-unsettled n z (x ∷ past) = go (begins n x) (belongs n x) refl refl (own-unsettled n z past)
+own-unsettled n [] = refl
+own-unsettled n (x ∷ past) = go (begins n x) (belongs n x) refl refl (own-unsettled n past)
   where
     go : (b o : Bool) → begins n x ≡ b → belongs n x ≡ o → keep settled (own n past) ≡ []
         → keep settled (cond b (x ∷ []) (cond o (own n past ++ (x ∷ [])) (own n past))) ≡ []
-    go true o p q h = keep-one settled false x (begin-unsettled n (x .call) (accepted (x .answer)) p)
+    go true o p q h = keep-one settled false x (begin-unsettled n (roleIn x) (good x) p)
     go false true p q h =
         keep-append settled (own n past) (x ∷ [])
-        ∙ ap₂ _++_ h (keep-one settled false x (own-call-unsettled n (x .call) (accepted (x .answer)) z q))
+        ∙ ap₂ _++_ h (keep-one settled false x (own-call-unsettled n (roleIn x) (good x) q))
     go false false p q h = h
 
-desk-not-zero : (n : ℕ) → deskCheck n ≡ Accepted → eqb n 0 ≡ false
-unfolding deskCheck
-desk-not-zero n h = go (eqb n 0) refl
+-- ---- KEPT IN ORDER: of the accepted commits and take-backs and the showings of the worksheet, the shorter list has all, in their order
+
+block : (past : List Entry) (x : Entry) (r : Role) → roleIn x ≡ r → keep settled (keptFor past r x) ≡ onlyIf (isSettled r (good x)) x
+unfolding keptFor keep
+block past x (beginning n) e = refl
+block past x (ending n) e = refl
+block past x (belonging n even es) e = refl
+block past x showing e = keep-one settled true x (ap (λ (r : Role). isSettled r (good x)) e)
+block past x returning e = go (good x) refl
   where
-    go : (b : Bool) → eqb n 0 ≡ b → b ≡ false
-    go true e = absurd (refused-not-accepted (sym (ap deskCheck (eqb-true n 0 e)) ∙ h))
-    go false e = refl
+    go : (b : Bool) → good x ≡ b → keep settled (onlyIf b x) ≡ onlyIf b x
+    go true g = keep-one settled true x (ap (λ (r : Role). isSettled r (good x)) e ∙ g)
+    go false g = refl
+block past x (settling n) e = go (good x) refl
+  where
+    go : (b : Bool) → good x ≡ b → keep settled (cond b (own n past ++ (x ∷ [])) []) ≡ onlyIf b x
+    go true g =
+        keep-append settled (own n past) (x ∷ [])
+        ∙ ap₂ _++_ (own-unsettled n past) (keep-one settled true x (ap (λ (r : Role). isSettled r (good x)) e ∙ g))
+    go false g = refl
 
--- ---- KEPT IN ORDER: of the accepted commits and take-backs and the showings of 0, the shorter list has all, in their order
+in-order : (past l : List Entry) → keep settled (shorter past l) ≡ keep settled l
+unfolding shorter keep
+in-order past [] = refl
+in-order past (x ∷ l) =
+    keep-append settled (keptFor past (roleIn x) x) (shorter (x ∷ past) l)
+    ∙ ap₂ _++_ (block past x (roleIn x) refl) (in-order (x ∷ past) l)
+    ∙ sym (keep-first (settled x) x (keep settled l))
 
-module _ (f2 file : List ℕ) where
-  block : (past : List Entry) (c : Call) (w : Worksheet) →
-      let x : Entry = record { call = c; answer = step f2 file c w .answer } in
-      keep settled (keptFor past c x) ≡ onlyIf (settled x) x
-  unfolding keptFor keep
-  block past (begin n) w = refl
-  block past (cancel n) w = refl
-  block past (change n e) w = refl
-  block past (show n lent) w = go (eqb n 0) refl
-    where
-      x : Entry
-      x = record { call = show n lent; answer = step f2 file (show n lent) w .answer }
-
-      go : (b : Bool) → eqb n 0 ≡ b → keep settled (onlyIf b x) ≡ onlyIf b x
-      go true e = keep-one settled true x e
-      go false e = refl
-  block past takeBack w = go (accepted (step f2 file takeBack w .answer)) refl
-    where
-      x : Entry
-      x = record { call = takeBack; answer = step f2 file takeBack w .answer }
-
-      go : (b : Bool) → accepted (x .answer) ≡ b → keep settled (onlyIf b x) ≡ onlyIf b x
-      go true e = keep-one settled true x e
-      go false e = refl
-  block past (commit n) w = go (accepted (step f2 file (commit n) w .answer)) refl
-    where
-      x : Entry
-      x = record { call = commit n; answer = step f2 file (commit n) w .answer }
-
-      go : (b : Bool) → accepted (x .answer) ≡ b → keep settled (cond b (own n past ++ (x ∷ [])) []) ≡ onlyIf b x
-      go true e =
-          keep-append settled (own n past) (x ∷ [])
-          ∙ ap₂ _++_ (own-unsettled n (desk-not-zero n (committed f2 file n w e .desk)) past) (keep-one settled true x e)
-      go false e = refl
-
-  in-order : (cs : List Call) (past : List Entry) (w : Worksheet)
-      → keep settled (shorter past (run f2 file cs w .entries)) ≡ keep settled (run f2 file cs w .entries)
-  unfolding run shorter keep
-  in-order [] past w = refl
-  in-order (c ∷ cs) past w =
-      let s = step f2 file c w in
-      let x : Entry = record { call = c; answer = s .answer } in
-      let later = run f2 file cs (s .sheet) .entries in
-      keep-append settled (keptFor past c x) (shorter (x ∷ past) later)
-      ∙ ap₂ _++_ (block past c w) (in-order cs (x ∷ past) (s .sheet))
-      ∙ sym (keep-first (settled x) x (keep settled later))
-
-  pub kept-in-order : (w : Worksheet) (cs : List Call) → keep settled (keptOf f2 file w cs) ≡ keep settled (run f2 file cs w .entries)
-  unfolding keptOf
-  kept-in-order w cs = in-order cs [] w
+pub kept-in-order : (source : Source) (w : Worksheet) (cs : List Call) → keep settled (keptOf source w cs) ≡ keep settled (run source cs w .entries)
+unfolding keptOf
+kept-in-order source w cs = in-order [] (run source cs w .entries)
 
 -- ---- JUST BEFORE: the shorter list goes entry by entry, and own calls stand just before their commit
 
@@ -134,8 +102,8 @@ shorter-append : (past l m : List Entry) → shorter past (l ++ m) ≡ shorter p
 unfolding shorter
 shorter-append past [] m = refl
 shorter-append past (x ∷ l) m =
-    ap (λ (k : List Entry). keptFor past (x .call) x ++ k) (shorter-append (x ∷ past) l m)
-    ∙ sym (append-assoc (keptFor past (x .call) x) (shorter (x ∷ past) l) (shorter (reverseAux l (x ∷ past)) m))
+    ap (λ (k : List Entry). keptFor past (roleIn x) x ++ k) (shorter-append (x ∷ past) l m)
+    ∙ sym (append-assoc (keptFor past (roleIn x) x) (shorter (x ∷ past) l) (shorter (reverseAux l (x ∷ past)) m))
 
 pub just-before : (n : ℕ) (before after : List Entry) (x : Entry) → x .call ≡ commit n → accepted (x .answer) ≡ true
     → shorter [] (before ++ (x ∷ after)) ≡ shorter [] before ++ (own n (reverse before) ++ (x ∷ shorter (x ∷ reverse before) after))
@@ -145,7 +113,7 @@ just-before n before after x c good =
     let later = shorter (x ∷ past) after in
     shorter-append [] before (x ∷ after)
     ∙ ap (λ (k : List Entry). shorter [] before ++ k)
-    (ap (λ (z : Call). keptFor past z x ++ later) c
+    (ap (λ (z : Call). keptFor past (roleOf z) x ++ later) c
     ∙ ap (λ (z : Bool). cond z (own n past ++ (x ∷ [])) [] ++ later) good
     ∙ append-assoc (own n past) (x ∷ []) later)
 
@@ -213,15 +181,15 @@ pub record OwnCall (full : List Entry) (y : Entry) : Type 0 where
   pub its-commit : Entry
   pub after : List Entry
   pub split : full ≡ before ++ (its-commit ∷ after)
-  pub is-commit : its-commit .call ≡ commit desk
+  pub is-commit : roleIn its-commit ≡ settling desk
   pub committed : accepted (its-commit .answer) ≡ true
   pub is-own : y ∈ (own desk (reverse before))
   pub stands-before : y ∈ before
   pub begins-or-belongs : (begins desk y ≡ true) ⊎ (belongs desk y ≡ true)
 
-in-block : (past later : List Entry) (x y : Entry) → y ∈ (keptFor past (x .call) x) → (settled y ≡ true) ⊎ OwnCall (reverse past ++ (x ∷ later)) y
+in-block : (past later : List Entry) (x y : Entry) → y ∈ (keptFor past (roleIn x) x) → (settled y ≡ true) ⊎ OwnCall (reverse past ++ (x ∷ later)) y
 unfolding keptFor
-in-block past later x y h = of (x .call) refl h
+in-block past later x y h = of (roleIn x) refl h
   where
     Good : Type 0
     Good = (settled y ≡ true) ⊎ OwnCall (reverse past ++ (x ∷ later)) y
@@ -233,7 +201,7 @@ in-block past later x y h = of (x .call) refl h
     if-x true e m = as-x (e refl) m
     if-x false e m = absurd (List·Memᴰ·not-nil m)
 
-    committed-by : (n : ℕ) → x .call ≡ commit n → (b : Bool) → accepted (x .answer) ≡ b → y ∈ (cond b (own n past ++ (x ∷ [])) []) → Good
+    committed-by : (n : ℕ) → roleIn x ≡ settling n → (b : Bool) → good x ≡ b → y ∈ (cond b (own n past ++ (x ∷ [])) []) → Good
     committed-by n c true e m = either (List·Memᴰ·append-cases (own n past) m)
       where
         either : y ∈ (own n past) ⊎ y ∈ (x ∷ []) → Good
@@ -249,27 +217,27 @@ in-block past later x y h = of (x .call) refl h
           stands-before = among-reverse y past [] (inl (own-among n y past k));
           begins-or-belongs = own-member n y past k;
         })
-        either (inr k) = as-x (ap (λ (z : Call). isSettled z (accepted (x .answer))) c ∙ e) k
+        either (inr k) = as-x (ap (λ (r : Role). isSettled r (good x)) c ∙ e) k
     committed-by n c false e m = absurd (List·Memᴰ·not-nil m)
 
-    of : (c : Call) → x .call ≡ c → y ∈ (keptFor past c x) → Good
-    of (begin n) e m = absurd (List·Memᴰ·not-nil m)
-    of (cancel n) e m = absurd (List·Memᴰ·not-nil m)
-    of (change n k) e m = absurd (List·Memᴰ·not-nil m)
-    of takeBack e m = if-x (accepted (x .answer)) (λ g. ap (λ (z : Call). isSettled z (accepted (x .answer))) e ∙ g) m
-    of (show n lent) e m = if-x (eqb n 0) (λ g. ap (λ (z : Call). isSettled z (accepted (x .answer))) e ∙ g) m
-    of (commit n) e m = committed-by n e (accepted (x .answer)) refl m
+    of : (r : Role) → roleIn x ≡ r → y ∈ (keptFor past r x) → Good
+    of (beginning n) e m = absurd (List·Memᴰ·not-nil m)
+    of (ending n) e m = absurd (List·Memᴰ·not-nil m)
+    of (belonging n even es) e m = absurd (List·Memᴰ·not-nil m)
+    of returning e m = if-x (good x) (λ g. ap (λ (r : Role). isSettled r (good x)) e ∙ g) m
+    of showing e m = as-x (ap (λ (r : Role). isSettled r (good x)) e) m
+    of (settling n) e m = committed-by n e (good x) refl m
 
 all-blocks : (past l : List Entry) (y : Entry) → y ∈ (shorter past l) → (settled y ≡ true) ⊎ OwnCall (reverse past ++ l) y
 unfolding shorter
 all-blocks past [] y h = absurd (List·Memᴰ·not-nil h)
-all-blocks past (x ∷ later) y h = go (all-blocks (x ∷ past) later y) (List·Memᴰ·append-cases (keptFor past (x .call) x) h)
+all-blocks past (x ∷ later) y h = go (all-blocks (x ∷ past) later y) (List·Memᴰ·append-cases (keptFor past (roleIn x) x) h)
   where
     same : reverse (x ∷ past) ++ later ≡ reverse past ++ (x ∷ later)
     same = ap (λ (k : List Entry). k ++ later) (reverse-cons x past) ∙ append-assoc (reverse past) (x ∷ []) later
 
     go : (y ∈ (shorter (x ∷ past) later) → (settled y ≡ true) ⊎ OwnCall (reverse (x ∷ past) ++ later) y)
-        → y ∈ (keptFor past (x .call) x) ⊎ y ∈ (shorter (x ∷ past) later) → (settled y ≡ true) ⊎ OwnCall (reverse past ++ (x ∷ later)) y
+        → y ∈ (keptFor past (roleIn x) x) ⊎ y ∈ (shorter (x ∷ past) later) → (settled y ≡ true) ⊎ OwnCall (reverse past ++ (x ∷ later)) y
     go below (inl m) = in-block past later x y m
     go below (inr m) = subst (λ (k : List Entry). (settled y ≡ true) ⊎ OwnCall k y) same (below m)
 

@@ -1,6 +1,7 @@
 -- Laws that belong to no one function. Assumes nothing.
 pub mod Verdicts
 pub mod Showings
+pub mod Makings
 pub mod Drafts
 pub mod Openings
 pub mod Effects

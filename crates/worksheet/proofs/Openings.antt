@@ -1,55 +1,35 @@
--- Inputs from a program's words are inputs that open accepts, and ends of the ranges: by the fields' verdicts, and by computation. Assumes nothing.
-use Prim.Native.Nat.{ℕ}
+-- Empty words, a refused opening, and the ends of the ranges: by computation. Assumes nothing.
 use mathlib.Core.List.{List, [], _∷_}
-use mathlib.Core.Path.{_≡_, refl, sym, ap, _∙_}
-use native.Mathlib.Omega.{arith}
+use mathlib.Core.Path.{_≡_, refl, ap}
 use lib.Ieee.{Float, nan, round, le}
 use Rattle.base.specs.declared.angle.Degrees.{Degrees}
 use Rattle.base.specs.declared.refusal.Refusal.the-variants.{Month, Sunspot, Hour, Latitude, Longitude, Factor, Flag}
-use Rattle.base.specs.declared.refusal.Verdict.{Verdict}
 use Rattle.base.specs.declared.refusal.Verdict.the-variants.{Accepted, Refused}
 use Rattle.base.specs.Single.{decimal, minusDecimal}
 use Rattle.base.specs.Words.{wordAt}
-use Rattle.maps.specs.declared.figures.Inputs.{Inputs}
-use Rattle.worksheet.specs.declared.inputs.FromWords.the-variants.{Fields, Refused as BadFields}
-use Rattle.worksheet.specs.declared.desks.Opened.the-variants.{Sheet}
+use Rattle.base.specs.Ranges.{monthCheck, hourCheck, latitudeCheck, longitudeCheck}
+use Rattle.maps.specs.Inputs.{inputsFrom}
+use Rattle.worksheet.specs.Inputs.{sunspotCheck, factorCheck, flagCheck, inputsCheck}
+use Rattle.base.specs.declared.refusal.Refusal.{Refusal}
+use Rattle.base.specs.declared.refusal.Verdict.{Verdict}
 use Rattle.base.specs.Refusal.{_then_}
-use Rattle.base.specs.Ranges.{hourCheck, latitudeCheck, longitudeCheck}
-use Rattle.worksheet.specs.Inputs.{monthCheck, sunspotCheck, factorCheck, flagCheck, routeCheck, factorsCheck, poleCheck, fieldsCheck, inputsCheck, inputsIn, wordsCheck, fieldsIf, fromWords}
-use Rattle.worksheet.specs.Desks.{freshSheet, openedIf, openOf}
-use Rattle.worksheet.proofs.Effects.{then-both}
-
--- ---- WORDS THAT OPEN
-
--- where all fields are good, the flag is
-good-flag : (v : Verdict) (i : Inputs) → fieldsCheck v i ≡ Accepted → v ≡ Accepted
-unfolding fieldsCheck
-good-flag v i h =
-    let q = factorsCheck (i .psc) then poleCheck (i .pole) in
-    let r = routeCheck (i .route) in
-    let a = then-both (monthCheck (i .month)) (sunspotCheck (i .ssn) then hourCheck (i .gmt) then r then v then q) h in
-    let b = then-both (sunspotCheck (i .ssn)) (hourCheck (i .gmt) then r then v then q) (a .1) in
-    let c = then-both (hourCheck (i .gmt)) (r then v then q) (b .1) in
-    let d = then-both r (v then q) (c .1) in
-    then-both v q (d .1) .0
-
-pub words-open : (s : List ℕ) (i : Inputs) → fromWords s ≡ Fields i → openOf i ≡ Sheet (freshSheet i)
-unfolding fromWords wordsCheck openOf inputsCheck
-words-open s i h =
-    let r = go (wordsCheck s) refl h in
-    let ok = r .0 in
-    let all : fieldsCheck Accepted (inputsIn s) ≡ Accepted =
-    ap (λ (v : Verdict). fieldsCheck v (inputsIn s)) (sym (good-flag (flagCheck (wordAt s 28)) (inputsIn s) ok)) ∙ ok in
-    ap (λ (v : Verdict). openedIf v i) (ap (fieldsCheck Accepted) (sym (r .1)) ∙ all)
-  where
-    go : (v : Verdict) → wordsCheck s ≡ v → fieldsIf v (inputsIn s) ≡ Fields i → (wordsCheck s ≡ Accepted) × (inputsIn s ≡ i)
-    go Accepted e f = (e, (cc))
-    go (Refused why) e f = let z : _≡_ {A = ℕ} 0 1 = cc in absurd (omega arith)
+use lib.ListN.{length}
+use Rattle.maps.specs.declared.inputs.Inputs.{Inputs}
+use Rattle.maps.specs.declared.figures.Shown.the-variants.{Refused as NotShown}
+use Rattle.maps.specs.Figures.{routeOf, answerOf}
+use Rattle.worksheet.specs.Desks.{freshSheet, openOf, openedOf}
+use Rattle.worksheet.specs.Showing.{Source, inputsShown, askedCheck, judgedCheck, drawnCheck, showCheck, showOf}
 
 -- 'Empty input prints exactly `refused 1 1`': every byte counts as 0
-pub no-words : fromWords [] ≡ BadFields Month
-unfolding fromWords wordsCheck fieldsCheck monthCheck inputsIn wordAt
+pub no-words : openedOf [] .answer ≡ Refused Month
+unfolding openedOf openOf inputsCheck monthCheck inputsFrom wordAt
 no-words = refl
+
+-- what stands beside a refused opening: its own showing is refused by the same field, whatever is lent
+pub open-refused : (source : Source) (i : Inputs) (lent : List Float) (why : Refusal) → openOf i .answer ≡ Refused why
+    → showOf source 0 lent (openOf i .sheet) ≡ NotShown why
+unfolding openOf showOf showCheck judgedCheck askedCheck inputsShown freshSheet
+open-refused source i lent why h = ap (λ (v : Verdict). answerOf (v then drawnCheck (source i) (length lent)) (routeOf i .count)) h
 
 -- ---- 'Ends are included; NaN is outside'
 

@@ -1,24 +1,23 @@
--- After every list of calls the worksheet's inputs are those in force, its earlier set those in force without the last commit, and a fresh draft is what its begin copied with its own changes made: an invariant of the run, seen to for each kind of call. Assumes nothing.
+-- After every list of calls the worksheet's inputs are those in force, its earlier set the one that a take-back returns, and a fresh draft is what its begin copied with its own changes made: an invariant of the run, seen to for each role. Assumes nothing.
 use Prim.Native.Nat.{ℕ}
-use mathlib.Core.Bool.{Bool, true, false, cond, not, _&&_, and-false, false≢true}
-use mathlib.Core.List.{List, [], _∷_, _++_, reverse, reverseAux, append-nil, append-assoc}
+use mathlib.Core.Bool.{Bool, true, false, cond, not, _&&_, _||_, and-false, false≢true}
+use mathlib.Core.List.{List, [], _∷_, _++_, reverseAux, append-nil, append-assoc}
 use mathlib.Core.Path.{_≡_, refl, sym, ap, ap₂, subst, _∙_}
 use native.Mathlib.Omega.{arith}
 use lib.Dec.{eqb}
-use lib.Ieee.{Float}
 use borrow.Author.Tests.{eqb-true, eq-eqb}
-use Rattle.maps.specs.declared.figures.Inputs.{Inputs}
+use Rattle.maps.specs.declared.inputs.Inputs.{Inputs}
 use Rattle.worksheet.specs.declared.inputs.Edit.{Edit}
-use Rattle.worksheet.specs.declared.desks.Draft.{Draft}
-use Rattle.worksheet.specs.declared.desks.Draft.the-variants.{Closed, Fresh}
+use Rattle.worksheet.specs.declared.desks.Earlier.{Earlier}
 use Rattle.worksheet.specs.declared.desks.Earlier.the-variants.{Nothing, Set}
 use Rattle.worksheet.specs.declared.desks.Worksheet.{Worksheet}
 use Rattle.worksheet.specs.Inputs.{edited}
-use Rattle.worksheet.specs.Desks.{draftAt, withDraft, movedTo, editedDraft, freshSheet}
-use Rattle.worksheet.specs.Journal.{Call, begin, commit, cancel, change, takeBack, show, Entry, accepted, Step, step, run, isBegin, isOwn, begins, belongs, own, none}
-use Rattle.worksheet.specs.InForce.{editIn, editsOf, changed, takenBackBy, takenBack, counted, standing, isDisturbing, disturbs}
-use Rattle.worksheet.proofs.Drafts.{FreshAt, closed-not-fresh, fresh-same, inputs-with, earlier-with, rest-draft, with-fresh, with-other, moved-not-fresh, settled-not-fresh}
-use Rattle.worksheet.proofs.Effects.{edited-fresh, refused-unmoved, begun, begin-leaves, was-changed, change-leaves, committed, commit-leaves, cancel-leaves, taken-back, takeBack-leaves}
+use Rattle.worksheet.specs.Showing.{Source}
+use Rattle.worksheet.specs.Journal.{Call, Role, beginning, ending, settling, belonging, returning, showing, roleOf, Entry, accepted, roleIn, good, step, entryOf, run, isBegin, isOwn, begins, belongs, own, none}
+use Rattle.worksheet.specs.InForce.{editsIn, editsOf, changed, Commit, Standing, changesBy, inputsBy, Force, standingAt, standingBefore, forceIn, pushed, returnedTo, forceBy, forceAfter, isDisturbing, disturbs}
+use Rattle.worksheet.proofs.Drafts.{atRest, FreshAt}
+use Rattle.worksheet.proofs.Replay.{Local, sheetOf, Law}
+use Rattle.worksheet.proofs.Rules.{law}
 
 -- ---- changes one after the other
 
@@ -30,92 +29,55 @@ changed-append i (e ∷ l) m = changed-append (edited e i) l m
 edits-append : (l m : List Entry) → editsOf (l ++ m) ≡ editsOf l ++ editsOf m
 unfolding editsOf
 edits-append [] m = refl
-edits-append (x ∷ l) m = ap (λ (k : List Edit). editIn (x .call) ++ k) (edits-append l m) ∙ sym (append-assoc (editIn (x .call)) (editsOf l) (editsOf m))
+edits-append (x ∷ l) m = ap (λ (k : List Edit). editsIn (roleIn x) ++ k) (edits-append l m) ∙ sym (append-assoc (editsIn (roleIn x)) (editsOf l) (editsOf m))
 
--- ---- the changes in force, walking back through the entries, the latest first
-
--- `undone` says whether the accepted commit or take-back that was met last is a take-back
-pub walked : Bool → List Entry → List Edit
-walked undone [] = []
-walked undone (x ∷ past) =
-    let good = accepted (x .answer) in
-    walked (takenBackBy (x .call) good undone) past ++ counted past undone (x .call) good
-
-walked-on : (past l : List Entry) → walked false (reverseAux l past) ≡ walked (takenBack l) past ++ standing past l
-unfolding walked standing takenBack
-walked-on past [] = sym (append-nil (walked false past))
-walked-on past (x ∷ l) =
-    let good = accepted (x .answer) in
-    let before = walked (takenBackBy (x .call) good (takenBack l)) past in
-    walked-on (x ∷ past) l
-    ∙ append-assoc before (counted past (takenBack l) (x .call) good) (standing (x ∷ past) l)
-
--- it comes to the same
-pub walked-all : (l : List Entry) → walked false (reverse l) ≡ standing [] l
-unfolding walked
-walked-all l = walked-on [] l
-
--- ---- one entry more: by the call c, and `good`, whether it was accepted
+-- ---- what a role does, and `b`, whether the call was accepted
 
 -- an accepted commit or take-back
-abbrev pub isMoving : Call → Bool → Bool
-isMoving (begin n) good = false
-isMoving (commit n) good = good
-isMoving (cancel n) good = false
-isMoving (change n e) good = false
-isMoving takeBack good = good
-isMoving (show n lent) good = false
+abbrev pub isMoving : Role → Bool → Bool
+isMoving (beginning n) b = false
+isMoving (ending n) b = false
+isMoving (settling n) b = b
+isMoving (belonging n even es) b = false
+isMoving returning b = b
+isMoving showing b = false
 
-still : (u : Bool) (past : List Entry) (c : Call) (good : Bool) → isMoving c good ≡ false
-    → walked (takenBackBy c good u) past ++ counted past u c good ≡ walked u past
-still u past (begin n) good h = append-nil (walked u past)
-still u past (commit n) good h =
-    ap (λ (z : Bool). walked (cond z false u) past ++ cond (z && not u) (editsOf (own n past)) []) h ∙ append-nil (walked u past)
-still u past (cancel n) good h = append-nil (walked u past)
-still u past (change n e) good h = append-nil (walked u past)
-still u past takeBack good h = ap (λ (z : Bool). walked (cond z true u) past ++ []) h ∙ append-nil (walked u past)
-still u past (show n lent) good h = append-nil (walked u past)
+still : (past : List Entry) (x : Entry) (r : Role) (b : Bool) (f : Force) → isMoving r b ≡ false → forceBy past x r b f ≡ f
+still past x (beginning n) b f h = refl
+still past x (ending n) b f h = refl
+still past x (settling n) b f h = ap (λ (z : Bool). cond z (pushed (record { desk = n; past = past; entry = x }) f) f) h
+still past x (belonging n even es) b f h = refl
+still past x returning b f h = ap (λ (z : Bool). cond z (returnedTo (f .before) f) f) h
+still past x showing b f h = refl
 
-pub quiet-still : (n : ℕ) (c : Call) (good : Bool) → isDisturbing n c good ≡ false → isMoving c good ≡ false
-quiet-still n (begin m) good h = refl
-quiet-still n (commit m) good h = h
-quiet-still n (cancel m) good h = refl
-quiet-still n (change m e) good h = refl
-quiet-still n takeBack good h = h
-quiet-still n (show m lent) good h = refl
+-- a call that moves nothing leaves what is in force
+pub force-still : (f : Force) (x : Entry) (past : List Entry) → isMoving (roleIn x) (good x) ≡ false → forceAfter f (x ∷ past) ≡ forceAfter f past
+unfolding forceAfter
+force-still f x past h = still past x (roleIn x) (good x) (forceAfter f past) h
 
-pub begin-still : (n : ℕ) (c : Call) (good : Bool) → isBegin n c good ≡ true → isMoving c good ≡ false
-begin-still n (begin m) good h = refl
-begin-still n (commit m) good h = absurd (false≢true h)
-begin-still n (cancel m) good h = refl
-begin-still n (change m e) good h = refl
-begin-still n takeBack good h = absurd (false≢true h)
-begin-still n (show m lent) good h = refl
+pub quiet-still : (n : ℕ) (r : Role) (b : Bool) → isDisturbing n r b ≡ false → isMoving r b ≡ false
+quiet-still n (beginning m) b h = refl
+quiet-still n (ending m) b h = refl
+quiet-still n (settling m) b h = h
+quiet-still n (belonging m even es) b h = refl
+quiet-still n returning b h = h
+quiet-still n showing b h = refl
 
-pub quiet-unbegun : (n : ℕ) (c : Call) (good : Bool) → isDisturbing n c good ≡ false → isBegin n c good ≡ false
-quiet-unbegun n (begin m) good h = h
-quiet-unbegun n (commit m) good h = refl
-quiet-unbegun n (cancel m) good h = refl
-quiet-unbegun n (change m e) good h = refl
-quiet-unbegun n takeBack good h = refl
-quiet-unbegun n (show m lent) good h = refl
+pub begin-still : (n : ℕ) (r : Role) (b : Bool) → isBegin n r b ≡ true → isMoving r b ≡ false
+begin-still n (beginning m) b h = refl
+begin-still n (ending m) b h = refl
+begin-still n (settling m) b h = absurd (false≢true h)
+begin-still n (belonging m even es) b h = refl
+begin-still n returning b h = absurd (false≢true h)
+begin-still n showing b h = refl
 
--- a refused call, or a showing, disturbs nobody and changes nothing
-refused-quiet : (n : ℕ) (c : Call) → isDisturbing n c false ≡ false
-refused-quiet n (begin m) = and-false (eqb m n)
-refused-quiet n (commit m) = refl
-refused-quiet n (cancel m) = and-false (eqb m n)
-refused-quiet n (change m e) = refl
-refused-quiet n takeBack = refl
-refused-quiet n (show m lent) = refl
-
-refused-edits : (n : ℕ) (c : Call) → isOwn n c false ≡ true → editIn c ≡ []
-refused-edits n (begin m) h = refl
-refused-edits n (commit m) h = refl
-refused-edits n (cancel m) h = refl
-refused-edits n (change m e) h = absurd (false≢true (sym (and-false (eqb m n)) ∙ h))
-refused-edits n takeBack h = refl
-refused-edits n (show m lent) h = refl
+pub quiet-unbegun : (n : ℕ) (r : Role) (b : Bool) → isDisturbing n r b ≡ false → isBegin n r b ≡ false
+quiet-unbegun n (beginning m) b h = h
+quiet-unbegun n (ending m) b h = refl
+quiet-unbegun n (settling m) b h = refl
+quiet-unbegun n (belonging m even es) b h = refl
+quiet-unbegun n returning b h = refl
+quiet-unbegun n showing b h = refl
 
 -- ---- what a fresh draft is, from the entries
 
@@ -129,221 +91,247 @@ pub record Drafting (n : ℕ) (past : List Entry) (j x : Inputs) : Type 0 where
   pub quiet : none (disturbs n) late ≡ true
   pub made : x ≡ changed j (editsOf (own n past))
 
--- the own changes stay, where the entry is no begin and no own change
-edits-stay : (n : ℕ) (past : List Entry) (y : Entry) → begins n y ≡ false → (belongs n y ≡ true → editIn (y .call) ≡ [])
-    → editsOf (own n (y ∷ past)) ≡ editsOf (own n past)
-unfolding own editsOf
-edits-stay n past y p q =
-    ap (λ (z : Bool). editsOf (cond z (y ∷ []) (cond (belongs n y) (own n past ++ (y ∷ [])) (own n past)))) p
-    ∙ go (belongs n y) refl
-  where
-    go : (b : Bool) → belongs n y ≡ b → editsOf (cond b (own n past ++ (y ∷ [])) (own n past)) ≡ editsOf (own n past)
-    go true e =
-        edits-append (own n past) (y ∷ [])
-        ∙ ap (λ (k : List Edit). editsOf (own n past) ++ (k ++ [])) (q e)
-        ∙ append-nil (editsOf (own n past))
-    go false e = refl
-
-drafting-on : (n : ℕ) (past : List Entry) (j x : Inputs) (y : Entry) → disturbs n y ≡ false → (belongs n y ≡ true → editIn (y .call) ≡ [])
-    → Drafting n past j x → Drafting n (y ∷ past) j x
+-- one entry more that does not disturb it, by which the draft and its own calls went on alike
+drafting-on : (n : ℕ) (past : List Entry) (j x v : Inputs) (y : Entry) → disturbs n y ≡ false
+    → v ≡ changed j (editsOf (own n (y ∷ past))) → Drafting n past j x → Drafting n (y ∷ past) j v
 unfolding none
-drafting-on n past j x y p q d = record {
+drafting-on n past j x v y p q d = record {
   late = y ∷ d .late;
   its-begin = d .its-begin;
   front = d .front;
   split = ap (λ (k : List Entry). y ∷ k) (d .split);
   begun = d .begun;
   quiet = ap (λ (z : Bool). not z && none (disturbs n) (d .late)) p ∙ d .quiet;
-  made = d .made ∙ ap (changed j) (sym (edits-stay n past y (quiet-unbegun n (y .call) (accepted (y .answer)) p) q));
+  made = q;
 }
 
-nothing-not-set : {j : Inputs} → Nothing ≡ Set j → ⊥
-nothing-not-set p = let z : _≡_ {A = ℕ} 0 1 = cc in omega arith
+-- the own changes after an entry that is no begin and no own call
+edits-stay : (n : ℕ) (past : List Entry) (y : Entry) → begins n y ≡ false → belongs n y ≡ false → own n (y ∷ past) ≡ own n past
+unfolding own
+edits-stay n past y p q =
+    ap (λ (z : Bool). cond z (y ∷ []) (cond (belongs n y) (own n past ++ (y ∷ [])) (own n past))) p
+    ∙ ap (λ (z : Bool). cond z (own n past ++ (y ∷ [])) (own n past)) q
+
+-- the own changes after an own call
+edits-more : (n : ℕ) (past : List Entry) (y : Entry) → begins n y ≡ false → belongs n y ≡ true
+    → editsOf (own n (y ∷ past)) ≡ editsOf (own n past) ++ editsIn (roleIn y)
+unfolding own editsOf
+edits-more n past y p q =
+    ap (λ (z : Bool). editsOf (cond z (y ∷ []) (cond (belongs n y) (own n past ++ (y ∷ [])) (own n past)))) p
+    ∙ ap (λ (z : Bool). editsOf (cond z (own n past ++ (y ∷ [])) (own n past))) q
+    ∙ edits-append (own n past) (y ∷ [])
+    ∙ ap (λ (k : List Edit). editsOf (own n past) ++ k) (append-nil (editsIn (roleIn y)))
+
+-- ---- THE INVARIANT, after the entries `past` of a run that began with f in force
+
+-- the earlier set of what is in force
+abbrev pub earlierBy : List Standing → Earlier
+earlierBy [] = Nothing
+earlierBy (s ∷ l) = Set (inputsBy s)
+
+pub record Holds (f : Force) (past : List Entry) (w : Worksheet) : Type 0 where
+  pub at-present : w .inputs ≡ inputsBy (forceAfter f past .present)
+  pub at-earlier : w .earlier ≡ earlierBy (forceAfter f past .before)
+  pub drafts : (n : ℕ) (x : Inputs) → FreshAt n x w → Drafting n past (w .inputs) x
 
 set-same : {j k : Inputs} → Set j ≡ Set k → j ≡ k
 set-same p = cc
 
--- ---- THE INVARIANT, of a worksheet opened with i, after the entries `past`
+pub nothing-not-set : {j : Inputs} → Nothing ≡ Set j → ⊥
+nothing-not-set p = let z : _≡_ {A = ℕ} 0 1 = cc in omega arith
 
-pub record Holds (i : Inputs) (past : List Entry) (w : Worksheet) : Type 0 where
-  pub at-present : w .inputs ≡ changed i (walked false past)
-  pub at-take-back : (j : Inputs) → w .earlier ≡ Set j → j ≡ changed i (walked true past)
-  pub drafts : (n : ℕ) (x : Inputs) → FreshAt n x w → Drafting n past (w .inputs) x
+-- a take-back returns the set that the worksheet has as its earlier one
+returned : (before : List Standing) (f : Force) (i : Inputs) → earlierBy before ≡ Set i
+    → (i ≡ inputsBy (returnedTo before f .present)) × (Nothing ≡ earlierBy (returnedTo before f .before))
+returned [] f i h = absurd (nothing-not-set h)
+returned (s ∷ l) f i h = (sym (set-same h), refl)
 
-pub walked-still : (u : Bool) (past : List Entry) (y : Entry) → isMoving (y .call) (accepted (y .answer)) ≡ false → walked u (y ∷ past) ≡ walked u past
-unfolding walked
-walked-still u past y h = still u past (y .call) (accepted (y .answer)) h
+module _ (source : Source) (f : Force) (past : List Entry) (w : Worksheet) (g : Holds f past w) (c : Call) where
+  abbrev y : Entry
+  y = entryOf source c w
 
-module _ (i : Inputs) (past : List Entry) (w : Worksheet) (g : Holds i past w) where
+  abbrev v : Worksheet
+  v = sheetOf source c w
+
+  abbrev After : Role → Type 0
+  After r = roleOf c ≡ r → Holds f (y ∷ past) v
+
+  -- where inputs and earlier set stay and the call moves nothing, only drafts are to be seen to
+  resting : isMoving (roleIn y) (good y) ≡ false → atRest v ≡ atRest w
+      → ((n : ℕ) (x : Inputs) → FreshAt n x v → Drafting n (y ∷ past) (w .inputs) x) → Holds f (y ∷ past) v
+  resting q h d =
+      let same : v .inputs ≡ w .inputs = ap (λ (u : Worksheet). u .inputs) h in
+      let force = force-still f y past q in
+      record {
+        at-present = same ∙ g .at-present ∙ sym (ap (λ (k : Force). inputsBy (k .present)) force);
+        at-earlier = ap (λ (u : Worksheet). u .earlier) h ∙ g .at-earlier ∙ sym (ap (λ (k : Force). earlierBy (k .before)) force);
+        drafts = λ n x e. subst (λ (j : Inputs). Drafting n (y ∷ past) j x) (sym same) (d n x e);
+      }
+
+  -- a draft that the call has nothing to do with
+  untouched : (n : ℕ) (x : Inputs) → disturbs n y ≡ false → belongs n y ≡ false → FreshAt n x w → Drafting n (y ∷ past) (w .inputs) x
+  untouched n x p q e =
+      let d = g .drafts n x e in
+      drafting-on n past (w .inputs) x x y p
+      (d .made ∙ ap (λ (l : List Entry). changed (w .inputs) (editsOf l)) (sym (edits-stay n past y (quiet-unbegun n (roleIn y) (good y) p) q))) d
+
   -- nothing moved
-  unmoved : (y : Entry) → isMoving (y .call) (accepted (y .answer)) ≡ false → ((n : ℕ) → disturbs n y ≡ false)
-      → ((n : ℕ) → belongs n y ≡ true → editIn (y .call) ≡ []) → Holds i (y ∷ past) w
-  unmoved y h p q = record {
-    at-present = g .at-present ∙ ap (changed i) (sym (walked-still false past y h));
-    at-take-back = λ j e. g .at-take-back j e ∙ ap (changed i) (sym (walked-still true past y h));
-    drafts = λ n x f. drafting-on n past (w .inputs) x y (p n) (q n) (g .drafts n x f);
-  }
+  unmoved : v ≡ w → ((n : ℕ) → disturbs n y ≡ false) → ((n : ℕ) → belongs n y ≡ false) → Holds f (y ∷ past) v
+  unmoved h p q =
+      resting (quiet-still 0 (roleIn y) (good y) (p 0)) (ap atRest h)
+      (λ n x e. untouched n x (p n) (q n) (subst (λ (u : Worksheet). FreshAt n x u) h e))
 
-  -- desk m's draft became d
-  one-draft : (m : ℕ) (d : Draft) (y : Entry) (v : Worksheet) → v ≡ withDraft m d w → isMoving (y .call) (accepted (y .answer)) ≡ false
-      → ((n : ℕ) → eqb m n ≡ false → (disturbs n y ≡ false) × (belongs n y ≡ false))
-      → ((x : Inputs) → d ≡ Fresh x → Drafting m (y ∷ past) (w .inputs) x)
-      → Holds i (y ∷ past) v
-  one-draft m d y v is h p q = record {
-    at-present = same ∙ g .at-present ∙ ap (changed i) (sym (walked-still false past y h));
-    at-take-back = λ j e. g .at-take-back j (sym (ap (λ (u : Worksheet). u .earlier) is ∙ earlier-with m d w) ∙ e) ∙ ap (changed i) (sym (walked-still true past y h));
-    drafts = λ n x f. subst (λ (k : Inputs). Drafting n (y ∷ past) k x) (sym same) (at n x (eqb m n) refl (sym (ap (draftAt n) is) ∙ f));
-  }
+  -- a call of desk n alone
+  locally : (n : ℕ) → isMoving (roleIn y) (good y) ≡ false → Local n w v
+      → ((m : ℕ) → eqb n m ≡ false → (disturbs m y ≡ false) × (belongs m y ≡ false))
+      → ((x : Inputs) → FreshAt n x v → Drafting n (y ∷ past) (w .inputs) x) → Holds f (y ∷ past) v
+  locally n q loc other its = resting q (loc .at-rest) (λ m x e. go m x (eqb n m) refl e)
     where
-      same : v .inputs ≡ w .inputs
-      same = ap (λ (u : Worksheet). u .inputs) is ∙ inputs-with m d w
+      go : (m : ℕ) (x : Inputs) (b : Bool) → eqb n m ≡ b → FreshAt m x v → Drafting m (y ∷ past) (w .inputs) x
+      go m x true t e =
+          subst (λ (k : ℕ). FreshAt k x v → Drafting k (y ∷ past) (w .inputs) x) (eqb-true n m t) (its x) e
+      go m x false t e = let o = other m t in untouched m x (o .0) (o .1) (loc .others m x t e)
 
-      at : (n : ℕ) (x : Inputs) (b : Bool) → eqb m n ≡ b → FreshAt n x (withDraft m d w) → Drafting n (y ∷ past) (w .inputs) x
-      at n x true e f =
-          subst (λ (k : ℕ). FreshAt k x (withDraft m d w) → Drafting k (y ∷ past) (w .inputs) x) (eqb-true m n e)
-          (λ f'. q x (with-fresh m d w x f')) f
-      at n x false e f =
-          let r = p n e in
-          drafting-on n past (w .inputs) x y (r .0) (λ o. absurd (false≢true (sym (r .1) ∙ o))) (g .drafts n x (sym (with-other m n d e w) ∙ f))
+  -- ---- each role
 
-  module _ (f2 file : List ℕ) where
-    abbrev entryOf : Call → Entry
-    entryOf c = record { call = c; answer = step f2 file c w .answer }
+  module _ {A : Type 0} (h : Role → Bool → A) (r : Role) (e : roleOf c ≡ r) where
+    -- a test of the entry's role and acceptance
+    with-role : (b : Bool) → accepted (y .answer) ≡ b → h (roleIn y) (good y) ≡ h r b
+    with-role b a = ap₂ h e a
 
-    abbrev sheetOf : Call → Worksheet
-    sheetOf c = step f2 file c w .sheet
+  begun-after : (n : ℕ) → Law source (beginning n) c w → (b : Bool) → accepted (y .answer) ≡ b → After (beginning n)
+  unfolding own editsOf changed none
+  begun-after n l false a e =
+      unmoved (l .refused a)
+      (λ m. with-role (isDisturbing m) (beginning n) e false a ∙ and-false (eqb n m))
+      (λ m. with-role (isOwn m) (beginning n) e false a)
+  begun-after n l true a e =
+      let d = l .done a in
+      let its : begins n y ≡ true = with-role (isBegin n) (beginning n) e true a ∙ ap (λ (z : Bool). z && true) (eq-eqb n n refl) in
+      locally n (with-role isMoving (beginning n) e true a) (d .local)
+      (λ m t. (with-role (isDisturbing m) (beginning n) e true a ∙ ap (λ (z : Bool). z && true) t, with-role (isOwn m) (beginning n) e true a))
+      (λ x k. record {
+        late = [];
+        its-begin = y;
+        front = past;
+        split = refl;
+        begun = its;
+        quiet = refl;
+        made = d .copied x k
+            ∙ sym (ap (λ (l : List Edit). changed (w .inputs) (l ++ [])) (ap editsIn e))
+            ∙ ap (λ (z : Bool). changed (w .inputs) (editsOf (cond z (y ∷ []) (cond (belongs n y) (own n past ++ (y ∷ [])) (own n past))))) (sym its);
+      })
 
-    abbrev Next : Call → Type 0
-    Next c = Holds i (entryOf c ∷ past) (sheetOf c)
+  own-after : (n : ℕ) (even : Bool) (es : List Edit) → Law source (belonging n even es) c w → (b : Bool) → (even || accepted (y .answer)) ≡ b
+      → After (belonging n even es)
+  unfolding own editsOf changed none
+  own-after n even es l false a e =
+      unmoved (l .refused a)
+      (λ m. with-role (isDisturbing m) (belonging n even es) e _ refl)
+      (λ m. with-role (isOwn m) (belonging n even es) e _ refl ∙ ap (λ (z : Bool). eqb n m && z) a ∙ and-false (eqb n m))
+  own-after n even es l true a e =
+      let d = l .done a in
+      let r = belonging n even es in
+      let its : belongs n y ≡ true = with-role (isOwn n) r e _ refl ∙ ap₂ _&&_ (eq-eqb n n refl) a in
+      let quiet : (m : ℕ) → disturbs m y ≡ false = λ m. with-role (isDisturbing m) r e _ refl in
+      locally n (with-role isMoving r e _ refl) (d .local)
+      (λ m t. (quiet m, with-role (isOwn m) r e _ refl ∙ ap (λ (z : Bool). z && (even || good y)) t))
+      (λ x k.
+      let o = d .alike x k in
+      let before = g .drafts n (o .0) (o .1) in
+      drafting-on n past (w .inputs) (o .0) x y (quiet n)
+      (o .2
+      ∙ ap (λ (i : Inputs). changed i es) (before .made)
+      ∙ sym (changed-append (w .inputs) (editsOf (own n past)) es)
+      ∙ ap (λ (l : List Edit). changed (w .inputs) (editsOf (own n past) ++ l)) (sym (ap editsIn e))
+      ∙ ap (changed (w .inputs)) (sym (edits-more n past y (quiet-unbegun n (roleIn y) (good y) (quiet n)) its)))
+      before)
 
-    when-refused : (c : Call) → accepted (entryOf c .answer) ≡ false → Next c
-    when-refused c e =
-        subst (λ (v : Worksheet). Holds i (entryOf c ∷ past) v) (sym (refused-unmoved f2 file c w e))
-        (unmoved (entryOf c)
-        (ap (isMoving c) e ∙ quiet-still 0 c false (refused-quiet 0 c))
-        (λ n. ap (isDisturbing n c) e ∙ refused-quiet n c)
-        (λ n o. refused-edits n c (sym (ap (isOwn n c) e) ∙ o)))
+  ended-after : (n : ℕ) → Law source (ending n) c w → (b : Bool) → accepted (y .answer) ≡ b → After (ending n)
+  ended-after n l false a e =
+      unmoved (l .refused a)
+      (λ m. with-role (isDisturbing m) (ending n) e false a ∙ and-false (eqb n m))
+      (λ m. with-role (isOwn m) (ending n) e false a)
+  ended-after n l true a e =
+      let d = l .done a in
+      locally n (with-role isMoving (ending n) e true a) (d .local)
+      (λ m t. (with-role (isDisturbing m) (ending n) e true a ∙ ap (λ (z : Bool). z && true) t, with-role (isOwn m) (ending n) e true a))
+      (λ x k. absurd (d .none x k))
 
-    when-shown : (n : ℕ) (lent : List Float) → Next (show n lent)
-    unfolding step
-    when-shown n lent = unmoved (entryOf (show n lent)) refl (λ m. refl) (λ m o. refl)
+  settled-after : (n : ℕ) → Law source (settling n) c w → (b : Bool) → accepted (y .answer) ≡ b → After (settling n)
+  unfolding forceAfter inputsBy changesBy
+  settled-after n l false a e =
+      unmoved (l .refused a)
+      (λ m. with-role (isDisturbing m) (settling n) e false a)
+      (λ m. with-role (isOwn m) (settling n) e false a)
+  settled-after n l true a e =
+      let d = l .done a in
+      let F = forceAfter f past in
+      let es = editsOf (own n past) in
+      let force : forceAfter f (y ∷ past) ≡ pushed (record { desk = n; past = past; entry = y }) F = with-role (λ (r : Role) (b : Bool). forceBy past y r b F) (settling n) e true a in
+      let draft = g .drafts n (d .draft) (d .fresh) in
+      record {
+        at-present =
+            d .inputs ∙ draft .made
+            ∙ ap (λ (i : Inputs). changed i es) (g .at-present)
+            ∙ sym (changed-append (F .present .start) (changesBy (F .present .commits)) es)
+            ∙ sym (ap (λ (k : Force). inputsBy (k .present)) force);
+        at-earlier = d .earlier ∙ ap Set (g .at-present) ∙ sym (ap (λ (k : Force). earlierBy (k .before)) force);
+        drafts = λ m x k. absurd (d .none m x k);
+      }
 
-    when-begun : (m : ℕ) → accepted (entryOf (begin m) .answer) ≡ true → Next (begin m)
-    unfolding own editsOf changed none
-    when-begun m good =
-        one-draft m (Fresh (w .inputs)) y (sheetOf (begin m)) (ap (λ (s : Step). s .sheet) (begin-leaves f2 file m w (begun f2 file m w good))) refl
-        (λ n e. (ap (λ (z : Bool). z && accepted (y .answer)) e, refl))
-        (λ x h. record {
-          late = [];
-          its-begin = y;
-          front = past;
-          split = refl;
-          begun = its;
-          quiet = refl;
-          made = sym (fresh-same h) ∙ ap (λ (z : Bool). changed (w .inputs) (editsOf (cond z (y ∷ []) (own m past)))) (sym its);
-        })
-      where
-        y : Entry
-        y = entryOf (begin m)
+  returned-after : Law source returning c w → (b : Bool) → accepted (y .answer) ≡ b → After returning
+  unfolding forceAfter
+  returned-after l false a e =
+      unmoved (l .refused a)
+      (λ m. with-role (isDisturbing m) returning e false a)
+      (λ m. with-role (isOwn m) returning e false a)
+  returned-after l true a e =
+      let d = l .done a in
+      let F = forceAfter f past in
+      let force : forceAfter f (y ∷ past) ≡ returnedTo (F .before) F = with-role (λ (r : Role) (b : Bool). forceBy past y r b F) returning e true a in
+      let back = returned (F .before) F (d .set) (sym (g .at-earlier) ∙ d .was) in
+      record {
+        at-present = d .inputs ∙ back .0 ∙ sym (ap (λ (k : Force). inputsBy (k .present)) force);
+        at-earlier = d .earlier ∙ back .1 ∙ sym (ap (λ (k : Force). earlierBy (k .before)) force);
+        drafts = λ m x k. absurd (d .none m x k);
+      }
 
-        its : (eqb m m && accepted (y .answer)) ≡ true
-        its = ap₂ _&&_ (eq-eqb m m refl) good
+  shown-after : Law source showing c w → After showing
+  shown-after l e =
+      unmoved (l .same)
+      (λ m. with-role (isDisturbing m) showing e _ refl)
+      (λ m. with-role (isOwn m) showing e _ refl)
 
-    when-changed : (m : ℕ) (e : Edit) → accepted (entryOf (change m e) .answer) ≡ true → Next (change m e)
-    unfolding own editsOf changed none
-    when-changed m e good =
-        one-draft m (editedDraft e (draftAt m w)) y (sheetOf (change m e)) (ap (λ (s : Step). s .sheet) (change-leaves f2 file m e w (was-changed f2 file m e w good))) refl
-        (λ n h. (refl, ap (λ (z : Bool). z && accepted (y .answer)) h))
-        (λ x h.
-        let f = edited-fresh e (draftAt m w) x h in
-        let d = g .drafts m (f .0) (f .1) in
-        record {
-          late = y ∷ d .late;
-          its-begin = d .its-begin;
-          front = d .front;
-          split = ap (λ (k : List Entry). y ∷ k) (d .split);
-          begun = d .begun;
-          quiet = d .quiet;
-          made = f .2 ∙ ap (edited e) (d .made) ∙ sym (changed-append (w .inputs) (editsOf (own m past)) (e ∷ []))
-              ∙ ap (changed (w .inputs)) (sym (edits-append (own m past) (y ∷ [])))
-              ∙ ap (λ (z : Bool). changed (w .inputs) (editsOf (cond z (own m past ++ (y ∷ [])) (own m past)))) (sym its);
-        })
-      where
-        y : Entry
-        y = entryOf (change m e)
+  after : (r : Role) → Law source r c w → After r
+  after (beginning n) l = begun-after n l (accepted (y .answer)) refl
+  after (ending n) l = ended-after n l (accepted (y .answer)) refl
+  after (settling n) l = settled-after n l (accepted (y .answer)) refl
+  after (belonging n even es) l = own-after n even es l (even || accepted (y .answer)) refl
+  after returning l = returned-after l (accepted (y .answer)) refl
+  after showing l = shown-after l
 
-        its : (eqb m m && accepted (y .answer)) ≡ true
-        its = ap₂ _&&_ (eq-eqb m m refl) good
-
-    when-cancelled : (m : ℕ) → accepted (entryOf (cancel m) .answer) ≡ true → Next (cancel m)
-    when-cancelled m good =
-        one-draft m Closed (entryOf (cancel m)) (sheetOf (cancel m)) (ap (λ (s : Step). s .sheet) (cancel-leaves f2 file m w good)) refl
-        (λ n e. (ap (λ (z : Bool). z && accepted (entryOf (cancel m) .answer)) e, refl))
-        (λ x h. absurd (closed-not-fresh refl h))
-
-    when-committed : (m : ℕ) → accepted (entryOf (commit m) .answer) ≡ true → Next (commit m)
-    unfolding walked movedTo
-    when-committed m good =
-        let b = committed f2 file m w good in
-        let x = b .draft in
-        let es = editsOf (own m past) in
-        let after = movedTo x (Set (w .inputs)) w in
-        let left = ap (λ (s : Step). s .sheet) (commit-leaves f2 file m w x (b .desk) (b .fresh)) in
-        let d = g .drafts m x (b .fresh) in
-        record {
-          at-present =
-              ap (λ (u : Worksheet). u .inputs) left ∙ inputs-with m Closed after
-              ∙ d .made ∙ ap (λ (j : Inputs). changed j es) (g .at-present)
-              ∙ sym (changed-append i (walked false past) es)
-              ∙ ap (λ (z : Bool). changed i (walked (cond z false false) past ++ cond (z && true) es [])) (sym good);
-          at-take-back = λ j e.
-              sym (set-same (sym (ap (λ (u : Worksheet). u .earlier) left ∙ earlier-with m Closed after) ∙ e))
-              ∙ g .at-present
-              ∙ ap (changed i) (sym (append-nil (walked false past)))
-              ∙ ap (λ (z : Bool). changed i (walked (cond z false true) past ++ cond (z && false) es [])) (sym good);
-          drafts = λ n y f. absurd (settled-not-fresh m n x (Set (w .inputs)) w y (sym (ap (draftAt n) left) ∙ f));
-        }
-
-    when-taken-back : accepted (entryOf takeBack .answer) ≡ true → Next takeBack
-    unfolding walked movedTo
-    when-taken-back good =
-        let b = taken-back f2 file w good in
-        let left = ap (λ (s : Step). s .sheet) (takeBack-leaves f2 file w (b .0) (b .1)) in
-        record {
-          at-present =
-              ap (λ (u : Worksheet). u .inputs) left ∙ g .at-take-back (b .0) (b .1)
-              ∙ ap (changed i) (sym (append-nil (walked true past)))
-              ∙ ap (λ (z : Bool). changed i (walked (cond z true false) past ++ [])) (sym good);
-          at-take-back = λ j e. absurd (nothing-not-set (sym (ap (λ (u : Worksheet). u .earlier) left) ∙ e));
-          drafts = λ n x f. absurd (moved-not-fresh n (b .0) Nothing w x (sym (ap (draftAt n) left) ∙ f));
-        }
-
-    next : (c : Call) → Next c
-    next c = by c (accepted (entryOf c .answer)) refl
-      where
-        by : (c : Call) (b : Bool) → accepted (entryOf c .answer) ≡ b → Next c
-        by c false e = when-refused c e
-        by (begin n) true e = when-begun n e
-        by (change n k) true e = when-changed n k e
-        by (cancel n) true e = when-cancelled n e
-        by (commit n) true e = when-committed n e
-        by takeBack true e = when-taken-back e
-        by (show n lent) true e = when-shown n lent
+  pub next : Holds f (y ∷ past) v
+  next = after (roleOf c) (law source c w) refl
 
 -- ---- the run
 
-pub opened-holds : (i : Inputs) → Holds i [] (freshSheet i)
-unfolding freshSheet walked changed
-opened-holds i = record {
+-- a worksheet whose desks are closed, with nothing called yet
+pub start-holds : (w : Worksheet) → ((n : ℕ) (x : Inputs) → FreshAt n x w → ⊥) → Holds (forceIn w) [] w
+unfolding forceAfter inputsBy changesBy changed
+start-holds w none = record {
   at-present = refl;
-  at-take-back = λ j e. absurd (nothing-not-set e);
-  drafts = λ n x f. absurd (closed-not-fresh (rest-draft n (freshSheet i)) f);
+  at-earlier = go (w .earlier);
+  drafts = λ n x h. absurd (none n x h);
 }
+  where
+    go : (e : Earlier) → e ≡ earlierBy (standingBefore e)
+    go Nothing = refl
+    go (Set i) = refl
 
-module _ (f2 file : List ℕ) (i : Inputs) where
-  pub run-holds : (cs : List Call) (past : List Entry) (w : Worksheet) → Holds i past w
-      → Holds i (reverseAux (run f2 file cs w .entries) past) (run f2 file cs w .sheet)
+module _ (source : Source) (f : Force) where
+  pub run-holds : (cs : List Call) (past : List Entry) (w : Worksheet) → Holds f past w
+      → Holds f (reverseAux (run source cs w .entries) past) (run source cs w .sheet)
   unfolding run
   run-holds [] past w g = g
-  run-holds (c ∷ cs) past w g =
-      run-holds cs (record { call = c; answer = step f2 file c w .answer } ∷ past) (step f2 file c w .sheet) (next i past w g f2 file c)
+  run-holds (c ∷ cs) past w g = run-holds cs (entryOf source c w ∷ past) (step source c w .sheet) (next source f past w g c)

@@ -1,11 +1,14 @@
 -- Document 01, At the desks: what open, begin, change, commit, cancel and take back give, paragraph by paragraph. Assumes nothing.
-use Prim.Native.Nat.{ℕ}
+use Prim.Native.Nat.{ℕ, _*_}
 use mathlib.Core.Bool.{Bool, cond, _&&_}
+use mathlib.Core.List.{List}
 use lib.Dec.{eqb, leb}
 use Rattle.base.specs.declared.refusal.Refusal.the-variants.{Desk, Drafted, NoDraft, Stale as IsStale, NothingEarlier}
 use Rattle.base.specs.declared.refusal.Verdict.{Verdict}
 use Rattle.base.specs.declared.refusal.Verdict.the-variants.{Accepted, Refused}
-use Rattle.maps.specs.declared.figures.Inputs.{Inputs}
+use Rattle.maps.specs.declared.inputs.Inputs.{Inputs}
+use Rattle.base.specs.Words.{wordAt}
+use Rattle.maps.specs.Inputs.{inputsFrom}
 use Rattle.worksheet.specs.declared.inputs.Edit.{Edit}
 use Rattle.worksheet.specs.declared.desks.Draft.{Draft}
 use Rattle.worksheet.specs.declared.desks.Draft.the-variants.{Closed, Fresh, Stale}
@@ -13,8 +16,6 @@ use Rattle.worksheet.specs.declared.desks.Earlier.{Earlier}
 use Rattle.worksheet.specs.declared.desks.Earlier.the-variants.{Nothing, Set}
 use Rattle.worksheet.specs.declared.desks.Worksheet.{Worksheet}
 use Rattle.worksheet.specs.declared.desks.Outcome.{Outcome}
-use Rattle.worksheet.specs.declared.desks.Opened.{Opened}
-use Rattle.worksheet.specs.declared.desks.Opened.the-variants.{Sheet, Refused as NotOpened}
 use Rattle.base.specs.Refusal.{refuseUnless, _then_}
 use Rattle.worksheet.specs.Inputs.{inputsCheck, editCheck, edited}
 
@@ -102,13 +103,13 @@ earlierCheck (Set i) = Accepted
 unfoldable pub freshSheet : Inputs → Worksheet
 freshSheet i = record { inputs = i; earlier = Nothing; d1 = Closed; d2 = Closed; d3 = Closed; d4 = Closed }
 
-abbrev pub openedIf : Verdict → Inputs → Opened
-openedIf Accepted i = Sheet (freshSheet i)
-openedIf (Refused why) i = NotOpened why
+-- 'takes inputs; a refused one gives no worksheet': what stands beside a refusal holds the refused inputs and is none to use; its own showing is refused by the same field (`open-refused`)
+unfoldable pub openOf : Inputs → Outcome
+openOf i = record { answer = inputsCheck i; sheet = freshSheet i }
 
--- 'takes inputs; a refused one gives no worksheet'
-unfoldable pub openOf : Inputs → Opened
-openOf i = openedIf (inputsCheck i) i
+-- of '14 little-endian 4-byte words'; 'missing bytes of these words count as 0'
+unfoldable pub openedOf : List ℕ → Outcome
+openedOf s = openOf (inputsFrom (λ (k : ℕ). wordAt s (4 * k)))
 
 -- ---- Begin
 
@@ -155,8 +156,11 @@ unfoldable pub cancelCheck : ℕ → Worksheet → Verdict
 cancelCheck n w = deskCheck n then draftCheck (draftAt n w)
 
 -- 'The draft goes; nothing else moves'
+abbrev pub withoutDraft : ℕ → Worksheet → Worksheet
+withoutDraft n w = withDraft n Closed w
+
 unfoldable pub cancelOf : ℕ → Worksheet → Outcome
-cancelOf n w = outcome (cancelCheck n w) (withDraft n Closed w) w
+cancelOf n w = outcome (cancelCheck n w) (withoutDraft n w) w
 
 -- ---- Take back
 

@@ -1,95 +1,152 @@
--- The inputs in force, read off a run's entries alone: no worksheet and no draft is looked at. For the insurer's line. Assumes nothing.
+-- The inputs in force: a fold over a run's entries, from the worksheet at its start; no draft is looked at. For the insurer's line. Assumes nothing.
 use Prim.Native.Nat.{ℕ}
-use mathlib.Core.Bool.{Bool, true, false, cond, not, _&&_}
+use mathlib.Core.Bool.{Bool, true, false, cond, _&&_}
 use mathlib.Core.List.{List, [], _∷_, _++_, reverse}
 use mathlib.Core.Path.{_≡_}
 use lib.Dec.{eqb}
 use lib.Ieee.{Float}
-use Rattle.maps.specs.declared.figures.Inputs.{Inputs}
+use Rattle.base.specs.declared.refusal.Verdict.the-variants.{Accepted}
+use Rattle.maps.specs.declared.inputs.Inputs.{Inputs}
 use Rattle.maps.specs.Figures.{routeOf, figuresOf}
 use Rattle.worksheet.specs.declared.inputs.Edit.{Edit}
+use Rattle.worksheet.specs.declared.desks.Earlier.{Earlier}
+use Rattle.worksheet.specs.declared.desks.Earlier.the-variants.{Nothing, Set}
+use Rattle.worksheet.specs.declared.desks.Worksheet.{Worksheet}
 use Rattle.worksheet.specs.Inputs.{edited}
-use Rattle.worksheet.specs.Journal.{Call, begin, commit, cancel, change, takeBack, show, Entry, accepted, begins, belongs, own, keep, none}
+use Rattle.worksheet.specs.Showing.{Source}
+use Rattle.worksheet.specs.Journal.{Role, beginning, ending, settling, belonging, returning, showing, Entry, roleIn, good, begins, belongs, own, keep, none}
 
 -- ---- the changes of a commit
 
-abbrev pub editIn : Call → List Edit
-editIn (begin n) = []
-editIn (commit n) = []
-editIn (cancel n) = []
-editIn (change n e) = e ∷ []
-editIn takeBack = []
-editIn (show n lent) = []
+abbrev pub editsIn : Role → List Edit
+editsIn (beginning n) = []
+editsIn (ending n) = []
+editsIn (settling n) = []
+editsIn (belonging n even es) = es
+editsIn returning = []
+editsIn showing = []
 
 -- the changes among some entries, in their order
 unfoldable pub editsOf : List Entry → List Edit
 editsOf [] = []
-editsOf (x ∷ l) = editIn (x .call) ++ editsOf l
+editsOf (x ∷ l) = editsIn (roleIn x) ++ editsOf l
 
 -- the inputs with the changes made one after the other
 unfoldable pub changed : Inputs → List Edit → Inputs
 changed i [] = i
 changed i (e ∷ l) = changed (edited e i) l
 
+-- ---- sets of inputs. Here commits and entries stand the latest first
+
+-- an accepted commit: its desk, the entries before it, and its entry
+pub record Commit : Type 0 where
+  pub desk : ℕ
+  pub past : List Entry
+  pub entry : Entry
+
+-- inputs that stood at the start, and the commits that led from them to this set
+pub record Standing : Type 0 where
+  pub start : Inputs
+  pub commits : List Commit
+
+-- the accepted changes of the commits' drafts, in the order of the commits
+unfoldable pub changesBy : List Commit → List Edit
+changesBy [] = []
+changesBy (c ∷ before) = changesBy before ++ editsOf (own (c .desk) (c .past))
+
+-- the set itself
+unfoldable pub inputsBy : Standing → Inputs
+inputsBy s = changed (s .start) (changesBy (s .commits))
+
+-- ---- THE FOLD
+
+-- the set in force, and before it the one that a take-back returns, if there is one
+pub record Force : Type 0 where
+  pub present : Standing
+  pub before : List Standing
+
+abbrev pub standingAt : Inputs → Standing
+standingAt i = record { start = i; commits = [] }
+
+abbrev pub standingBefore : Earlier → List Standing
+standingBefore Nothing = []
+standingBefore (Set i) = standingAt i ∷ []
+
+-- at the start: the worksheet's inputs and its earlier set
+abbrev pub forceIn : Worksheet → Force
+forceIn w = record { present = standingAt (w .inputs); before = standingBefore (w .earlier) }
+
+-- 'the inputs become the earlier set, the draft's become the inputs'
+abbrev pub pushed : Commit → Force → Force
+pushed c f = record { present = record { start = f .present .start; commits = c ∷ f .present .commits }; before = f .present ∷ [] }
+
+-- 'The earlier set returns, none is left'
+abbrev pub returnedTo : List Standing → Force → Force
+returnedTo [] f = f
+returnedTo (s ∷ l) f = record { present = s; before = [] }
+
+-- an accepted commit pushes its set, an accepted take-back returns the one before; nothing else counts
+abbrev pub forceBy : List Entry → Entry → Role → Bool → Force → Force
+forceBy past x (beginning n) good f = f
+forceBy past x (ending n) good f = f
+forceBy past x (settling n) good f = cond good (pushed (record { desk = n; past = past; entry = x }) f) f
+forceBy past x (belonging n even es) good f = f
+forceBy past x returning good f = cond good (returnedTo (f .before) f) f
+forceBy past x showing good f = f
+
+unfoldable pub forceAfter : Force → List Entry → Force
+forceAfter f [] = f
+forceAfter f (x ∷ past) = forceBy past x (roleIn x) (good x) (forceAfter f past)
+
+-- the commits in force on the worksheet w, the latest first, after entries that stand in their order
+unfoldable pub commitsInForce : Worksheet → List Entry → List Commit
+commitsInForce w entries = forceAfter (forceIn w) (reverse entries) .present .commits
+
+-- THE INPUTS IN FORCE after some entries: those at the start (the earlier set at the start, where they were taken back), with the accepted changes of the drafts that were committed and not taken back since, in the order of the commits
+unfoldable pub inForce : Worksheet → List Entry → Inputs
+inForce w entries = inputsBy (forceAfter (forceIn w) (reverse entries) .present)
+
 -- ---- was it taken back?
 
--- of the entries after a commit, `rest` says it of those after the call; `good` says whether the call was accepted
-abbrev pub takenBackBy : Call → Bool → Bool → Bool
-takenBackBy (begin n) good rest = rest
-takenBackBy (commit n) good rest = cond good false rest
-takenBackBy (cancel n) good rest = rest
-takenBackBy (change n e) good rest = rest
-takenBackBy takeBack good rest = cond good true rest
-takenBackBy (show n lent) good rest = rest
+-- of the entries after a commit, in their order, `rest` says it of those after the call
+abbrev pub takenBackBy : Role → Bool → Bool → Bool
+takenBackBy (beginning n) good rest = rest
+takenBackBy (ending n) good rest = rest
+takenBackBy (settling n) good rest = cond good false rest
+takenBackBy (belonging n even es) good rest = rest
+takenBackBy returning good rest = cond good true rest
+takenBackBy showing good rest = rest
 
 -- the commit before these entries was taken back: the first accepted commit or take-back among them is a take-back
 unfoldable pub takenBack : List Entry → Bool
 takenBack [] = false
-takenBack (x ∷ later) = takenBackBy (x .call) (accepted (x .answer)) (takenBack later)
-
--- ---- the inputs in force. `past` holds the entries before the one looked at, the latest first, and `later` those after it
-
--- an accepted commit counts with the accepted changes of its draft, unless it was taken back; nothing else counts
-abbrev pub counted : List Entry → Bool → Call → Bool → List Edit
-counted past undone (begin n) good = []
-counted past undone (commit n) good = cond (good && not undone) (editsOf (own n past)) []
-counted past undone (cancel n) good = []
-counted past undone (change n e) good = []
-counted past undone takeBack good = []
-counted past undone (show n lent) good = []
-
-unfoldable pub standing : List Entry → List Entry → List Edit
-standing past [] = []
-standing past (x ∷ later) = counted past (takenBack later) (x .call) (accepted (x .answer)) ++ standing (x ∷ past) later
-
--- THE INPUTS IN FORCE after some entries: the opened ones, with the accepted changes of the drafts that were committed and not taken back since, in the order of the commits
-unfoldable pub inForce : Inputs → List Entry → Inputs
-inForce opened entries = changed opened (standing [] entries)
+takenBack (x ∷ later) = takenBackBy (roleIn x) (good x) (takenBack later)
 
 -- ---- the insurer's line
 
-module _ (f2 file : List ℕ) where
-  -- a showing's number of points and its whole figures are those of one set of inputs
+module _ (source : Source) where
+  -- a showing's number of points and its whole figures are those of one set of inputs and of their own two files
   pub record FiguresOf (i : Inputs) (count : ℕ) (figures : List Float) : Type 0 where
+    pub lent : source i .verdict ≡ Accepted
     pub points : count ≡ routeOf i .count
-    pub whole : figures ≡ figuresOf f2 file i
+    pub whole : figures ≡ figuresOf (source i .f2) (source i .file) i
 
 -- ---- a commit's draft started from the inputs in force, and nothing came between
 
--- does the call move the worksheet's inputs, or begin or end desk n's draft? `good` says whether it was accepted
-abbrev pub isDisturbing : ℕ → Call → Bool → Bool
-isDisturbing n (begin m) good = eqb m n && good
-isDisturbing n (commit m) good = good
-isDisturbing n (cancel m) good = eqb m n && good
-isDisturbing n (change m e) good = false
-isDisturbing n takeBack good = good
-isDisturbing n (show m lent) good = false
+-- does the call move the worksheet's inputs, or begin or end desk n's draft?
+abbrev pub isDisturbing : ℕ → Role → Bool → Bool
+isDisturbing n (beginning m) good = eqb m n && good
+isDisturbing n (ending m) good = eqb m n && good
+isDisturbing n (settling m) good = good
+isDisturbing n (belonging m even es) good = false
+isDisturbing n returning good = good
+isDisturbing n showing good = false
 
 abbrev pub disturbs : ℕ → Entry → Bool
-disturbs n x = isDisturbing n (x .call) (accepted (x .answer))
+disturbs n x = isDisturbing n (roleIn x) (good x)
 
 -- of an accepted commit of desk n, `before` being the entries before it, in their order
-pub record Drafted (opened : Inputs) (n : ℕ) (before : List Entry) : Type 0 where
+pub record Drafted (w : Worksheet) (n : ℕ) (before : List Entry) : Type 0 where
   pub front : List Entry
   pub own-begin : Entry
   pub between : List Entry
@@ -100,4 +157,4 @@ pub record Drafted (opened : Inputs) (n : ℕ) (before : List Entry) : Type 0 wh
   -- its own calls are its begin and what belongs to it between the two
   pub own-calls : own n (reverse before) ≡ own-begin ∷ keep (belongs n) between
   -- the inputs in force at the commit are those that its begin copied
-  pub same-inputs : inForce opened before ≡ inForce opened front
+  pub same-inputs : inForce w before ≡ inForce w front

@@ -1,6 +1,6 @@
 -- Document 01, Demand 3: calls and their answers, the run of a list of calls, the shorter list, and the claim about both runs. Assumes nothing.
 use Prim.Native.Nat.{ℕ}
-use mathlib.Core.Bool.{Bool, true, false, cond, not, _&&_}
+use mathlib.Core.Bool.{Bool, true, false, cond, not, _&&_, _||_}
 use mathlib.Core.List.{List, [], _∷_, _++_}
 use mathlib.Core.Path.{_≡_}
 use lib.Dec.{eqb}
@@ -13,11 +13,11 @@ use Rattle.worksheet.specs.declared.inputs.Edit.{Edit}
 use Rattle.worksheet.specs.declared.desks.Worksheet.{Worksheet}
 use Rattle.worksheet.specs.declared.desks.Outcome.{Outcome}
 use Rattle.worksheet.specs.Desks.{beginOf, changeOf, commitOf, cancelOf, takeBackOf}
-use Rattle.worksheet.specs.Showing.{showOf, showBuffer}
+use Rattle.worksheet.specs.Showing.{Source, showOf, showBuffer}
 
 -- ---- calls and answers
 
--- 'begins, changes, commits, cancels, take-backs and showings', each with its arguments other than the worksheet and the two files; a showing with the buffer lent to it
+-- 'begins, changes, commits, cancels, take-backs and showings', each with its arguments other than the worksheet and the files; a showing with the buffer lent to it
 pub data Call : Type 0 where
   begin commit cancel : (desk : ℕ) → Call
   change : (desk : ℕ) → Edit → Call
@@ -41,7 +41,7 @@ accepted (told (Refused why)) = false
 accepted (shown (Points count) after) = true
 accepted (shown (NotShown why) after) = false
 
--- ---- the run of a list of calls, with one F2 record and one month file lent throughout
+-- ---- the run of a list of calls, with one source of files lent throughout
 
 pub record Step : Type 0 where
   pub answer : Answer
@@ -54,7 +54,7 @@ pub record Run : Type 0 where
 abbrev pub stepOf : Outcome → Step
 stepOf o = record { answer = told (o .answer); sheet = o .sheet }
 
-module _ (f2 file : List ℕ) where
+module _ (source : Source) where
   -- what each call answers, and the worksheet that it leaves
   unfoldable pub step : Call → Worksheet → Step
   step (begin n) w = stepOf (beginOf n w)
@@ -62,64 +62,96 @@ module _ (f2 file : List ℕ) where
   step (commit n) w = stepOf (commitOf n w)
   step (cancel n) w = stepOf (cancelOf n w)
   step takeBack w = stepOf (takeBackOf w)
-  step (show n lent) w = record { answer = shown (showOf f2 file n lent w) (showBuffer f2 file n lent w); sheet = w }
+  step (show n lent) w = record { answer = shown (showOf source n lent w) (showBuffer source n lent w); sheet = w }
+
+  -- the call c on w with its answer
+  abbrev pub entryOf : Call → Worksheet → Entry
+  entryOf c w = record { call = c; answer = step c w .answer }
 
   -- 'Each call gets the worksheet that the one before it left'
   unfoldable pub run : List Call → Worksheet → Run
   run [] w = record { entries = []; sheet = w }
   run (c ∷ cs) w =
-      let s = step c w in
-      let r = run cs (s .sheet) in
-      record { entries = record { call = c; answer = s .answer } ∷ r .entries; sheet = r .sheet }
+      let r = run cs (step c w .sheet) in
+      record { entries = entryOf c w ∷ r .entries; sheet = r .sheet }
 
--- ---- the shorter list. `past` holds the entries before the one looked at, the latest first
+-- ---- what a call is in a list
 
--- 'accepted begin of its desk': of desk n; `good` says whether the call was accepted
-abbrev pub isBegin : ℕ → Call → Bool → Bool
-isBegin n (begin m) good = eqb m n && good
-isBegin n (commit m) good = false
-isBegin n (cancel m) good = false
-isBegin n (change m e) good = false
-isBegin n takeBack good = false
-isBegin n (show m lent) good = false
+pub data Role : Type 0 where
+  -- accepted, it begins the draft of a desk; ends it; settles it
+  beginning ending settling : (desk : ℕ) → Role
+  -- it belongs to a desk's draft if it is accepted, or even if it is refused, and makes these changes to it
+  belonging : (desk : ℕ) → (even-refused : Bool) → List Edit → Role
+  -- accepted, it takes the last settling back
+  returning : Role
+  -- it shows the worksheet
+  showing : Role
 
--- 'its own changes are that desk's accepted ones .., its own showings all of that desk's there, refused ones too'
-abbrev pub isOwn : ℕ → Call → Bool → Bool
-isOwn n (begin m) good = false
-isOwn n (commit m) good = false
-isOwn n (cancel m) good = false
-isOwn n (change m e) good = eqb m n && good
-isOwn n takeBack good = false
-isOwn n (show m lent) good = eqb m n
+-- THE TABLE: all that lists know of a call
+abbrev pub roleOf : Call → Role
+roleOf (begin n) = beginning n
+-- 'its own changes are that desk's accepted ones'
+roleOf (change n e) = belonging n false (e ∷ [])
+-- 'its own showings all of that desk's there, refused ones too'; 'The worksheet's showings are those that ask for 0'
+roleOf (show n lent) = cond (eqb n 0) showing (belonging n true [])
+roleOf (commit n) = settling n
+roleOf (cancel n) = ending n
+roleOf takeBack = returning
+
+-- ---- the shorter list. `past` holds the entries before the one looked at, the latest first; `good` says whether the call was accepted
+
+-- 'accepted begin of its desk': of desk n
+abbrev pub isBegin : ℕ → Role → Bool → Bool
+isBegin n (beginning m) good = eqb m n && good
+isBegin n (ending m) good = false
+isBegin n (settling m) good = false
+isBegin n (belonging m even es) good = false
+isBegin n returning good = false
+isBegin n showing good = false
+
+-- desk n's accepted changes, and its showings, 'refused ones too'
+abbrev pub isOwn : ℕ → Role → Bool → Bool
+isOwn n (beginning m) good = false
+isOwn n (ending m) good = false
+isOwn n (settling m) good = false
+isOwn n (belonging m even es) good = eqb m n && (even || good)
+isOwn n returning good = false
+isOwn n showing good = false
+
+abbrev pub roleIn : Entry → Role
+roleIn x = roleOf (x .call)
+
+abbrev pub good : Entry → Bool
+good x = accepted (x .answer)
 
 abbrev pub begins : ℕ → Entry → Bool
-begins n x = isBegin n (x .call) (accepted (x .answer))
+begins n x = isBegin n (roleIn x) (good x)
 
 abbrev pub belongs : ℕ → Entry → Bool
-belongs n x = isOwn n (x .call) (accepted (x .answer))
+belongs n x = isOwn n (roleIn x) (good x)
 
 -- the own calls of a commit of desk n: 'the last accepted begin of its desk before it', and that desk's 'accepted changes' and showings 'between the two', 'all in their order'
--- (an accepted commit of a run has such a begin: `undisturbed-draft`)
+-- (an accepted commit of a run from closed desks has such a begin: `undisturbed-draft`)
 unfoldable pub own : ℕ → List Entry → List Entry
 own n [] = []
 own n (x ∷ past) = cond (begins n x) (x ∷ []) (cond (belongs n x) (own n past ++ (x ∷ [])) (own n past))
 
--- what the shorter list has for the call of the entry x
-unfoldable pub keptFor : List Entry → Call → Entry → List Entry
+-- what the shorter list has for the entry x, by its role
+unfoldable pub keptFor : List Entry → Role → Entry → List Entry
 -- an accepted commit 'with its own begin, accepted changes and showings moved up just before it'
-keptFor past (commit n) x = cond (accepted (x .answer)) (own n past ++ (x ∷ [])) []
+keptFor past (settling n) x = cond (good x) (own n past ++ (x ∷ [])) []
 -- an accepted take-back
-keptFor past takeBack x = cond (accepted (x .answer)) (x ∷ []) []
--- 'The worksheet's showings are those that ask for 0, refused ones too'
-keptFor past (show n lent) x = cond (eqb n 0) (x ∷ []) []
+keptFor past returning x = cond (good x) (x ∷ []) []
+-- 'The worksheet's showings .., refused ones too'
+keptFor past showing x = x ∷ []
 -- 'All other calls are dropped'
-keptFor past (begin n) x = []
-keptFor past (cancel n) x = []
-keptFor past (change n e) x = []
+keptFor past (beginning n) x = []
+keptFor past (ending n) x = []
+keptFor past (belonging n even es) x = []
 
 unfoldable pub shorter : List Entry → List Entry → List Entry
 shorter past [] = []
-shorter past (x ∷ later) = keptFor past (x .call) x ++ shorter (x ∷ past) later
+shorter past (x ∷ later) = keptFor past (roleIn x) x ++ shorter (x ∷ past) later
 
 unfoldable pub callsOf : List Entry → List Call
 callsOf [] = []
@@ -137,32 +169,32 @@ unfoldable pub none : (Entry → Bool) → List Entry → Bool
 none p [] = true
 none p (x ∷ l) = not (p x) && none p l
 
--- 'the accepted commits and take-backs and the worksheet's showings'; `good` says whether the call was accepted
-abbrev pub isSettled : Call → Bool → Bool
-isSettled (begin n) good = false
-isSettled (commit n) good = good
-isSettled (cancel n) good = false
-isSettled (change n e) good = false
-isSettled takeBack good = good
-isSettled (show n lent) good = eqb n 0
+-- 'the accepted commits and take-backs and the worksheet's showings'
+abbrev pub isSettled : Role → Bool → Bool
+isSettled (beginning n) good = false
+isSettled (ending n) good = false
+isSettled (settling n) good = good
+isSettled (belonging n even es) good = false
+isSettled returning good = good
+isSettled showing good = true
 
 abbrev pub settled : Entry → Bool
-settled x = isSettled (x .call) (accepted (x .answer))
+settled x = isSettled (roleIn x) (good x)
 
 -- ---- demand 3
 
-module _ (f2 file : List ℕ) where
+module _ (source : Source) where
   -- the calls kept of the list cs, each with its answer in the full list
   unfoldable pub keptOf : Worksheet → List Call → List Entry
-  keptOf w cs = shorter [] (run f2 file cs w .entries)
+  keptOf w cs = shorter [] (run source cs w .entries)
 
   unfoldable pub shortRun : Worksheet → List Call → Run
-  shortRun w cs = run f2 file (callsOf (keptOf w cs)) w
+  shortRun w cs = run source (callsOf (keptOf w cs)) w
 
   -- DEMAND 3 of the worksheet w and the list cs
   pub record Demand3 (w : Worksheet) (cs : List Call) : Type 0 where
     -- 'every call kept answers alike in both, each showing's whole figures included'
     pub answers : shortRun w cs .entries ≡ keptOf w cs
     -- 'and after both the inputs and the earlier set are equal'
-    pub inputs : shortRun w cs .sheet .inputs ≡ run f2 file cs w .sheet .inputs
-    pub earlier : shortRun w cs .sheet .earlier ≡ run f2 file cs w .sheet .earlier
+    pub inputs : shortRun w cs .sheet .inputs ≡ run source cs w .sheet .inputs
+    pub earlier : shortRun w cs .sheet .earlier ≡ run source cs w .sheet .earlier

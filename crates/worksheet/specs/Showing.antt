@@ -1,19 +1,39 @@
--- Document 01, Show: its answer and the buffer afterwards. Assumes nothing.
+-- Document 01, Show: its answer and the buffer afterwards, over whatever source of files is lent. Assumes nothing.
 use Prim.Native.Nat.{ℕ}
 use mathlib.Core.Bool.{cond}
 use mathlib.Core.List.{List}
 use lib.Dec.{eqb}
+use lib.ListN.{length}
 use lib.Ieee.{Float}
+use Rattle.base.specs.declared.refusal.Refusal.the-variants.{Figures}
 use Rattle.base.specs.declared.refusal.Verdict.{Verdict}
-use Rattle.base.specs.declared.refusal.Verdict.the-variants.{Accepted, Refused}
-use Rattle.maps.specs.declared.figures.Inputs.{Inputs}
+use Rattle.base.specs.declared.refusal.Verdict.the-variants.{Accepted}
+use Rattle.base.specs.Refusal.{refuseUnless, _then_, writtenOver}
+use Rattle.maps.specs.declared.inputs.Inputs.{Inputs}
 use Rattle.maps.specs.declared.figures.Shown.{Shown}
-use Rattle.maps.specs.declared.figures.Shown.the-variants.{Refused as NotShown}
-use Rattle.maps.specs.Figures.{shownOf, bufferAfter}
+use Rattle.base.specs.Files.{filesCheck}
+use Rattle.maps.specs.Figures.{routeOf, figuresOf, answerOf}
 use Rattle.worksheet.specs.declared.desks.Worksheet.{Worksheet}
-use Rattle.base.specs.Refusal.{_then_}
 use Rattle.worksheet.specs.Inputs.{inputsCheck}
 use Rattle.worksheet.specs.Desks.{draftAt, inputsOf, deskCheck, draftCheck}
+
+-- ---- what is lent
+
+-- the F2 record and the month file that inputs are shown from, with what is refused before the two are looked into
+pub record Files : Type 0 where
+  pub verdict : Verdict
+  pub f2 : List ℕ
+  pub file : List ℕ
+
+-- a source of files: which ones the inputs shown are shown from
+abbrev pub Source : Type 0
+Source = Inputs → Files
+
+-- 'one F2 record and one month file throughout': the same two for all inputs
+abbrev pub pair : List ℕ → List ℕ → Source
+pair f2 file i = record { verdict = Accepted; f2 = f2; file = file }
+
+-- ---- what is refused
 
 -- 'takes desk 1 to 4, or 0 for the worksheet'; 'A stale draft is shown all the same'
 unfoldable pub inputsShown : ℕ → Worksheet → Inputs
@@ -23,24 +43,40 @@ inputsShown n w = cond (eqb n 0) (w .inputs) (inputsOf (draftAt n w) (w .inputs)
 unfoldable pub askedCheck : ℕ → Worksheet → Verdict
 askedCheck n w = cond (eqb n 0) Accepted (deskCheck n then draftCheck (draftAt n w))
 
--- 'It refuses 14, 16, the 14 fields of the inputs shown'; 12, 8, 9, 10 and 11 are the figures' own
-unfoldable pub showCheck : ℕ → Worksheet → Verdict
-showCheck n w = askedCheck n w then inputsCheck (inputsShown n w)
+-- '12 (figures buffer not 151 f32)'
+unfoldable pub bufferCheck : ℕ → Verdict
+bufferCheck size = refuseUnless (eqb size 151) Figures
 
-abbrev pub shownIf : Verdict → Shown → Shown
-shownIf Accepted shown = shown
-shownIf (Refused why) shown = NotShown why
+-- the figures' part of a showing: '12 .., 8 .., 9, 10, 11', with what the source refuses after 12
+unfoldable pub drawnCheck : Files → ℕ → Verdict
+drawnCheck s size = bufferCheck size then s .verdict then filesCheck (s .f2) (s .file)
 
-abbrev pub bufferIf : Verdict → List Float → List Float → List Float
-bufferIf Accepted after lent = after
-bufferIf (Refused why) after lent = lent
+-- ---- the figures of inputs in a lent buffer
 
--- the record and the month file, as they are lent to a showing
-module _ (f2 file : List ℕ) where
-  -- 'The answer is the number of points'
+-- 'The answer is the number of points'
+unfoldable pub drawnOf : Files → Inputs → List Float → Shown
+drawnOf s i lent = answerOf (drawnCheck s (length lent)) (routeOf i .count)
+
+-- 'with the figures in the buffer'; refused, it is as it was lent
+unfoldable pub drawnBuffer : Files → Inputs → List Float → List Float
+drawnBuffer s i lent = writtenOver (drawnCheck s (length lent)) (figuresOf (s .f2) (s .file) i) lent
+
+-- ---- Show
+
+-- '14 .., 16 .., the 14 fields of the inputs shown'
+unfoldable pub judgedCheck : ℕ → Worksheet → Verdict
+judgedCheck n w = askedCheck n w then inputsCheck (inputsShown n w)
+
+module _ (source : Source) where
+  -- 'It refuses 14 .., 16 .., the 14 fields of the inputs shown, 12 .., 8 .., 9, 10, 11'
+  unfoldable pub showCheck : ℕ → ℕ → Worksheet → Verdict
+  showCheck n size w = judgedCheck n w then drawnCheck (source (inputsShown n w)) size
+
   unfoldable pub showOf : ℕ → List Float → Worksheet → Shown
-  showOf n lent w = shownIf (showCheck n w) (shownOf f2 file (inputsShown n w) lent)
+  showOf n lent w = answerOf (showCheck n (length lent) w) (routeOf (inputsShown n w) .count)
 
-  -- 'with the figures in the buffer'; a showing that is refused here leaves it as lent
   unfoldable pub showBuffer : ℕ → List Float → Worksheet → List Float
-  showBuffer n lent w = bufferIf (showCheck n w) (bufferAfter f2 file (inputsShown n w) lent) lent
+  showBuffer n lent w =
+      let i = inputsShown n w in
+      let s = source i in
+      writtenOver (showCheck n (length lent) w) (figuresOf (s .f2) (s .file) i) lent

@@ -8,15 +8,16 @@ use base::refusal::Refusal;
 use base::refusal::Verdict;
 use base::refusal::refuse_unless;
 use base::refusal::then;
-use maps::figures::Inputs;
+use maps::inputs::Inputs;
+use maps::inputs::inputs_in;
 ghost use mathlib.Core.Path.{_≡_};
 ghost use mathlib.Core.Bool.{cond};
-ghost use Rattle.worksheet.specs.Desks.{draftAt, withDraft, inputsOf, staleOf, movedTo, outcome, isDesk, deskCheck, closedCheck, draftCheck, freshCheck, earlierCheck, freshSheet, openedIf, openOf, beginCheck, beginOf, changeCheck, editedDraft, changeOf, commitCheck, commitOf, cancelCheck, cancelOf, setOf, takeBackOf};
+ghost use Rattle.worksheet.specs.Desks.{draftAt, withDraft, inputsOf, staleOf, movedTo, outcome, isDesk, deskCheck, closedCheck, draftCheck, freshCheck, earlierCheck, freshSheet, openOf, openedOf, beginCheck, beginOf, changeCheck, editedDraft, changeOf, commitCheck, commitOf, cancelCheck, withoutDraft, cancelOf, setOf, takeBackOf};
 
 pub enum Draft {
     Closed,
     Fresh(Inputs),
-    // Somebody else committed or took back since the draft was begun.
+    // Another desk committed, or there was a take-back, since the draft was begun.
     Stale(Inputs),
 }
 
@@ -39,11 +40,6 @@ pub struct Worksheet {
 pub struct Outcome {
     pub answer: Verdict,
     pub sheet: Worksheet,
-}
-
-pub enum Opened {
-    Sheet(Worksheet),
-    Refused(Refusal),
 }
 
 fn pick(here: bool, d: Draft, other: Draft) -> Draft
@@ -202,20 +198,23 @@ fn fresh_sheet(i: Inputs) -> Worksheet
     }
 }
 
-fn opened_if(verdict: Verdict, i: Inputs) -> Opened
-    ensures { λ r. ⌜ r ≡ openedIf verdict i ⌝ }
+// A worksheet with all desks closed and nothing to take back, and the verdict on its inputs. What stands
+// beside a refusal holds the refused inputs and is no worksheet to use.
+pub fn open(i: Inputs) -> Outcome
+    ensures { λ r. ⌜ r ≡ openOf i ⌝ }
 {
-    match verdict {
-        Verdict::Accepted => Opened::Sheet(fresh_sheet(i)),
-        Verdict::Refused(why) => Opened::Refused(why),
+    Outcome {
+        answer: inputs_check(i),
+        sheet: fresh_sheet(i),
     }
 }
 
-// A worksheet with all desks closed and nothing to take back; none where a field is bad.
-pub fn open(i: Inputs) -> Opened
-    ensures { λ r. ⌜ r ≡ openOf i ⌝ }
+// The same of 14 little-endian words; bytes that are not there count as 0, and bytes after the words are
+// not looked at.
+pub fn opened(words: &[u8]) -> Outcome
+    ensures { λ r. ⌜ r ≡ openedOf (now (words .entry)) ⌝ }
 {
-    opened_if(inputs_check(i), i)
+    open(inputs_in(words))
 }
 
 // A fresh draft for a desk, a copy of the worksheet's inputs.
@@ -258,12 +257,18 @@ pub fn commit(w: Worksheet, desk: u32) -> Outcome
     decided(check, with_draft(moved, desk, Draft::Closed), w)
 }
 
+fn without_draft(w: Worksheet, desk: u32) -> Worksheet
+    ensures { λ r. ⌜ r ≡ withoutDraft desk w ⌝ }
+{
+    with_draft(w, desk, Draft::Closed)
+}
+
 // The draft goes; nothing else moves.
 pub fn cancel(w: Worksheet, desk: u32) -> Outcome
     ensures { λ r. ⌜ r ≡ cancelOf desk w ⌝ }
 {
     let check = then(desk_check(desk), draft_check(draft_at(w, desk)));
-    decided(check, with_draft(w, desk, Draft::Closed), w)
+    decided(check, without_draft(w, desk), w)
 }
 
 // The earlier set; i where there is none.

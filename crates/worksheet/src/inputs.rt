@@ -1,22 +1,19 @@
-// The 14 fields of the inputs: their ranges, what a change puts in their place, and the inputs from a
-// program's words.
-use base::angle::Degrees;
-use base::coefficients::float;
-use base::coefficients::word;
-use base::constants::MagneticPole;
+// The 14 fields of the inputs: their ranges, and what a change puts in their place.
 use base::ranges::hour_check;
 use base::ranges::is_to;
 use base::ranges::latitude_check;
 use base::ranges::longitude_check;
+use base::ranges::month_check;
 use base::refusal::Refusal;
 use base::refusal::Verdict;
 use base::refusal::refuse_unless;
 use base::refusal::then;
-use maps::figures::Factors;
-use maps::figures::Inputs;
-use maps::figures::Route;
+use maps::inputs::Factors;
+use maps::inputs::Inputs;
+use maps::inputs::MagneticPole;
+use maps::inputs::Route;
 ghost use mathlib.Core.Path.{_≡_};
-ghost use Rattle.worksheet.specs.Inputs.{isMonth, monthCheck, sunspotCheck, factorCheck, flagCheck, routeCheck, factorsCheck, poleCheck, fieldsCheck, inputsCheck, editCheck, edited, degreesAt, routeIn, factorsIn, poleIn, inputsIn, wordsCheck, fieldsIf, fromWords};
+ghost use Rattle.worksheet.specs.Inputs.{sunspotCheck, factorCheck, flagCheck, routeCheck, factorsCheck, poleCheck, inputsCheck, editCheck, edited};
 
 // A change, with all its numbers; a path is fields 4 to 8, the flag included.
 pub enum Edit {
@@ -25,24 +22,6 @@ pub enum Edit {
     Path(Route),
     Psc(Factors),
     Pole(MagneticPole),
-}
-
-// What a program's words give: the inputs, or the refusal of the first bad field.
-pub enum FromWords {
-    Fields(Inputs),
-    Refused(Refusal),
-}
-
-fn is_month(m: u32) -> bool
-    ensures { λ r. ⌜ r ≡ isMonth m ⌝ }
-{
-    if 1 <= m { m <= 12 } else { false }
-}
-
-fn month_check(m: u32) -> Verdict
-    ensures { λ r. ⌜ r ≡ monthCheck m ⌝ }
-{
-    refuse_unless(is_month(m), Refusal::Month)
 }
 
 fn sunspot_check(x: f32) -> Verdict
@@ -57,7 +36,7 @@ fn factor_check(field: u32, x: f32) -> Verdict
     refuse_unless(is_to(0.125, 8.0, x), Refusal::Factor(field))
 }
 
-// A program's word for the flag: 0 or 1.
+// The flag of the long way is 0 or 1.
 fn flag_check(flag: u32) -> Verdict
     ensures { λ r. ⌜ r ≡ flagCheck flag ⌝ }
 {
@@ -71,7 +50,8 @@ fn route_check(p: Route) -> Verdict
     let tlong = p.tlong;
     let rlat = p.rlat;
     let rlong = p.rlong;
-    let receiver = then(latitude_check(6, rlat), longitude_check(7, rlong));
+    let from_rlong = then(longitude_check(7, rlong), flag_check(p.long_path));
+    let receiver = then(latitude_check(6, rlat), from_rlong);
     then(
         latitude_check(4, tlat),
         then(longitude_check(5, tlong), receiver),
@@ -93,23 +73,19 @@ fn pole_check(p: MagneticPole) -> Verdict
     then(latitude_check(13, lat), longitude_check(14, lon))
 }
 
-// The 14 fields in their order, with the verdict on the flag in its place.
-fn fields_check(flag: Verdict, i: Inputs) -> Verdict
-    ensures { λ r. ⌜ r ≡ fieldsCheck flag i ⌝ }
-{
-    let route = i.route;
-    let psc = i.psc;
-    let pole = i.pole;
-    let rest = then(flag, then(factors_check(psc), pole_check(pole)));
-    let from_hour = then(hour_check(i.gmt), then(route_check(route), rest));
-    then(month_check(i.month), then(sunspot_check(i.ssn), from_hour))
-}
-
 // The first bad field of the inputs decides.
 pub(crate) fn inputs_check(i: Inputs) -> Verdict
     ensures { λ r. ⌜ r ≡ inputsCheck i ⌝ }
 {
-    fields_check(Verdict::Accepted, i)
+    let route = i.route;
+    let psc = i.psc;
+    let pole = i.pole;
+    let from_route = then(
+        route_check(route),
+        then(factors_check(psc), pole_check(pole)),
+    );
+    let from_hour = then(hour_check(i.gmt), from_route);
+    then(month_check(i.month), then(sunspot_check(i.ssn), from_hour))
 }
 
 // The changed fields, and no other.
@@ -177,74 +153,4 @@ pub(crate) fn apply(e: Edit, i: Inputs) -> Inputs
             pole: p,
         },
     }
-}
-
-fn degrees(s: &[u8], at: usize) -> Degrees
-    ensures { λ r. ⌜ r ≡ degreesAt (now (s .entry)) at ⌝ }
-{
-    Degrees(float(s, at))
-}
-
-fn route_in(s: &[u8]) -> Route
-    ensures { λ r. ⌜ r ≡ routeIn (now (s .entry)) ⌝ }
-{
-    Route {
-        tlat: degrees(s, 12),
-        tlong: degrees(s, 16),
-        rlat: degrees(s, 20),
-        rlong: degrees(s, 24),
-        long_path: word(s, 28) == 1,
-    }
-}
-
-fn factors_in(s: &[u8]) -> Factors
-    ensures { λ r. ⌜ r ≡ factorsIn (now (s .entry)) ⌝ }
-{
-    Factors {
-        e: float(s, 32),
-        f1: float(s, 36),
-        f2: float(s, 40),
-        es: float(s, 44),
-    }
-}
-
-fn pole_in(s: &[u8]) -> MagneticPole
-    ensures { λ r. ⌜ r ≡ poleIn (now (s .entry)) ⌝ }
-{
-    MagneticPole {
-        lat: degrees(s, 48),
-        lon: degrees(s, 52),
-    }
-}
-
-fn inputs_in(s: &[u8]) -> Inputs
-    ensures { λ r. ⌜ r ≡ inputsIn (now (s .entry)) ⌝ }
-{
-    Inputs {
-        month: word(s, 0),
-        ssn: float(s, 4),
-        gmt: float(s, 8),
-        route: route_in(s),
-        psc: factors_in(s),
-        pole: pole_in(s),
-    }
-}
-
-fn fields_if(verdict: Verdict, i: Inputs) -> FromWords
-    ensures { λ r. ⌜ r ≡ fieldsIf verdict i ⌝ }
-{
-    match verdict {
-        Verdict::Accepted => FromWords::Fields(i),
-        Verdict::Refused(why) => FromWords::Refused(why),
-    }
-}
-
-// The inputs of 14 little-endian words, or the refusal of the first bad field. Bytes that are not
-// there count as 0, and bytes after the words are not looked at.
-pub fn from_words(s: &[u8]) -> FromWords
-    ensures { λ r. ⌜ r ≡ fromWords (now (s .entry)) ⌝ }
-{
-    let i = inputs_in(s);
-    let flag = flag_check(word(s, 28));
-    fields_if(fields_check(flag, i), i)
 }

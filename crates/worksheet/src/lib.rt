@@ -1,5 +1,6 @@
-// The planner's worksheet: one set of inputs, four desks that draft changes to it, and its showings.
+// The planner's worksheet: one set of inputs, four desks that draft changes to it, its showings, and the
+// calls that all of these are.
 pub mod desks;
 pub mod inputs;
-pub mod opening;
+pub mod journal;
 pub mod showing;

@@ -5,13 +5,18 @@ use crate::desks::draft_at;
 use crate::desks::draft_check;
 use crate::desks::inputs_of;
 use crate::inputs::inputs_check;
+use base::refusal::Refusal;
 use base::refusal::Verdict;
 use base::refusal::then;
-use maps::figures::Inputs;
 use maps::figures::Shown;
 use maps::figures::figures;
+use maps::inputs::Inputs;
 ghost use mathlib.Core.Path.{_≡_};
-ghost use Rattle.worksheet.specs.Showing.{inputsShown, askedCheck, showCheck, showOf, showBuffer};
+ghost use Prim.Native.Nat.{ℕ};
+ghost use lib.ListN.{length, getD};
+ghost use lib.Ieee.{nan};
+ghost use Rattle.base.specs.Fill.{fill};
+ghost use Rattle.worksheet.specs.Showing.{pair, inputsShown, askedCheck, judgedCheck, drawnOf, drawnBuffer, showOf, showBuffer};
 
 // The inputs that a showing of the desk is of: 0 is the worksheet. A stale draft is shown all the same.
 fn inputs_shown(w: Worksheet, desk: u32) -> Inputs
@@ -35,20 +40,53 @@ fn asked_check(w: Worksheet, desk: u32) -> Verdict
     }
 }
 
-fn show_check(w: Worksheet, desk: u32) -> Verdict
-    ensures { λ r. ⌜ r ≡ showCheck desk w ⌝ }
+// What is refused before the buffer and the files are looked at.
+fn judged_check(w: Worksheet, desk: u32) -> Verdict
+    ensures { λ r. ⌜ r ≡ judgedCheck desk w ⌝ }
 {
     then(asked_check(w, desk), inputs_check(inputs_shown(w, desk)))
 }
 
-// The number of points, with the figures in the buffer; a refusal leaves the buffer as it was lent.
-// Desk 0 is the worksheet. `f2` is the F2 record and `file` the month file.
-pub fn show(w: Worksheet, desk: u32, f2: &[u8], file: &[u8], out: &mut [f32]) -> Shown
-    ensures { λ r. ⌜ (r ≡ showOf (now (f2 .entry)) (now (file .entry)) desk (now (out .entry)) w) × (now (out .exit) ≡ showBuffer (now (f2 .entry)) (now (file .entry)) desk (now (out .entry)) w) ⌝ }
+// All figures into a buffer that has their number.
+fn put(out: &mut [f32], all: &[f32; 151])
+    requires { ⌜ length (now out) ≡ 151 ⌝ }
+    ensures { λ _. ⌜ now (out .exit) ≡ fill (λ (k : ℕ). getD (now (all .entry)) k nan) 0 (now (out .entry)) 151 ⌝ }
 {
-    let check = show_check(w, desk);
+    let mut k = 0usize;
+    while k < 151 {
+        out[k] = all[k];
+        k += 1;
+    }
+}
+
+// The figures of inputs, which nothing judges here, into a lent buffer: 12 where it has not 151
+// numbers, then the refusals of the record and the month file. Refused, the buffer stays as it is.
+pub fn drawn(i: Inputs, f2: &[u8], file: &[u8], out: &mut [f32]) -> Shown
+    ensures { λ r. ⌜ (r ≡ drawnOf (pair (now (f2 .entry)) (now (file .entry)) i) i (now (out .entry))) × (now (out .exit) ≡ drawnBuffer (pair (now (f2 .entry)) (now (file .entry)) i) i (now (out .entry))) ⌝ }
+{
+    if out.len() != 151 {
+        return Shown::Refused(Refusal::Figures);
+    }
+    let mut all = [0.0f32; 151];
+    let shown = figures(i, f2, file, &mut all);
+    match shown {
+        Shown::Points(count) => {
+            put(out, &all);
+            Shown::Points(count)
+        }
+        Shown::Refused(why) => Shown::Refused(why),
+    }
+}
+
+// The number of points, with the figures in the buffer; a refusal leaves the buffer as it was lent.
+// Desk 0 is the worksheet. `f2` is the F2 record and `file` the month file; that they are of the
+// inputs' month is the caller's word.
+pub fn show(w: Worksheet, desk: u32, f2: &[u8], file: &[u8], out: &mut [f32]) -> Shown
+    ensures { λ r. ⌜ (r ≡ showOf (pair (now (f2 .entry)) (now (file .entry))) desk (now (out .entry)) w) × (now (out .exit) ≡ showBuffer (pair (now (f2 .entry)) (now (file .entry))) desk (now (out .entry)) w) ⌝ }
+{
+    let check = judged_check(w, desk);
     match check {
-        Verdict::Accepted => figures(inputs_shown(w, desk), f2, file, out),
+        Verdict::Accepted => drawn(inputs_shown(w, desk), f2, file, out),
         Verdict::Refused(why) => Shown::Refused(why),
     }
 }

@@ -6,7 +6,7 @@ use crate::commands::journals::hold_to_demand_3;
 use crate::commands::program::Compared;
 use crate::commands::whole;
 use crate::desks::lent::Lent;
-use crate::desks::programs::{in_full, replay_text, replay_with, CALLS};
+use crate::desks::programs::{replay_text, replay_with, CALLS};
 use crate::desks::Worksheet;
 use crate::generator::Generator;
 use crate::journal_kinds::{any_field, bad_inputs, bytes, damaged, files, list, NO_CALLS};
@@ -37,7 +37,7 @@ pub fn run(count: &str, seed: &str, program: &str) -> Result<(), String> {
             let held = hold_to_demand_3(&mut random, &replayed, &lent);
             held.map_err(|text| format!("{name}: {text}"))?;
             counts.note(&replayed);
-            compared.note(&name, &input, &replay_text(&replayed, in_full))?;
+            compared.note(&name, &input, &replay_text(&replayed))?;
         }
     }
     counts.print();

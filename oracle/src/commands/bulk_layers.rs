@@ -140,14 +140,9 @@ mod linked {
             read(self.sheet.month, self.sheet.ssn).expect("both files are good")
         }
 
-        /// Any flag but 0 is the long way round.
         fn path(&self, random: &mut Generator) -> Option<String> {
             let route = &self.sheet.route;
-            let flag = match (route.long, random.below(2)) {
-                (false, _) => 0,
-                (true, 0) => 1,
-                (true, _) => 1 << random.below(32),
-            };
+            let flag = lent::flag(random, route.long);
             let (given, given_points) = port::path(route, flag);
             let (wanted, points) = measured(self.sheet);
             let differs = words(given) != words(wanted) || given_points != points;

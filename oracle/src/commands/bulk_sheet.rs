@@ -6,7 +6,7 @@ use crate::commands::program::Compared;
 use crate::commands::whole;
 use crate::damage::Damage;
 use crate::data_files::Pair;
-use crate::desks::programs::{in_full, sheet, sheet_text, CALLS};
+use crate::desks::programs::{sheet, sheet_text, CALLS};
 use crate::generator::Generator;
 use crate::journal_kinds::{any_field, bad_inputs, files};
 use crate::month_file::push_words;
@@ -29,7 +29,7 @@ pub fn run(count: &str, seed: &str, program: &str) -> Result<(), String> {
             let answer = sheet(&input);
             counts.note_sheet(&answer);
             let name = format!("input {number} of case {case}");
-            compared.note(&name, &input, &sheet_text(&answer, in_full))?;
+            compared.note(&name, &input, &sheet_text(&answer))?;
         }
     }
     counts.print();

@@ -92,7 +92,8 @@ mod linked {
         fn difference(&self, random: &mut Generator) -> (bool, Option<String>) {
             let Files { record, file } = &self.files;
             let mut buffer = Buffer::of(random, self.buffer);
-            let answer = port::sheet(&self.sheet, record, file, buffer.lent());
+            let flag = lent::flag(random, self.sheet.route.long);
+            let answer = port::sheet_by(flag, &self.sheet, record, file, buffer.lent());
             match refusal(record, file, self.buffer) {
                 (0, 0) => (false, self.shown(answer, &buffer)),
                 why => (true, refused(why, answer, &buffer)),

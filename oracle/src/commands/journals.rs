@@ -1,7 +1,6 @@
 //! `journals FILE`: short journals with what `replay` prints for them. The
 //! number of journals, an F2 record and a month file, then for each journal its
-//! inputs, its calls and its output, where one line with a hash stands for 151
-//! figures.
+//! inputs, its calls and its output, byte for byte.
 
 mod by_hand;
 mod clauses;
@@ -10,25 +9,31 @@ pub mod counts;
 use crate::data_files::{named, Pair};
 use crate::desks::fields::{Inputs, FIELDS};
 use crate::desks::lent::Lent;
-use crate::desks::programs::{hashed, replay_text, replay_with, Replayed, CALLS};
+use crate::desks::programs::{replay_text, replay_with, Replayed, CALLS};
 use crate::desks::shorter::check;
 use crate::desks::Worksheet;
 use crate::generator::Generator;
-use crate::journal_kinds::{any_buffers, bad_inputs, bytes, list, with_a_nan, NO_CALLS};
+use crate::journal_kinds::{any_buffers, bad_flags, bad_inputs, bytes, list, with_a_nan, NO_CALLS};
 use crate::month_file::push_words;
 use crate::sheet_kinds::in_range;
 use clauses::Clauses;
 use counts::Counts;
 use std::fs;
 
-const LISTS: usize = 180;
+const LISTS: usize = 200;
+const BAD_FLAGS: usize = 50;
 /// For each field, and for each kind of bytes that are no call.
 const REFUSED_OPENS: usize = 3;
 const STOPPED: usize = 12;
 /// At most so much; the file is kept.
-const MOST: usize = 400_000;
-/// The least number of times that each answer and each clause must occur.
+const MOST: usize = 3_000_000;
+/// At most so many bytes of calls in one journal.
+const MOST_CALLS: usize = 1024;
+/// The least number of times that each call must get each answer, that calls
+/// must get each refusal of the desks, and that each clause must occur.
 const LEAST: u64 = 10;
+const LEAST_OF_REFUSALS: u64 = 100;
+const LEAST_OF_CLAUSES: u64 = 30;
 
 struct Journal {
     group: &'static str,
@@ -59,12 +64,14 @@ struct Seen {
 impl Seen {
     fn print(&self) {
         self.answers.print();
+        self.answers.print_refusals();
         self.clauses.print();
     }
 
     fn check(&self) -> Result<(), String> {
         self.answers.refuse_rare(LEAST, REFUSED_OPENS as u64)?;
-        self.clauses.refuse_rare(LEAST)
+        self.answers.refuse_rare_refusals(LEAST_OF_REFUSALS)?;
+        self.clauses.refuse_rare(LEAST_OF_CLAUSES)
     }
 }
 
@@ -99,6 +106,7 @@ fn journals() -> Vec<Journal> {
         })
         .collect();
     journals.extend((0..LISTS).map(|_| random_list(&mut random)));
+    journals.extend((0..BAD_FLAGS).map(|_| with_bad_flags(&mut random)));
     journals.extend(refused_opens(&mut random));
     for (group, no_call) in NO_CALLS {
         journals.extend((0..STOPPED).map(|_| {
@@ -132,6 +140,16 @@ fn random_list(random: &mut Generator) -> Journal {
     }
 }
 
+fn with_bad_flags(random: &mut Generator) -> Journal {
+    let (inputs, opened) = start(random);
+    let count = 8 + random.below(9);
+    Journal {
+        group: "bad flags",
+        inputs,
+        calls: bytes(&bad_flags(random, &opened, count)),
+    }
+}
+
 /// With calls that are not answered.
 fn refused_opens(random: &mut Generator) -> Vec<Journal> {
     let mut journals = Vec::new();
@@ -159,6 +177,9 @@ fn vectors(journals: &[Journal]) -> Result<(Vec<u8>, Seen), String> {
     bytes.extend(&pair.daw);
     bytes.extend(&pair.month);
     for (i, journal) in journals.iter().enumerate() {
+        if journal.calls.len() > MOST_CALLS {
+            return Err(format!("journal {i}: its calls are too long"));
+        }
         let replayed = replay_with(&lent, &journal.input(&pair));
         let held = hold_to_demand_3(&mut random, &replayed, &lent);
         held.map_err(|text| format!("journal {i}: {text}"))?;
@@ -166,7 +187,7 @@ fn vectors(journals: &[Journal]) -> Result<(Vec<u8>, Seen), String> {
         seen.clauses.note(&replayed);
         push_words(&mut bytes, &journal.inputs);
         push_part(&mut bytes, &journal.calls);
-        push_part(&mut bytes, replay_text(&replayed, hashed).as_bytes());
+        push_part(&mut bytes, replay_text(&replayed).as_bytes());
     }
     Ok((bytes, seen))
 }

@@ -27,6 +27,15 @@ pub fn sheet(random: &mut Generator) -> Sheet {
     }
 }
 
+/// A flag where none is judged: any word but 0 is the long way round.
+pub fn flag(random: &mut Generator, long: bool) -> u32 {
+    match (long, random.below(2)) {
+        (false, _) => 0,
+        (true, 0) => 1,
+        (true, _) => 1 << random.below(32),
+    }
+}
+
 /// Calm or wild in one word of up to 4096; most tables pass.
 pub fn files(random: &mut Generator) -> Pair {
     let ikim = table(random);

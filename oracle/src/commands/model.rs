@@ -1,16 +1,20 @@
-//! `replay` and `sheet`: what the model prints for standard input.
+//! `replay`, `sheet` and `page`: what the model prints for standard input.
 
-use crate::desks::programs;
+use crate::desks::{page, programs};
 use std::io::{self, Read, Write};
 
 pub fn replay() -> Result<(), String> {
     let replayed = programs::replay(&input()?);
-    print(&programs::replay_text(&replayed, programs::in_full))
+    print(&programs::replay_text(&replayed))
 }
 
 pub fn sheet() -> Result<(), String> {
     let answer = programs::sheet(&input()?);
-    print(&programs::sheet_text(&answer, programs::in_full))
+    print(&programs::sheet_text(&answer))
+}
+
+pub fn page() -> Result<(), String> {
+    print(&page::page_text(&input()?))
 }
 
 fn input() -> Result<Vec<u8>, String> {

@@ -5,7 +5,7 @@ mod cases;
 
 use crate::commands::journals::counts::Counts;
 use crate::data_files::{extreme, named, Pair};
-use crate::desks::programs::{hashed, in_full, sheet, sheet_text, CALLS};
+use crate::desks::programs::{sheet, sheet_text, CALLS};
 use crate::generator::Generator;
 use crate::journal_kinds::with_a_nan;
 use crate::month_file::push_words;
@@ -36,7 +36,7 @@ pub fn files(folder: &str) -> Result<(), String> {
     for (number, input) in (1..).zip(&inputs) {
         let answer = sheet(input);
         counts.note_sheet(&answer);
-        let text = sheet_text(&answer, in_full);
+        let text = sheet_text(&answer);
         put(folder, &format!("{number:03}.in"), input)?;
         put(folder, &format!("{number:03}.out"), text.as_bytes())?;
     }
@@ -89,7 +89,7 @@ fn vectors() -> (Vec<u8>, Counts) {
     for case in cases {
         let answer = sheet(&case.input(&pair));
         counts.note_sheet(&answer);
-        let text = sheet_text(&answer, hashed);
+        let text = sheet_text(&answer);
         let Case {
             fields,
             record,
@@ -109,7 +109,7 @@ fn vectors() -> (Vec<u8>, Counts) {
 #[cfg(test)]
 mod tests {
     use super::{inputs, pair, vectors, MOST};
-    use crate::desks::programs::{in_full, sheet, sheet_text};
+    use crate::desks::programs::{sheet, sheet_text};
 
     #[test]
     fn every_refusal_is_there_and_the_bytes_are_the_same_each_time() {
@@ -142,7 +142,7 @@ mod tests {
     fn one_figure_of_each_point_is_nan() {
         let pair = pair();
         let cases = super::cases(&pair);
-        let text = sheet_text(&sheet(&cases[0].input(&pair)), in_full);
+        let text = sheet_text(&sheet(&cases[0].input(&pair)));
         let nans = text.lines().filter(|line| *line == "7fc00000").count();
         assert_eq!(nans, 3);
     }

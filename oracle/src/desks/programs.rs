@@ -87,8 +87,8 @@ fn word(bytes: &[u8], number: usize) -> Option<u32> {
     bytes.try_into().ok().map(u32::from_le_bytes)
 }
 
-/// The call that stands first; none if it is unknown or cut short, or if its
-/// flag is neither 0 nor 1.
+/// The call that stands first; none if it is unknown or cut short. Its words
+/// are any words: a bad flag is refused like a bad number.
 fn call(bytes: &[u8]) -> Option<Call> {
     let word = |number| word(bytes, number);
     let operation = word(0)?;
@@ -108,20 +108,12 @@ fn call(bytes: &[u8]) -> Option<Call> {
         3 => Edit::Hour(word(2)?),
         4 => Edit::Path {
             ends: [word(2)?, word(3)?, word(4)?, word(5)?],
-            long: flag(word(6)?)?,
+            flag: word(6)?,
         },
         5 => Edit::Factors([word(2)?, word(3)?, word(4)?, word(5)?]),
         _ => Edit::Pole([word(2)?, word(3)?]),
     };
     Some(Call::Change(desk, edit))
-}
-
-fn flag(word: u32) -> Option<bool> {
-    match word {
-        0 => Some(false),
-        1 => Some(true),
-        _ => None,
-    }
 }
 
 /// A call as a journal holds it. A showing's buffer is always of 151.
@@ -146,11 +138,7 @@ pub fn words(call: &Call) -> Vec<u32> {
     }
 }
 
-/// How figures are printed.
-pub type Print = fn(&Shown) -> String;
-
-/// As the programs do it.
-pub fn in_full(shown: &Shown) -> String {
+fn figures(shown: &Shown) -> String {
     let mut text = String::with_capacity(9 * FIGURES);
     for word in shown.words {
         writeln!(text, "{word:08x}").expect("a string takes everything");
@@ -158,33 +146,20 @@ pub fn in_full(shown: &Shown) -> String {
     text
 }
 
-/// One line that stands for the 151: the FNV-1a hash, of 64 bits, of their
-/// words' little-endian bytes.
-pub fn hashed(shown: &Shown) -> String {
-    let bytes = shown.words.into_iter().flat_map(u32::to_le_bytes);
-    format!("{:016x}\n", hash(bytes))
-}
-
-fn hash(bytes: impl Iterator<Item = u8>) -> u64 {
-    bytes.fold(0xcbf2_9ce4_8422_2325, |hash, byte| {
-        (hash ^ u64::from(byte)).wrapping_mul(0x0000_0100_0000_01b3)
-    })
-}
-
 fn refused(refusal: Refusal) -> String {
     format!("refused {} {}\n", refusal.number, refusal.place)
 }
 
 /// What `sheet` prints.
-pub fn sheet_text(answer: &Result<Rc<Shown>, Refusal>, print: Print) -> String {
+pub fn sheet_text(answer: &Result<Rc<Shown>, Refusal>) -> String {
     match answer {
-        Ok(shown) => print(shown),
+        Ok(shown) => figures(shown),
         Err(refusal) => refused(*refusal),
     }
 }
 
 /// What `replay` prints.
-pub fn replay_text(replayed: &Replayed, print: Print) -> String {
+pub fn replay_text(replayed: &Replayed) -> String {
     let mut text = String::new();
     if let Err(refusal) = replayed.opened {
         text += &refused(refusal);
@@ -195,7 +170,7 @@ pub fn replay_text(replayed: &Replayed, print: Print) -> String {
             Answer::Refused(refusal) => text += &refused(*refusal),
             Answer::Points(shown) => {
                 text += &format!("points {}\n", shown.points);
-                text += &print(shown);
+                text += &figures(shown);
             }
         }
     }

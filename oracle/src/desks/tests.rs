@@ -44,7 +44,7 @@ fn edits() -> [Edit; 5] {
         Edit::Hour(number(5.5)),
         Edit::Path {
             ends: [1.0, 2.0, 3.0, 4.0].map(number),
-            long: true,
+            flag: 1,
         },
         Edit::Factors([0.5, 1.5, 2.5, 3.5].map(number)),
         Edit::Pole([-11.0, 12.0].map(number)),
@@ -193,7 +193,7 @@ fn each_change_has_its_fields() {
 #[test]
 fn change_refuses_desk_and_draft_before_fields_and_the_first_bad_field() {
     let good = number(1.0);
-    let path = |ends| Edit::Path { ends, long: false };
+    let path = |ends| Edit::Path { ends, flag: 2 };
     let bad = [
         (Edit::Sunspots(NAN), 2, 2),
         (Edit::Hour(NAN), 3, 3),
@@ -201,6 +201,7 @@ fn change_refuses_desk_and_draft_before_fields_and_the_first_bad_field() {
         (path([good, NAN, NAN, NAN]), 5, 5),
         (path([good, good, NAN, NAN]), 4, 6),
         (path([good, good, good, NAN]), 5, 7),
+        (path([good; 4]), 7, 8),
         (Edit::Factors([NAN; 4]), 6, 9),
         (Edit::Factors([good, NAN, NAN, NAN]), 6, 10),
         (Edit::Factors([good, good, NAN, NAN]), 6, 11),
@@ -213,6 +214,23 @@ fn change_refuses_desk_and_draft_before_fields_and_the_first_bad_field() {
         assert_eq!(busy().change(3, &edit), refused(16, 0));
         assert_eq!(busy().change(1, &edit), refused(refusal, place));
         assert_eq!(busy().change(2, &edit), refused(refusal, place));
+    }
+}
+
+/// Flags that would be 0 or 1 if only a part of the word were read.
+#[test]
+fn a_refused_flag_leaves_the_worksheet() {
+    let path = |flag| {
+        let ends = [1.0, 2.0, 3.0, 4.0].map(number);
+        Edit::Path { ends, flag }
+    };
+    for flag in [2, 3, 256, 257, 65_537, 0x3f80_0000, 1 << 31, u32::MAX] {
+        assert_eq!(busy().change(1, &path(flag)), refused(7, 8));
+        assert_eq!(busy().after(&Call::Change(1, path(flag))), busy());
+    }
+    for flag in [0, 1] {
+        let changed = busy().change(1, &path(flag)).expect("a good path");
+        assert_eq!(changed.drafts[0].map(|draft| draft.inputs[7]), Some(flag));
     }
 }
 
@@ -315,6 +333,8 @@ fn show_refuses_in_this_order() {
     assert_eq!(odd.show(3, 150, &short), refused(16, 0));
     assert_eq!(odd.show(0, 150, &short), refused(5, 14));
     assert_eq!(odd.show(1, 150, &short), refused(1, 1));
+    odd.inputs[7] = 2;
+    assert_eq!(odd.show(0, 150, &short), refused(7, 8));
     assert_eq!(busy().show(0, 150, &short), refused(12, 0));
     assert_eq!(busy().show(1, 152, &short), refused(12, 0));
     assert_eq!(busy().show(0, 151, &short), refused(8, 0));

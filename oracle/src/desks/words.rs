@@ -1,7 +1,7 @@
 //! The 90 words in which the port's library keeps a worksheet: six sets of 15,
 //! namely the inputs, the earlier set and the drafts of desks 1 to 4. A set's
-//! first word says what it is, its fields follow; of one that is not there all
-//! are 0.
+//! first word says what it is, its fields follow, the flag as whatever word it
+//! is; of one that is not there all are 0.
 
 use super::fields::{Inputs, FIELDS};
 use super::{Draft, Worksheet};

@@ -31,10 +31,7 @@ impl<'a> Reader<'a> {
     }
 }
 
-/// The 64-bit FNV-1a hash of a sheet's bits, as the data has it.
-pub fn hash(bits: &[u32]) -> u64 {
-    let bytes = bits.iter().flat_map(|word| word.to_le_bytes());
-    bytes.fold(0xcbf2_9ce4_8422_2325, |hash: u64, byte| {
-        (hash ^ u64::from(byte)).wrapping_mul(0x100_0000_01b3)
-    })
+/// A sheet's lines as the programs print them.
+pub fn lines(bits: &[u32]) -> String {
+    bits.iter().map(|word| format!("{word:08x}\n")).collect()
 }

@@ -1,13 +1,14 @@
 // TIMVAR, EF1VAR and F2VAR: the layers at a control point. ESIND: sporadic E. And the ground.
 // What `layer_parameters` of ionosphere.rs has in one body is a function here for each of its steps.
-use crate::figures::Factors;
 use crate::geometry::ControlPoint;
+use crate::inputs::Factors;
 use crate::ionosphere::noisy::noisy;
 use crate::ionosphere::versy::Gammas;
 use crate::magnetic::MagneticVars;
 use base::angle::Degrees;
 use base::angle::Radians;
-use base::coefficients;
+use base::blend::HeightMap;
+use base::blend::LandMap;
 use base::elementary::acos32;
 use base::elementary::cos32;
 use base::elementary::exp32;
@@ -17,6 +18,12 @@ use base::number::abs32;
 use base::number::max;
 use base::number::min;
 use base::number::sqrt32;
+use base::tables::ABMAP;
+use base::tables::ACHI;
+use base::tables::ANEW;
+use base::tables::BCHI;
+use base::tables::BNEW;
+use base::words::float;
 ghost use mathlib.Core.Path.{_≡_};
 ghost use Rattle.base.specs.Single.{_⊕_, _⊗_};
 ghost use Rattle.base.specs.Words.{floatAt};
@@ -48,17 +55,6 @@ const XF1: f32 = 1.1;
 
 // The width of twilight, degrees.
 const DELZ: f32 = 2.0;
-
-// Where the month file has the tables that are read here.
-const ANEW: usize = 23492;
-
-const BNEW: usize = 23504;
-
-const ACHI: usize = 23516;
-
-const BCHI: usize = 23524;
-
-const ABMAP: usize = 25388;
 
 // The two latitudes of the subsolar point in a month.
 pub struct Sun(pub Degrees, pub Degrees);
@@ -157,7 +153,7 @@ fn sun_of(month: u32) -> Sun
 fn term(file: &[u8], a: usize, b: usize, ssn: f32) -> f32
     ensures { λ r. ⌜ r ≡ floatAt (now (file .entry)) a ⊕ floatAt (now (file .entry)) b ⊗ ssn ⌝ }
 {
-    coefficients::float(file, a) + coefficients::float(file, b) * ssn
+    float(file, a) + float(file, b) * ssn
 }
 
 // What `layer_parameters` and `ground_constants` take of a month file at a sunspot number.
@@ -171,10 +167,10 @@ pub fn monthly_of(file: &[u8], month: u32, ssn: f32) -> Monthly
         new0: term(file, ANEW, BNEW, ssn),
         new1: term(file, ANEW + 4, BNEW + 4, ssn),
         new2: term(file, ANEW + 8, BNEW + 8, ssn),
-        land_alf: coefficients::float(file, ABMAP),
-        land_bet: coefficients::float(file, ABMAP + 4),
-        ratio_alf: coefficients::float(file, ABMAP + 8),
-        ratio_bet: coefficients::float(file, ABMAP + 12),
+        land_alf: float(file, ABMAP),
+        land_bet: float(file, ABMAP + 4),
+        ratio_alf: float(file, ABMAP + 8),
+        ratio_bet: float(file, ABMAP + 12),
     }
 }
 
@@ -293,7 +289,7 @@ fn ef1_of(m: Monthly, ssn: f32, psc: Factors, gmdip: Radians, cycen: f32, gamma6
 
 // TIMVAR continued: the F2 height of maximum over its semithickness, from its map, but at least 2.
 // The map's second coordinate is the zenith angle, which counts as negative before noon.
-fn rat_of(m: Monthly, hmym: &[f32; 464], gmlat: Radians, zdeg: Degrees, clock: f32) -> f32
+fn rat_of(m: Monthly, hmym: &HeightMap, gmlat: Radians, zdeg: Degrees, clock: f32) -> f32
     ensures { λ r. ⌜ r ≡ ratOf m (now (hmym .entry)) gmlat zdeg clock ⌝ }
 {
     let gm = Radians(abs32(gmlat.0)).to_degrees().0 - 45.0;
@@ -446,7 +442,7 @@ pub fn layer_parameters(
     ssn: f32,
     gmt: f32,
     psc: Factors,
-    hmym: &[f32; 464],
+    hmym: &HeightMap,
     pt: ControlPoint,
     mag: MagneticVars,
     g: Gammas,
@@ -503,7 +499,7 @@ fn ground_at(wld: f32) -> Ground
 }
 
 // The ground at a place, from the land-mass map; the longitude is the one that `magvar` gives.
-pub fn ground_constants(m: Monthly, fakmap: &[f32; 464], lat: Radians, east_lon: Radians) -> Ground
+pub fn ground_constants(m: Monthly, fakmap: &LandMap, lat: Radians, east_lon: Radians) -> Ground
     ensures { λ r. ⌜ r ≡ groundOf m (now (fakmap .entry)) lat «east_lon» ⌝ }
 {
     let rfltd = lat.to_degrees();

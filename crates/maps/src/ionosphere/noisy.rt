@@ -9,8 +9,11 @@ ghost use Rattle.base.specs.Single.{_⊕_, _⊗_};
 ghost use Rattle.base.specs.Elementary.{sin32Of, cos32Of};
 ghost use Rattle.maps.specs.Noisy.{inPlane, turnOf, sxOf, each, columnsOf, zzOf, latitudeSum, noisyOf};
 
-// One plane `P(29,16)`, its 16 rows of 29 one after the other.
-pub type Plane = [f32; 464];
+// The numbers of a plane `P(29,16)`, 16 rows of 29.
+pub const PLANE: usize = 464;
+
+// One plane, its rows one after the other.
+pub type Plane = [f32; PLANE];
 
 // The sines of 1 to n times an angle, by the rule for the sum of two angles, from the sine and the
 // cosine of the angle.

@@ -4,6 +4,7 @@ use crate::ionosphere::virtim::start_of;
 use crate::ionosphere::virtim::word;
 use base::elementary::cos64;
 use base::elementary::sin64;
+use base::index::IndexTable;
 use base::number::narrow;
 use base::number::narrowed;
 use base::number::widen;
@@ -75,7 +76,7 @@ fn rung(g: &mut Basis, sx: f64, c: f64, s: f64, below: usize, end: usize)
 
 // The geographic functions of the map k, filled in along its ladder of words. A word that equals
 // the one before it ends the ladder, and what is past its end stays 0.
-fn basis(index: &[u32; 60], k: usize, sx: f64, waves: &[f64; 16], g: &mut Basis)
+fn basis(index: &IndexTable, k: usize, sx: f64, waves: &[f64; 16], g: &mut Basis)
     requires { ⌜ GoodTable (now index) × (k < 6) × (now g ≡ zeros) ⌝ }
     ensures { λ _. ⌜ ((gob clg : Float) → now (waves .entry) ≡ wavesOf gob clg → now (g .exit) ≡ run (geographicOf (mapWord (now (index .entry)) k) sx gob clg) 76) ⌝ }
 {
@@ -191,7 +192,7 @@ fn least(a: usize, b: usize) -> usize
 // first two as far as the shorter of them, and then each alone.
 fn three_series(
     ab: &TimeMaps,
-    index: &[u32; 60],
+    index: &IndexTable,
     k: usize,
     ga: &Basis,
     gb: &Basis,
@@ -218,7 +219,7 @@ fn three_series(
 }
 
 // The maps k, k + 1 and k + 2 at a place, sx being the first two maps' and sz the third's.
-fn three(ab: &TimeMaps, index: &[u32; 60], k: usize, sx: f64, sz: f64, waves: &[f64; 16]) -> Triple
+fn three(ab: &TimeMaps, index: &IndexTable, k: usize, sx: f64, sz: f64, waves: &[f64; 16]) -> Triple
     requires { ⌜ GoodTable (now index) × (k ≤ 3) ⌝ }
     ensures { λ r. ⌜ ((gob clg : Float) → now (waves .entry) ≡ wavesOf gob clg → r ≡ threeAt (now (ab .entry)) (now (index .entry)) k sx sz gob clg) ⌝ }
 {
@@ -244,7 +245,7 @@ pub struct Gammas {
 // The six maps at a place of dip, latitude and east longitude clg; gob is the latitude's cosine.
 pub(crate) fn versy(
     ab: &TimeMaps,
-    index: &[u32; 60],
+    index: &IndexTable,
     dip: f32,
     lat: f32,
     clg: f32,

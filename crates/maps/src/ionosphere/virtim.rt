@@ -1,7 +1,9 @@
 // VIRTIM: the maps' coefficients at an hour.
 use base::angle::Degrees;
+use base::blend::SixMaps;
 use base::elementary::cos32;
 use base::elementary::sin32;
+use base::index::IndexTable;
 ghost use mathlib.Core.Path.{_≡_};
 ghost use Prim.Native.Nat.{_+_, _-_, _*_, _≤_, _<_};
 ghost use lib.ListN.{getD};
@@ -35,7 +37,7 @@ fn wide(x: u32) -> usize
 }
 
 // The word j of the map k.
-pub(crate) fn word(index: &[u32; 60], k: usize, j: usize) -> usize
+pub(crate) fn word(index: &IndexTable, k: usize, j: usize) -> usize
     requires { ⌜ (k < 6) × (j < 10) ⌝ }
     ensures { λ r. ⌜ r ≡ mapWord (now (index .entry)) k j ⌝ }
 {
@@ -72,7 +74,7 @@ fn hour_waves(gmt: f32) -> Waves
 }
 
 // A row's series at the hour: its mean, which stands at `at`, and n harmonics.
-fn row_value(cof: &[f32; 2604], at: usize, n: usize, c: &[f32; 8], s: &[f32; 8]) -> f32
+fn row_value(cof: &SixMaps, at: usize, n: usize, c: &[f32; 8], s: &[f32; 8]) -> f32
     requires { ⌜ (n ≤ 8) × (at + 2 * n < 2604) ⌝ }
     ensures { λ r. ⌜ r ≡ valueOf (waveIn (now (c .entry)) (now (s .entry))) (now (cof .entry)) at n ⌝ }
 {
@@ -87,8 +89,8 @@ fn row_value(cof: &[f32; 2604], at: usize, n: usize, c: &[f32; 8], s: &[f32; 8])
 
 // All rows of the map k, put into `AB`.
 fn time_map(
-    cof: &[f32; 2604],
-    index: &[u32; 60],
+    cof: &SixMaps,
+    index: &IndexTable,
     k: usize,
     c: &[f32; 8],
     s: &[f32; 8],
@@ -110,7 +112,7 @@ fn time_map(
 }
 
 // Every map's daily series, worked out at one hour of Greenwich mean time.
-pub(crate) fn virtim(cof: &[f32; 2604], index: &[u32; 60], gmt: f32) -> TimeMaps
+pub(crate) fn virtim(cof: &SixMaps, index: &IndexTable, gmt: f32) -> TimeMaps
     requires { ⌜ GoodTable (now index) ⌝ }
     ensures { λ r. ⌜ r ≡ virtimOf (now (cof .entry)) (now (index .entry)) gmt ⌝ }
 {

@@ -3,7 +3,7 @@
 use crate::bits::Answer;
 use crate::damage::Damage;
 use crate::data_files::Pair;
-use crate::desks::fields::{Inputs, FIELDS};
+use crate::desks::fields::{range, Inputs, Range, FIELDS};
 use crate::desks::programs::{inputs, HEAD};
 use crate::desks::{Call, Draft, Refusal, Worksheet};
 use crate::generator::Generator;
@@ -11,10 +11,6 @@ use crate::journal_kinds::{any_buffers, any_field, bad_inputs, bad_word, list as
 use crate::month_file::push_words;
 use crate::sheet_kinds::in_range;
 use crate::voacap::coefficients::F2_RECORD_BYTES;
-
-/// The field of the flag, which is no word like the others: in a worksheet
-/// that is held it is true or false.
-const FLAG: usize = 8;
 
 pub enum Start {
     /// The bytes of an open; some of the 14 words are missing, or others
@@ -80,16 +76,17 @@ fn held(random: &mut Generator) -> Worksheet {
     }
 }
 
-/// Half of them with a field or two out of range, any NaN as one word.
+/// Half of them with a field or two out of range, the flag too; any NaN as one
+/// word.
 fn odd_inputs(random: &mut Generator) -> Inputs {
     let mut inputs = in_range(random).words();
     for _ in 0..random.below(3) {
         let field = 1 + random.below(FIELDS as u64) as usize;
-        match field {
-            1 => inputs[0] = bad_word(random, 1),
-            FLAG => {}
-            _ => inputs[field - 1] = f32::from_bits(bad_word(random, field)).to_word() as u32,
-        }
+        let word = bad_word(random, field);
+        inputs[field - 1] = match range(field) {
+            Range::Whole(..) => word,
+            Range::Number(..) => f32::from_bits(word).to_word() as u32,
+        };
     }
     inputs
 }

@@ -27,9 +27,9 @@ fn hour(desk: u32, v: f32) -> Call {
     Call::Change(desk, Edit::Hour(v.to_bits()))
 }
 
-fn path(desk: u32, ends: [f32; 4], long: bool) -> Call {
+fn path(desk: u32, ends: [f32; 4], flag: u32) -> Call {
     let ends = ends.map(f32::to_bits);
-    Call::Change(desk, Edit::Path { ends, long })
+    Call::Change(desk, Edit::Path { ends, flag })
 }
 
 fn factors(desk: u32, values: [f32; 4]) -> Call {
@@ -43,6 +43,12 @@ fn pole(desk: u32, lat: f32, lon: f32) -> Call {
 /// Far enough for five points.
 const FAR: [f32; 4] = [60.0, 5.0, -30.0, 15.0];
 
+const SHORT: u32 = 0;
+const LONG: u32 = 1;
+/// Some would be 0 or 1 if cut to a byte or to two, or without their highest
+/// bit; one is 1.0.
+const NO_FLAGS: [u32; 8] = [2, 3, 256, 257, 65_537, 0x3f80_0000, 0x8000_0000, u32::MAX];
+
 pub fn lists() -> Vec<Vec<Call>> {
     let mut lists = vec![
         vec![],
@@ -51,7 +57,7 @@ pub fn lists() -> Vec<Vec<Call>> {
             SHOW,
             Begin(1),
             sunspots(1, 150.0),
-            path(1, FAR, false),
+            path(1, FAR, SHORT),
             show(1),
             Cancel(1),
             SHOW,
@@ -64,7 +70,7 @@ pub fn lists() -> Vec<Vec<Call>> {
             show(2),
             hour(2, 0.0),
             show(2),
-            path(2, FAR, true),
+            path(2, FAR, LONG),
             show(2),
             factors(2, [0.125, 8.0, 2.0, 1.5]),
             show(2),
@@ -143,7 +149,7 @@ pub fn lists() -> Vec<Vec<Call>> {
         // A refused change leaves the whole draft, its good numbers too.
         vec![
             Begin(3),
-            path(3, [60.0, 5.0, -30.0, 181.0], true),
+            path(3, [60.0, 5.0, -30.0, 181.0], LONG),
             factors(3, [2.0, 2.0, 2.0, 8.5]),
             pole(3, 10.0, f32::NAN),
             show(3),
@@ -155,7 +161,7 @@ pub fn lists() -> Vec<Vec<Call>> {
             Begin(4),
             sunspots(4, -0.0),
             hour(4, -0.0),
-            path(4, [-0.0, -0.0, 0.0, 180.0], false),
+            path(4, [-0.0, -0.0, 0.0, 180.0], SHORT),
             pole(4, -0.0, -180.0),
             show(4),
             Commit(4),
@@ -164,11 +170,11 @@ pub fn lists() -> Vec<Vec<Call>> {
         // A path is set whole, its flag included.
         vec![
             Begin(1),
-            path(1, FAR, true),
+            path(1, FAR, LONG),
             show(1),
-            path(1, FAR, false),
+            path(1, FAR, SHORT),
             show(1),
-            path(1, [52.0, 4.0, 62.0, -7.0], false),
+            path(1, [52.0, 4.0, 62.0, -7.0], SHORT),
             show(1),
             Commit(1),
             SHOW,
@@ -194,7 +200,7 @@ pub fn lists() -> Vec<Vec<Call>> {
                 Begin(desk),
                 sunspots(desk, 20.0),
                 hour(desk, 25.0),
-                path(desk, FAR, true),
+                path(desk, FAR, LONG),
                 factors(desk, [2.0; 4]),
                 pole(desk, 60.0, 60.0),
                 Commit(desk),
@@ -205,5 +211,32 @@ pub fn lists() -> Vec<Vec<Call>> {
             lists.push(begin.into_iter().chain(calls).collect());
         }
     }
+    lists.extend(NO_FLAGS.map(bad_flag));
     lists
+}
+
+/// A bad flag is refused after desk, draft and the path's numbers; it leaves the
+/// draft as it was, shown and committed, and the calls after it are answered.
+fn bad_flag(flag: u32) -> Vec<Call> {
+    let near = [52.0, 4.0, 62.0, -7.0];
+    vec![
+        path(5, FAR, flag),
+        path(1, FAR, flag),
+        Begin(1),
+        path(0, FAR, flag),
+        path(2, [91.0, 5.0, -30.0, 15.0], flag),
+        path(1, [91.0, 5.0, -30.0, 15.0], flag),
+        path(1, [60.0, f32::NAN, -30.0, 15.0], flag),
+        path(1, [60.0, 5.0, -90.5, 15.0], flag),
+        path(1, [60.0, 5.0, -30.0, 181.0], flag),
+        path(1, FAR, flag),
+        show(1),
+        path(1, near, LONG),
+        path(1, near, flag),
+        show(1),
+        hour(1, 6.0),
+        Commit(1),
+        path(1, near, flag),
+        SHOW,
+    ]
 }

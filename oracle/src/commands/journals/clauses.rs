@@ -69,17 +69,24 @@ impl Seen<'_> {
         })
     }
 
+    fn refused_with(&self, numbers: &[u32]) -> bool {
+        let answer = &self.list.answers[self.i];
+        matches!(answer, Answer::Refused(refusal) if numbers.contains(&refusal.number))
+    }
+
     /// Refused as stale, and the last accepted commit or take-back before was
     /// such.
     fn turned_stale_by(&self, wanted: fn(&Call) -> bool) -> bool {
-        let Answer::Refused(refusal) = &self.list.answers[self.i] else {
-            return false;
-        };
         let last = (0..self.i)
             .rev()
             .find(|i| moves(&self.list.calls[*i]) && self.is_accepted(*i));
-        refusal.number == 17 && last.is_some_and(|i| wanted(&self.list.calls[i]))
+        self.refused_with(&[17]) && last.is_some_and(|i| wanted(&self.list.calls[i]))
     }
+}
+
+/// The path of a change has a flag that is neither 0 nor 1.
+fn bad_flag(call: &Call) -> bool {
+    matches!(call, Call::Change(_, Edit::Path { flag: 2.., .. }))
 }
 
 /// The desk that a call names; 0 for a take-back.
@@ -128,7 +135,7 @@ fn show_worksheet(call: &Call) -> bool {
 
 type Clause = (&'static str, fn(&Seen) -> bool);
 
-const CLAUSES: [Clause; 30] = [
+const CLAUSES: [Clause; 37] = [
     ("cancelled after changes", |s| {
         s.accepted(cancel) && s.had(|_| true)
     }),
@@ -245,6 +252,30 @@ const CLAUSES: [Clause; 30] = [
     ("worksheet shown after a take-back", |s| {
         let taken = |i: usize, call: &Call| take_back(call) && s.is_accepted(i);
         show_worksheet(s.call()) && s.sheet().earlier.is_none() && s.earlier(taken)
+    }),
+    ("bad flag after good numbers", |s| {
+        bad_flag(s.call()) && s.refused_with(&[7])
+    }),
+    ("bad flag after a bad number", |s| {
+        bad_flag(s.call()) && s.refused_with(&[4, 5])
+    }),
+    ("bad flag without a draft", |s| {
+        bad_flag(s.call()) && s.refused_with(&[16])
+    }),
+    ("bad flag at no desk", |s| {
+        bad_flag(s.call()) && s.refused_with(&[14])
+    }),
+    ("bad flag, then an accepted call", |s| {
+        bad_flag(s.call()) && s.later(|i, _| s.is_accepted(i))
+    }),
+    ("draft shown after a bad flag", |s| {
+        let desk = s.desk();
+        s.accepted(show_draft)
+            && s.since_begin(|_, call| bad_flag(call) && self::desk(call) == desk)
+    }),
+    ("commit whose draft had a bad flag", |s| {
+        let desk = s.desk();
+        s.accepted(commit) && s.since_begin(|_, call| bad_flag(call) && self::desk(call) == desk)
     }),
 ];
 

@@ -18,13 +18,14 @@ const DRAFTS: [&str; 8] = [
 ];
 
 /// The refusals of fields by a change, and by an open in its order.
-const BY_CHANGES: [(&str, u32, u32); 12] = [
+const BY_CHANGES: [(&str, u32, u32); 13] = [
     ("change sunspots", 2, 2),
     ("change hour", 3, 3),
     ("change path", 4, 4),
     ("change path", 5, 5),
     ("change path", 4, 6),
     ("change path", 5, 7),
+    ("change path", 7, 8),
     ("change factors", 6, 9),
     ("change factors", 6, 10),
     ("change factors", 6, 11),
@@ -32,6 +33,8 @@ const BY_CHANGES: [(&str, u32, u32); 12] = [
     ("change pole", 4, 13),
     ("change pole", 5, 14),
 ];
+/// What the desks refuse calls with, beside numbers out of range.
+const BY_DESKS: [u32; 6] = [7, 14, 15, 16, 17, 18];
 const BY_OPEN: [u32; 14] = [1, 2, 3, 4, 5, 4, 5, 7, 6, 6, 6, 6, 4, 5];
 
 #[derive(Default)]
@@ -81,6 +84,33 @@ impl Counts {
     pub fn of(&self, name: &'static str, answer: &str) -> u64 {
         let key = (name, answer.to_owned());
         self.counts.get(&key).copied().unwrap_or(0)
+    }
+
+    /// How often calls other than an open got a refusal of this number.
+    fn of_refusal(&self, number: u32) -> u64 {
+        let start = format!("refused {number} ");
+        let of_calls = self.counts.iter().filter(|((name, _), _)| *name != "open");
+        of_calls
+            .filter(|((_, answer), _)| answer.starts_with(&start))
+            .map(|(_, count)| count)
+            .sum()
+    }
+
+    pub fn print_refusals(&self) {
+        for number in BY_DESKS {
+            println!(
+                "{:>10}  refused {number}, by all calls",
+                self.of_refusal(number)
+            );
+        }
+    }
+
+    pub fn refuse_rare_refusals(&self, least: u64) -> Result<(), String> {
+        let mut all = BY_DESKS.into_iter();
+        match all.find(|number| self.of_refusal(*number) < least) {
+            Some(number) => Err(format!("refusal {number} is too rare")),
+            None => Ok(()),
+        }
     }
 
     /// Every answer that a call can get from good files must have come, those

@@ -1,6 +1,4 @@
-use super::{
-    hash, hashed, in_full, inputs, replay, replay_text, sheet, sheet_text, words, CALLS, MONTH,
-};
+use super::{inputs, replay, replay_text, sheet, sheet_text, words, CALLS, MONTH};
 use crate::data_files::{extreme, named, Pair};
 use crate::desks::{Call, Edit};
 use crate::generator::Generator;
@@ -22,11 +20,11 @@ fn start(pair: &Pair) -> Vec<u8> {
 }
 
 fn printed(input: &[u8]) -> String {
-    sheet_text(&sheet(input), in_full)
+    sheet_text(&sheet(input))
 }
 
 fn replayed(input: &[u8]) -> String {
-    replay_text(&replay(input), hashed)
+    replay_text(&replay(input))
 }
 
 /// `start` and these words as calls.
@@ -85,8 +83,8 @@ fn every_nan_is_printed_alike() {
 
 #[test]
 fn replay_prints_a_line_for_each_call() {
-    let show = sheet(&start(&pair())).expect("a good sheet");
-    let figures = format!("points {}\n{}", show.points, hashed(&show));
+    let shown = sheet(&start(&pair())).expect("a good sheet");
+    let figures = format!("points {}\n{}", shown.points, printed(&start(&pair())));
     let good = 30f32.to_bits();
     let bad = 301f32.to_bits();
     let input = with_calls(&[1, 1, 2, 1, good, 2, 1, bad, 7, 1, 9, 9, 10, 0, 10, 9, 8, 2]);
@@ -130,9 +128,6 @@ fn replay_stops_at_what_is_no_call() {
     assert_eq!(stopped(&[9], 1), at(0));
     let accepted = format!("accepted\n{}", at(8));
     assert_eq!(stopped(&[1, 1, 7, 1], 1), accepted);
-    assert_eq!(stopped(&[1, 1, 4, 1, 0, 0, 0, 0, 2, 7, 1], 0), accepted);
-    // Before the desk and its draft are looked at.
-    assert_eq!(stopped(&[4, 9, 0, 0, 0, 0, 2], 0), at(0));
     for (operation, count) in [
         (1, 2),
         (2, 3),
@@ -151,6 +146,21 @@ fn replay_stops_at_what_is_no_call() {
     }
 }
 
+/// It is refused after desk, draft and the path's numbers, and the journal goes
+/// on.
+#[test]
+fn replay_refuses_a_bad_flag() {
+    let bad = 91f32.to_bits();
+    for flag in [2, 3, 256, 257, 0x3f80_0000, 1 << 31, u32::MAX] {
+        let input = with_calls(&[
+            4, 1, 0, 0, 0, 0, flag, 4, 9, 0, 0, 0, 0, flag, 1, 1, 4, 1, bad, 0, 0, 0, flag, 4, 1,
+            0, 0, 0, 0, flag, 7, 1,
+        ]);
+        let wanted = "refused 16 0\nrefused 14 0\naccepted\nrefused 4 4\nrefused 7 8\naccepted\n";
+        assert_eq!(replayed(&input), wanted, "{flag}");
+    }
+}
+
 #[test]
 fn calls_are_read_as_they_are_written() {
     let calls = [
@@ -161,7 +171,7 @@ fn calls_are_read_as_they_are_written() {
             3,
             Edit::Path {
                 ends: [3, 4, 5, 6],
-                long: true,
+                flag: 2,
             },
         ),
         Call::Change(4, Edit::Factors([7, 8, 9, 10])),
@@ -174,12 +184,4 @@ fn calls_are_read_as_they_are_written() {
     let words: Vec<u32> = calls.iter().flat_map(words).collect();
     let read = replay(&with_calls(&words));
     assert_eq!(read.calls, calls);
-}
-
-/// Against answers that are published with the hash.
-#[test]
-fn hashes_are_fnv_1a() {
-    assert_eq!(hash("".bytes()), 0xcbf2_9ce4_8422_2325);
-    assert_eq!(hash("a".bytes()), 0xaf63_dc4c_8601_ec8c);
-    assert_eq!(hash("foobar".bytes()), 0x8594_4171_f739_67e8);
 }

@@ -1,3 +1,4 @@
+-- By the three tests, in their order.
 use borrow.Author.Needs.{needs}
 use mathlib.Core.Path.{sym, _∙_}
 use Rattle.base.proofs.Parts.{table-high, table-short, table-walk}

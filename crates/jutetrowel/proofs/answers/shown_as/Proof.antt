@@ -14,7 +14,8 @@ unfolding showingOf
 returns-2 c =
     let n = c .before .number .ensures in
     let p = c .place .ensures in
-    (λ t. record { points = 0; number = n t; place = p t }) ∙ sym (ap showingOf (c .before .before .before .shown2 .given .1))
+    (λ t. record { points = 0; number = n t; place = p t })
+    ∙ sym (ap showingOf (c .before .before .before .shown2 .given .1))
 
 pub shown-as-spec : {M : Type 1} → statement M
 shown-as-spec =

@@ -16,7 +16,8 @@ unfolding clockOf decimal round ofBits
 returns-2 c =
     let n = c .before .number .ensures in
     let p = c .place .ensures in
-    (λ t. record { time = ofBits binary32 0; day = ofBits binary32 0; number = n t; place = p t }) ∙ sym (ap clockOf (c .before .before .before .moved2 .given .1))
+    (λ t. record { time = ofBits binary32 0; day = ofBits binary32 0; number = n t; place = p t })
+    ∙ sym (ap clockOf (c .before .before .before .moved2 .given .1))
 
 pub clock-of-spec : {M : Type 1} → statement M
 clock-of-spec =

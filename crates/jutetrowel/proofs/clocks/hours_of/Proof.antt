@@ -16,7 +16,9 @@ unfolding hoursOf decimal round ofBits
 returns-2 c =
     let n = c .before .number .ensures in
     let p = c .place .ensures in
-    (λ t. record { gmt = ofBits binary32 0; «lmt_tx» = ofBits binary32 0; gmtr = ofBits binary32 0; number = n t; place = p t }) ∙ sym (ap hoursOf (c .before .before .before .times2 .given .1))
+    let o = ofBits binary32 0 in
+    (λ t. record { gmt = o; «lmt_tx» = o; gmtr = o; number = n t; place = p t })
+    ∙ sym (ap hoursOf (c .before .before .before .times2 .given .1))
 
 pub hours-of-spec : {M : Type 1} → statement M
 hours-of-spec =

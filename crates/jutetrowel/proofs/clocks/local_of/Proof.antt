@@ -16,7 +16,8 @@ unfolding localOf decimal round ofBits
 returns-2 c =
     let n = c .before .number .ensures in
     let p = c .place .ensures in
-    (λ t. record { time = ofBits binary32 0; number = n t; place = p t }) ∙ sym (ap localOf (c .before .before .before .local2 .given .1))
+    (λ t. record { time = ofBits binary32 0; number = n t; place = p t })
+    ∙ sym (ap localOf (c .before .before .before .local2 .given .1))
 
 pub local-of-spec : {M : Type 1} → statement M
 local-of-spec =

@@ -1,14 +1,12 @@
--- The change, with these numbers.
+-- The change that was made, with these numbers.
 use borrow.Author.Needs.{needs}
+use mathlib.Core.Path.{refl}
+use Rattle.jutetrowel.proofs.Crossed.{changed}
 use Rattle.jutetrowel.proofs.desks.jt_change_hour.Statement.{statement}
 use Rattle.jutetrowel.proofs.desks.jt_change_hour.Tie as tie
 
 returns : tie.Need-returns
-returns c = c .changed .ensures
+returns c = changed refl (c .made .ensures)
 
 pub jt-change-hour-spec : {M : Type 1} → statement M
-jt-change-hour-spec =
-    tie.close
-    (tie.spec
-    (λ c κs. search needs)
-    returns)
+jt-change-hour-spec = tie.close (tie.spec (λ c κs. search needs) returns)

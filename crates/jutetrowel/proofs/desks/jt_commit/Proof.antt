@@ -1,25 +1,15 @@
--- The call on the worksheet that the words hold, settled.
+-- The call that was made, which reads no files.
 use borrow.Author.Needs.{needs}
-use mathlib.Core.Path.{ap, _∙_}
-use Rattle.worksheet.specs.declared.desks.Outcome.{Outcome}
-use Rattle.worksheet.specs.Desks.{commitOf}
-use Rattle.jutetrowel.specs.Answers.{answerOf}
-use Rattle.jutetrowel.specs.Words.{wordsAfter}
+use Rattle.worksheet.specs.Journal.{step}
+use Rattle.jutetrowel.specs.Calls.{wordsLeft}
 use Rattle.jutetrowel.proofs.desks.jt_commit.Statement.{statement}
 use Rattle.jutetrowel.proofs.desks.jt_commit.Tie as tie
 
 returns : tie.Need-returns
+unfolding step wordsLeft
 returns c =
-    let o = c .before .before .commit .ensures ∙ ap (commitOf _) (c .before .before .before .load .ensures) in
-    let s = c .settle .ensures in
-    let a = c .before .before .before .before .before .args in
-    (s .0 ∙ ap (λ (x : Outcome). answerOf (x .answer)) o, s .1 ∙ ap (λ (x : Outcome). wordsAfter x (a .sheet .now)) o)
+    let m = c .made .ensures in
+    record { answer = λ source. m .0; words = λ source. m .1 }
 
 pub jt-commit-spec : {M : Type 1} → statement M
-jt-commit-spec =
-    tie.close
-    (tie.spec
-    (λ c κs. search needs)
-    (λ c κs. search needs)
-    (λ c κs. search needs)
-    returns)
+jt-commit-spec = tie.close (tie.spec (λ c κs. search needs) returns)

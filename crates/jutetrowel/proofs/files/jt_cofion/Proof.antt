@@ -1,34 +1,14 @@
--- The array is written where the files are accepted.
+-- The verdict becomes a number and a place.
 use borrow.Author.Needs.{needs}
-use mathlib.Core.Path.{sym, ap, _∙_}
-use Rattle.base.specs.declared.refusal.Verdict.{Verdict}
-use Rattle.base.specs.Blend.{cofionOf}
-use Rattle.maps.specs.Ionosphere.{writtenOver}
+use mathlib.Core.Path.{ap, _∙_}
 use Rattle.jutetrowel.specs.Answers.{answerOf}
 use Rattle.jutetrowel.proofs.files.jt_cofion.Statement.{statement}
 use Rattle.jutetrowel.proofs.files.jt_cofion.Tie as tie
 
 returns : tie.Need-returns
 returns c =
-    let a = c .before .before .before .before .before .before .before .args in
-    let e = sym (c .before .before .before .before .files-check .ensures) ∙ c .before .before .enum-told .given .1 in
-    (c .answered .ensures ∙ ap answerOf (sym e), c .before .cofion .ensures ∙ sym (ap (λ (v : Verdict). writtenOver v (cofionOf (a .f2 .now) (a .month .now) (a .ssn)) (a .out .now)) e))
-
-returns-2 : tie.Need-returns-2
-returns-2 c =
-    let a = c .before .before .before .before .before .before .before .args in
-    let e = sym (c .before .before .before .before .files-check .ensures) ∙ c .before .before .verdict .given .1 in
-    (c .refused .ensures ∙ ap answerOf (sym e), sym (ap (λ (v : Verdict). writtenOver v (cofionOf (a .f2 .now) (a .month .now) (a .ssn)) (a .out .now)) e))
+    let f = c .before .cofion .ensures in
+    (c .answered .ensures ∙ ap answerOf (f .0), f .1)
 
 pub jt-cofion-spec : {M : Type 1} → statement M
-jt-cofion-spec =
-    tie.close
-    (tie.spec
-    (λ c κs. search needs)
-    (λ c. search needs)
-    (λ c κs. search needs)
-    (λ c κs. search needs)
-    (λ c. search needs)
-    (λ c κs. search needs)
-    returns
-    returns-2)
+jt-cofion-spec = tie.close (tie.spec (λ c κs. search needs) (λ c κs. search needs) returns)

@@ -9,7 +9,8 @@ use Rattle.jutetrowel.specs.Answers.{spanOf}
 use Rattle.jutetrowel.proofs.files.jt_month_record.Statement.{statement}
 use Rattle.jutetrowel.proofs.files.jt_month_record.Tie as tie
 
-there : (c : tie.After-enum-told) → let a = c .before .before .before .before .args in MonthThere (a .daw .now) (a .month)
+there : (c : tie.After-enum-told) →
+    let a = c .before .before .before .before .args in MonthThere (a .daw .now) (a .month)
 there c = month-known _ _ (sym (c .before .before .month-record-check .ensures) ∙ c .enum-told .given .1)
 
 sub-t7 : tie.Need-sub-t7

@@ -19,7 +19,8 @@ returns c =
     let p = c .table-place .ensures in
     (λ t. record { start = p .0 t; size = p .1 t; number = 0; place = 0 })
     ∙ sym
-    (ap (spanOf (tableCheck (a .number) (a .f2 .now) (a .month .now))) (table-part (a .number) (a .f2 .now) (a .month .now) e v)
+    (ap (spanOf (tableCheck (a .number) (a .f2 .now) (a .month .now)))
+    (table-part (a .number) (a .f2 .now) (a .month .now) e v)
     ∙ ap (λ (x : Verdict). spanOf x (partOf (a .number))) (sym e ∙ v))
 
 returns-2 : tie.Need-returns-2
@@ -30,7 +31,8 @@ returns-2 c =
     let v = b .verdict .given .1 in
     c .no-span .ensures
     ∙ sym
-    (ap (spanOf (tableCheck (a .number) (a .f2 .now) (a .month .now))) (table-none (a .number) (a .f2 .now) (a .month .now) e v)
+    (ap (spanOf (tableCheck (a .number) (a .f2 .now) (a .month .now)))
+    (table-none (a .number) (a .f2 .now) (a .month .now) e v)
     ∙ ap (λ (x : Verdict). spanOf x emptyPart) (sym e ∙ v))
 
 pub jt-table-spec : {M : Type 1} → statement M

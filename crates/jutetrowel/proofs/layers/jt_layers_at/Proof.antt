@@ -7,4 +7,11 @@ returns : tie.Need-returns
 returns c = cc
 
 pub jt-layers-at-spec : {M : Type 1} → statement M
-jt-layers-at-spec = tie.close (tie.spec (λ c κs. search needs) (λ c κs. search needs) (λ c κs. search needs) returns)
+jt-layers-at-spec =
+    tie.close
+    (tie.spec
+    (λ c κs. search needs)
+    (λ c κs. search needs)
+    (λ c κs. search needs)
+    (λ c κs. search needs)
+    returns)

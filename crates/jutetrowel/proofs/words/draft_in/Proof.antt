@@ -16,13 +16,17 @@ returns-2 : tie.Need-returns-2
 unfolding draftIn
 returns-2 c =
     ap Fresh (c .inputs-in .ensures)
-    ∙ sym (cond-false _ _ (ne-eqb _ _ (c .before .before .before .if1 .left)) ∙ cond-true _ _ (eq-eqb _ _ (c .before .if2 .taken)))
+    ∙ sym
+    (cond-false _ _ (ne-eqb _ _ (c .before .before .before .if1 .left))
+    ∙ cond-true _ _ (eq-eqb _ _ (c .before .if2 .taken)))
 
 returns-3 : tie.Need-returns-3
 unfolding draftIn
 returns-3 c =
     ap Stale (c .inputs-in2 .ensures)
-    ∙ sym (cond-false _ _ (ne-eqb _ _ (c .before .before .before .if1 .left)) ∙ cond-false _ _ (ne-eqb _ _ (c .before .if2 .left)))
+    ∙ sym
+    (cond-false _ _ (ne-eqb _ _ (c .before .before .before .if1 .left))
+    ∙ cond-false _ _ (ne-eqb _ _ (c .before .if2 .left)))
 
 pub draft-in-spec : {M : Type 1} → statement M
 draft-in-spec =

@@ -8,8 +8,8 @@ use native.Mathlib.Decide.{decLt}
 use lib.ListN.{List·getD-eq-default}
 use lib.Ieee.{Float}
 use Rattle.worksheet.specs.declared.inputs.Edit.the-variants.{Sunspot, Hour}
-use Rattle.listing.specs.declared.call.Call.the-variants.{Move as Moving, Show}
-use Rattle.listing.specs.declared.call.Move.the-variants.{Begin, Commit, Cancel}
+use Rattle.worksheet.specs.declared.journal.Call.the-variants.{Begin, Commit, Cancel, Show}
+use Rattle.listing.specs.declared.call.Read.the-variants.{Call as Called}
 use Rattle.listing.specs.Calls.{Operation, unknown, operations, changeIn, callIn}
 use Rattle.listing.proofs.call.call_in.Statement.{statement}
 use Rattle.listing.proofs.call.call_in.Tie as tie
@@ -20,7 +20,7 @@ of-number s k e = sym (ap (λ (j : ℕ). callIn j s) e)
 
 returns : tie.Need-returns
 unfolding callIn
-returns c = ap (λ (d : ℕ). Moving (Begin d)) (c .word .ensures) ∙ of-number _ 1 (c .before .match .keys1)
+returns c = ap (λ (d : ℕ). Called (Begin d)) (c .word .ensures) ∙ of-number _ 1 (c .before .match .keys1)
 
 returns-2 : tie.Need-returns-2
 unfolding callIn
@@ -36,27 +36,29 @@ returns-3 c =
 
 returns-4 : tie.Need-returns-4
 unfolding callIn
-returns-4 c = c .path-call .ensures ∙ of-number _ 4 (c .before .match .keys4)
+returns-4 c =
+    let s = c .before .before .before .before .args .s .now in
+    c .change-in3 .ensures ∙ ap (changeIn s) (c .before .path-in .ensures) ∙ of-number s 4 (c .before .before .match .keys4)
 
 returns-5 : tie.Need-returns-5
 unfolding callIn
 returns-5 c =
     let s = c .before .before .before .before .args .s .now in
-    c .change-in3 .ensures ∙ ap (changeIn s) (c .before .psc-in .ensures) ∙ of-number s 5 (c .before .before .match .keys5)
+    c .change-in4 .ensures ∙ ap (changeIn s) (c .before .psc-in .ensures) ∙ of-number s 5 (c .before .before .match .keys5)
 
 returns-6 : tie.Need-returns-6
 unfolding callIn
 returns-6 c =
     let s = c .before .before .before .before .args .s .now in
-    c .change-in4 .ensures ∙ ap (changeIn s) (c .before .pole-in .ensures) ∙ of-number s 6 (c .before .before .match .keys6)
+    c .change-in5 .ensures ∙ ap (changeIn s) (c .before .pole-in .ensures) ∙ of-number s 6 (c .before .before .match .keys6)
 
 returns-7 : tie.Need-returns-7
 unfolding callIn
-returns-7 c = ap (λ (d : ℕ). Moving (Commit d)) (c .word2 .ensures) ∙ of-number _ 7 (c .before .match .keys7)
+returns-7 c = ap (λ (d : ℕ). Called (Commit d)) (c .word2 .ensures) ∙ of-number _ 7 (c .before .match .keys7)
 
 returns-8 : tie.Need-returns-8
 unfolding callIn
-returns-8 c = ap (λ (d : ℕ). Moving (Cancel d)) (c .word3 .ensures) ∙ of-number _ 8 (c .before .match .keys8)
+returns-8 c = ap (λ (d : ℕ). Called (Cancel d)) (c .word3 .ensures) ∙ of-number _ 8 (c .before .match .keys8)
 
 returns-9 : tie.Need-returns-9
 unfolding callIn
@@ -64,7 +66,7 @@ returns-9 c = of-number _ 9 (c .match .keys9)
 
 returns-10 : tie.Need-returns-10
 unfolding callIn
-returns-10 c = ap Show (c .word4 .ensures) ∙ of-number _ 10 (c .before .match .keys10)
+returns-10 c = ap (λ (d : ℕ). Called (Show d)) (c .word4 .ensures) ∙ of-number _ 10 (c .before .match .keys10)
 
 returns-11 : tie.Need-returns-11
 unfolding callIn
@@ -83,6 +85,7 @@ pub call-in-spec : {M : Type 1} → statement M
 call-in-spec =
     tie.close
     (tie.spec
+    (λ c κs. search needs)
     (λ c κs. search needs)
     (λ c κs. search needs)
     (λ c κs. search needs)

@@ -1,9 +1,9 @@
 -- The last factor of two goes to the nearest.
 use borrow.Author.Needs.{needs}
 use mathlib.Core.Path.{sym, ap, _∙_}
-use Prim.Native.Nat.{ℕ, _+_, _/_, _%_}
+use Prim.Native.Nat.{ℕ, _+_, _/_, _%_, _^_}
 use native.Mathlib.Omega.{arith}
-use Rattle.listing.specs.Decimal.{halvedOf}
+use Rattle.listing.specs.Decimal.{nearestOf}
 use Rattle.listing.proofs.Quotients.{nearest-none, to-nearest}
 use Rattle.listing.proofs.decimal.halved.Statement.{statement}
 use Rattle.listing.proofs.decimal.halved.Tie as tie
@@ -11,7 +11,7 @@ use Rattle.listing.proofs.decimal.halved.Tie as tie
 returns : tie.Need-returns
 returns c =
     let n = c .before .args .n in
-    sym (ap (halvedOf n) (c .if1 .taken) ∙ nearest-none n)
+    sym (ap (λ (s : ℕ). nearestOf n (2 ^ s)) (c .if1 .taken) ∙ nearest-none n)
 
 returns-2 : tie.Need-returns-2
 returns-2 c =

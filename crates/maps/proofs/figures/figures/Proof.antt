@@ -1,36 +1,54 @@
--- By the verdict: accepted files give every figure, a refusal leaves the buffer.
+-- By the verdict: accepted, the tables are those of the files and give every figure; a refusal leaves the buffer.
 use borrow.Author.Needs.{needs}
-use mathlib.Core.Path.{_≡_, refl, sym, ap, _∙_}
+use mathlib.Core.Path.{_≡_, sym, ap, _∙_}
 use Prim.Native.Nat.{ℕ}
 use Rattle.base.specs.declared.refusal.Verdict.{Verdict}
+use Rattle.base.specs.Refusal.{writtenOver}
+use Rattle.base.specs.Index.{indexOf}
+use Rattle.base.specs.Blend.{cofionOf, hmymOf, fakmapOf}
+use Rattle.base.proofs.Readers.{files-index}
 use Rattle.maps.specs.declared.figures.Shown.{Shown}
 use Rattle.maps.specs.declared.figures.Shown.the-variants.{Points}
-use Rattle.maps.specs.Ionosphere.{writtenOver}
-use Rattle.maps.specs.Figures.{routeOf, figuresOf, answerOf, shownOf, bufferAfter}
-use Rattle.maps.proofs.Checks.{files-index, figures-files, figures-size}
+use Rattle.maps.specs.Figures.{hourFrom, hourOf, figuresTo, routeOf, figuresOf, answerOf, shownOf, bufferAfter}
+use Rattle.maps.proofs.Checks.{written-is, good-same}
 use Rattle.maps.proofs.figures.figures.Statement.{statement}
 use Rattle.maps.proofs.figures.figures.Tie as tie
 
 fill-in-requires : tie.Need-fill-in-requires
 fill-in-requires c κs =
-    let e = sym (c .before .before .before .figures-check .ensures) ∙ c .before .enum-told .given .1 in
-    (figures-size _ _ _ e, files-index _ _ (figures-files _ _ _ e))
+    let d = c .before .before .before .before .before in
+    let b = d .before .before in
+    let a = b .before .before .before .before .before .before .before .args in
+    let file = a .file .now in
+    let e = sym (b .redmap .ensures .0) ∙ d .enum-told .given .1 in
+    (good-same file (files-index (a .f2 .now) file e) (written-is (indexOf file) _ e (b .redmap .ensures .1)), search needs)
 
 returns : tie.Need-returns
-unfolding shownOf bufferAfter
+unfolding shownOf bufferAfter figuresOf hourOf
 returns c =
-    let b = c .before .before in
-    let a = b .before .before .before .before .before .before .before .before .args in
-    let e = sym (b .before .before .before .before .figures-check .ensures) ∙ b .before .before .enum-told .given .1 in (
-      ap Points (b .fill-in .ensures .0) ∙ sym (ap (λ (v : Verdict). answerOf v (routeOf (a .i) .count)) e),
-      b .fill-in .ensures .1 ∙ sym (ap (λ (v : Verdict). writtenOver v (figuresOf (a .f2 .now) (a .file .now) (a .i)) (a .out .now)) e),
+    let d = c .before .before .before .before .before .before in
+    let b = d .before .before in
+    let a = b .before .before .before .before .before .before .before .args in
+    let i = a .i in
+    let f2 = a .f2 .now in
+    let file = a .file .now in
+    let e = sym (b .redmap .ensures .0) ∙ d .enum-told .given .1 in
+    let index = written-is (indexOf file) _ e (b .redmap .ensures .1) in
+    let cofion = written-is (cofionOf f2 file (i .ssn)) _ e (b .redmap .ensures .2) in
+    let hmym = written-is (hmymOf file (i .ssn)) _ e (b .redmap .ensures .3) in
+    let fakmap = written-is (fakmapOf file) _ e (b .redmap .ensures .4) in (
+      ap Points (c .fill-in .ensures .0) ∙ sym (ap (λ (v : Verdict). answerOf v (routeOf i .count)) e),
+      c .fill-in .ensures .1
+          ∙ (λ t. figuresTo (hourFrom file (index t) (cofion t) (hmym t) (fakmap t) i) i (routeOf i) 5)
+          ∙ sym (ap (λ (v : Verdict). writtenOver v (figuresOf f2 file i) (a .out .now)) e),
     )
 
 returns-2 : tie.Need-returns-2
 unfolding shownOf bufferAfter
 returns-2 c =
-    let a = c .before .before .before .before .before .before .before .args in
-    let e = sym (c .before .before .before .figures-check .ensures) ∙ c .before .verdict .given .1 in (
+    let b = c .before .before .before in
+    let a = b .before .before .before .before .before .before .before .args in
+    let e = sym (b .redmap .ensures .0) ∙ c .before .verdict .given .1 in (
       sym (ap (λ (v : Verdict). answerOf v (routeOf (a .i) .count)) e),
       sym (ap (λ (v : Verdict). writtenOver v (figuresOf (a .f2 .now) (a .file .now) (a .i)) (a .out .now)) e),
     )
@@ -42,7 +60,6 @@ figures-spec =
     (λ c κs. search needs)
     (λ c. search needs)
     fill-in-requires
-    (λ c. search needs)
     (λ c. search needs)
     returns
     returns-2)

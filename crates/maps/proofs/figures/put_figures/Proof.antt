@@ -9,7 +9,7 @@ use lib.ListN.{length}
 use lib.Ieee.{Float}
 use Rattle.base.proofs.Fills.{length-fill}
 use Rattle.base.proofs.Maps.{Starts, start, whole}
-use Rattle.maps.specs.declared.figures.Inputs.{Inputs}
+use Rattle.maps.specs.declared.inputs.Inputs.{Inputs}
 use Rattle.maps.specs.declared.geometry.PathGeometry.{PathGeometry}
 use Rattle.maps.specs.Figures.{Hour, hour, headOf, rowAt, figuresTo}
 use Rattle.maps.proofs.Alone.{row-length}

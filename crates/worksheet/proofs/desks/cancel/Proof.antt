@@ -13,7 +13,7 @@ returns c =
     decided-as _ (c .decided .ensures)
     (c .before .before .then .ensures
     ∙ ap₂ _then_ (c .before .before .before .before .before .desk-check .ensures) (c .before .before .before .draft-check .ensures ∙ ap draftCheck (c .before .before .before .before .draft-at .ensures)))
-    (c .before .with-draft .ensures)
+    (c .before .without-draft .ensures)
 
 pub cancel-spec : {M : Type 1} → statement M
 cancel-spec =

@@ -1,7 +1,7 @@
 -- Check and worksheet are the definition's, call by call.
 use borrow.Author.Needs.{needs}
 use mathlib.Core.Path.{_∙_, ap}
-use Rattle.maps.specs.declared.figures.Inputs.{Inputs}
+use Rattle.maps.specs.declared.inputs.Inputs.{Inputs}
 use Rattle.worksheet.specs.declared.desks.Earlier.the-variants.{Nothing}
 use Rattle.worksheet.specs.Desks.{movedTo, takeBackOf}
 use Rattle.worksheet.proofs.Verdicts.{decided-as}

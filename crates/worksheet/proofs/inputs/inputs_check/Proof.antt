@@ -1,4 +1,4 @@
--- Of inputs the flag is good.
+-- Each verdict is its definition's.
 use borrow.Author.Needs.{needs}
 use Rattle.worksheet.specs.Inputs.{inputsCheck}
 use Rattle.worksheet.proofs.inputs.inputs_check.Statement.{statement}
@@ -6,11 +6,21 @@ use Rattle.worksheet.proofs.inputs.inputs_check.Tie as tie
 
 returns : tie.Need-returns
 unfolding inputsCheck
-returns c = c .fields-check .ensures
+returns c = cc
 
 pub inputs-check-spec : {M : Type 1} → statement M
 inputs-check-spec =
     tie.close
     (tie.spec
+    (λ c κs. search needs)
+    (λ c κs. search needs)
+    (λ c κs. search needs)
+    (λ c κs. search needs)
+    (λ c κs. search needs)
+    (λ c κs. search needs)
+    (λ c κs. search needs)
+    (λ c κs. search needs)
+    (λ c κs. search needs)
+    (λ c κs. search needs)
     (λ c κs. search needs)
     returns)

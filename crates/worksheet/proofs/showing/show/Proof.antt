@@ -1,4 +1,4 @@
--- By the check: refused, or the figures of the inputs shown.
+-- By what is judged: refused, or the figures of the inputs shown.
 use borrow.Author.Needs.{needs}
 use Rattle.worksheet.proofs.Showings.{show-refused, show-accepted}
 use Rattle.worksheet.proofs.showing.show.Statement.{statement}
@@ -6,11 +6,13 @@ use Rattle.worksheet.proofs.showing.show.Tie as tie
 
 returns : tie.Need-returns
 returns c =
-    show-accepted _ _ _ _ _ (c .before .before .before .before .before .before .before .show-check .ensures) (c .before .before .before .before .before .enum-told .given .1) (c .before .before .before .before .inputs-shown .ensures)
-    (c .before .before .figures .ensures .0) (c .before .before .figures .ensures .1)
+    let j = c .before .before .before .before .before .before .before .judged-check .ensures in
+    let told = c .before .before .before .before .before .enum-told .given .1 in
+    let d = c .before .before .drawn .ensures in
+    show-accepted _ _ _ _ j told (c .before .before .before .before .inputs-shown .ensures) (d .0) (d .1)
 
 returns-2 : tie.Need-returns-2
-returns-2 c = show-refused _ _ _ _ _ (c .before .before .before .show-check .ensures) _ (c .before .check .given .1)
+returns-2 c = show-refused _ _ _ _ (c .before .before .before .judged-check .ensures) _ (c .before .check .given .1)
 
 pub show-spec : {M : Type 1} → statement M
 show-spec =

@@ -1,0 +1,18 @@
+-- By the verdict on the test.
+use borrow.Author.Needs.{needs}
+use Rattle.base.specs.Ranges.{monthCheck}
+use Rattle.base.proofs.Refusals.{by-test}
+use Rattle.base.proofs.ranges.month_check.Statement.{statement}
+use Rattle.base.proofs.ranges.month_check.Tie as tie
+
+returns : tie.Need-returns
+unfolding monthCheck
+returns c = by-test _ (c .refuse-unless .ensures) (c .before .is-month .ensures)
+
+pub month-check-spec : {M : Type 1} → statement M
+month-check-spec =
+    tie.close
+    (tie.spec
+    (λ c κs. search needs)
+    (λ c κs. search needs)
+    returns)

@@ -1,0 +1,52 @@
+-- The array is filled with the words, all of it.
+use borrow.Author.Needs.{needs}
+use Prim.Native.Nat.{ℕ, _+_, _*_, _≤_, _-_}
+use mathlib.Core.Path.{_≡_, refl, sym, _∙_}
+use native.Mathlib.Omega.{arith}
+use lib.ListN.{length}
+use Rattle.base.specs.Fill.{fill}
+use Rattle.base.specs.Words.{wordAt}
+use Rattle.base.proofs.Fills.{fill-first, fill-all}
+use Rattle.base.proofs.words.read_words.Statement.{statement}
+use Rattle.base.proofs.words.read_words.Tie as tie
+
+abbrev Inv-loop : tie.InvT-loop
+Inv-loop s at out₀ i₀ out i =
+    (i ≤ length out₀) × (length out ≡ length out₀) × (out ≡ fill (λ j. wordAt s (at + j * 4)) 0 out₀ i)
+
+abbrev μ-loop : tie.MeasureT-loop
+μ-loop s at out₀ i₀ out i = length out₀ - i
+
+loop-holds : tie.Need-loop-holds Inv-loop μ-loop
+unfolding fill
+loop-holds c = (search needs, refl, refl)
+
+loop-again : tie.Need-loop-again Inv-loop μ-loop
+loop-again c =
+    let so-far = c .before .before .loop .inv .2 in
+    (search needs, search needs, rw (c .whole-word .ensures, so-far) (sym (fill-first _ _ _)))
+
+returns : tie.Need-returns Inv-loop μ-loop
+returns c =
+    let l = c .before .loop in
+    let a = c .before .before .before .before .args in
+    let e : l .i ≡ length (a .out .now) = omega arith in
+    (rw e at (l .inv .2)) ∙ fill-all _ _ _ refl
+
+pub read-words-spec : {M : Type 1} → statement M
+read-words-spec =
+    tie.close
+    (tie.spec
+    Inv-loop
+    μ-loop
+    loop-holds
+    (λ c. search needs)
+    (λ c. search needs)
+    (λ c κs. search needs)
+    (λ c. search needs)
+    (λ c. search needs)
+    (λ c. search needs)
+    (λ c. search needs)
+    loop-again
+    (λ c. search needs)
+    returns)

@@ -1,0 +1,152 @@
+// The lent files as a whole: the checks before they are used, and the arrays that a sheet reads from
+// them. A refusal leaves the arrays as they are.
+use crate::blend::HeightMap;
+use crate::blend::LandMap;
+use crate::blend::SixMaps;
+use crate::blend::cofion_of;
+use crate::blend::fakmap_of;
+use crate::blend::hmym_of;
+use crate::index::IndexTable;
+use crate::index::index_check;
+use crate::index::index_of;
+use crate::month_file::RECORD;
+use crate::month_file::month_file_check;
+use crate::refusal::Refusal;
+use crate::refusal::Verdict;
+ghost use mathlib.Core.Path.{_≡_};
+ghost use Rattle.base.specs.Refusal.{writtenOver};
+ghost use Rattle.base.specs.Index.{indexOf};
+ghost use Rattle.base.specs.Blend.{cofionOf, hmymOf, fakmapOf};
+ghost use Rattle.base.specs.Files.{fileCheck, filesCheck};
+
+// Whether a month file can be used.
+pub fn file_check(month: &[u8]) -> Verdict
+    ensures { λ r. ⌜ r ≡ fileCheck (now (month .entry)) ⌝ }
+{
+    let walked = month_file_check(month);
+    match walked {
+        Verdict::Accepted => index_check(month),
+        Verdict::Refused(why) => Verdict::Refused(why),
+    }
+}
+
+// Whether an F2 record and a month file can be used.
+pub fn files_check(f2: &[u8], month: &[u8]) -> Verdict
+    ensures { λ r. ⌜ r ≡ filesCheck (now (f2 .entry)) (now (month .entry)) ⌝ }
+{
+    if f2.len() < RECORD {
+        return Verdict::Refused(Refusal::Record);
+    }
+    file_check(month)
+}
+
+// The 60 words of `ikim`.
+pub fn index(month: &[u8], out: &mut IndexTable) -> Verdict
+    ensures { λ r. ⌜ (
+        let m = now (month .entry) in
+        let v = fileCheck m in
+        (r ≡ v)
+        × (now (out .exit) ≡ writtenOver v (indexOf m) (now (out .entry)))
+        ) ⌝ }
+{
+    let verdict = file_check(month);
+    match verdict {
+        Verdict::Accepted => {
+            index_of(month, out);
+            Verdict::Accepted
+        }
+        Verdict::Refused(why) => Verdict::Refused(why),
+    }
+}
+
+// The coefficients of the six maps at a sunspot number.
+pub fn cofion(f2: &[u8], month: &[u8], ssn: f32, out: &mut SixMaps) -> Verdict
+    ensures { λ r. ⌜ (
+        let f = now (f2 .entry) in
+        let m = now (month .entry) in
+        let v = filesCheck f m in
+        (r ≡ v)
+        × (now (out .exit) ≡ writtenOver v (cofionOf f m ssn) (now (out .entry)))
+        ) ⌝ }
+{
+    let verdict = files_check(f2, month);
+    match verdict {
+        Verdict::Accepted => {
+            cofion_of(f2, month, ssn, out);
+            Verdict::Accepted
+        }
+        Verdict::Refused(why) => Verdict::Refused(why),
+    }
+}
+
+// The coefficients of the height map at a sunspot number.
+pub fn hmym(month: &[u8], ssn: f32, out: &mut HeightMap) -> Verdict
+    ensures { λ r. ⌜ (
+        let m = now (month .entry) in
+        let v = fileCheck m in
+        (r ≡ v)
+        × (now (out .exit) ≡ writtenOver v (hmymOf m ssn) (now (out .entry)))
+        ) ⌝ }
+{
+    let verdict = file_check(month);
+    match verdict {
+        Verdict::Accepted => {
+            hmym_of(month, ssn, out);
+            Verdict::Accepted
+        }
+        Verdict::Refused(why) => Verdict::Refused(why),
+    }
+}
+
+// The words of the land map.
+pub fn fakmap(month: &[u8], out: &mut LandMap) -> Verdict
+    ensures { λ r. ⌜ (
+        let m = now (month .entry) in
+        let v = fileCheck m in
+        (r ≡ v)
+        × (now (out .exit) ≡ writtenOver v (fakmapOf m) (now (out .entry)))
+        ) ⌝ }
+{
+    let verdict = file_check(month);
+    match verdict {
+        Verdict::Accepted => {
+            fakmap_of(month, out);
+            Verdict::Accepted
+        }
+        Verdict::Refused(why) => Verdict::Refused(why),
+    }
+}
+
+// The four arrays that a sheet reads, from files that are checked once.
+pub fn redmap(
+    f2: &[u8],
+    month: &[u8],
+    ssn: f32,
+    index: &mut IndexTable,
+    cofion: &mut SixMaps,
+    hmym: &mut HeightMap,
+    fakmap: &mut LandMap,
+) -> Verdict
+    ensures { λ r. ⌜ (
+        let f = now (f2 .entry) in
+        let m = now (month .entry) in
+        let v = filesCheck f m in
+        (r ≡ v)
+        × (now (index .exit) ≡ writtenOver v (indexOf m) (now (index .entry)))
+        × (now (cofion .exit) ≡ writtenOver v (cofionOf f m ssn) (now (cofion .entry)))
+        × (now (hmym .exit) ≡ writtenOver v (hmymOf m ssn) (now (hmym .entry)))
+        × (now (fakmap .exit) ≡ writtenOver v (fakmapOf m) (now (fakmap .entry)))
+        ) ⌝ }
+{
+    let verdict = files_check(f2, month);
+    match verdict {
+        Verdict::Accepted => {
+            index_of(month, index);
+            cofion_of(f2, month, ssn, cofion);
+            hmym_of(month, ssn, hmym);
+            fakmap_of(month, fakmap);
+            Verdict::Accepted
+        }
+        Verdict::Refused(why) => Verdict::Refused(why),
+    }
+}

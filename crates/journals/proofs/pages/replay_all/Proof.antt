@@ -1,0 +1,32 @@
+-- `replay_all` is safe and ends: `left` falls at each turn.
+use borrow.Author.Needs.{needs}
+use Prim.Native.Nat.{_≤_}
+use Rattle.journals.proofs.pages.replay_all.Statement.{statement}
+use Rattle.journals.proofs.pages.replay_all.Tie as tie
+
+abbrev Inv-loop : tie.InvT-loop
+Inv-loop fd t₀ pairs left₀ t5 t left = 0 ≤ left
+
+abbrev μ-loop : tie.MeasureT-loop
+μ-loop fd t₀ pairs left₀ t5 t left = left
+
+pub replay-all-spec : {M : Type 1} → statement M
+replay-all-spec =
+    tie.close
+    (tie.spec
+    Inv-loop
+    μ-loop
+    (λ c κs. search needs)
+    (λ c κs. search needs)
+    (λ c. search needs)
+    (λ c κs. search needs)
+    (λ c κs. search needs)
+    (λ c. search needs)
+    (λ c κs. search needs)
+    (λ c κs. search needs)
+    (λ c. search needs)
+    (λ c. search needs)
+    (λ c. search needs)
+    (λ c. search needs)
+    (λ c κs. search needs)
+    (λ c. search needs))

@@ -1,0 +1,51 @@
+// A turn of a journal: a call made on the worksheet, and its answer's text.
+use crate::answer::ANSWER;
+use crate::answer::shown_text;
+use crate::answer::verdict_text;
+use worksheet::desks::Worksheet;
+use worksheet::journal::Answer;
+use worksheet::journal::Call;
+use worksheet::journal::make;
+ghost use mathlib.Core.Path.{_≡_};
+ghost use lib.ListN.{take};
+ghost use Rattle.io.specs.Counts.{Counts};
+ghost use Rattle.worksheet.specs.Showing.{pair};
+ghost use Rattle.worksheet.specs.Journal.{step};
+ghost use Rattle.worksheet.specs.Calls.{called};
+ghost use Rattle.listing.specs.Turn.{blank, handedText, answerText};
+
+// The worksheet that a call leaves, and how many bytes its answer's text has.
+pub struct Turn {
+    pub sheet: Worksheet,
+    pub size: usize,
+}
+
+fn handed_text(a: Answer, figures: &[f32; 151], out: &mut [u8; ANSWER]) -> usize
+    ensures { λ r. ⌜ take r (now (out .exit)) ≡ handedText a (now (figures .entry)) ⌝ }
+    ensures { λ r. ⌜ Counts r (now (out .exit)) ⌝ }
+{
+    match a {
+        Answer::Told(v) => verdict_text(v, out),
+        Answer::Shown(s) => shown_text(s, figures, out),
+    }
+}
+
+// Makes a call over a lent record and month file, a showing with a buffer of zeros, and writes the text
+// of its answer.
+pub fn answered(w: Worksheet, call: Call, f2: &[u8], file: &[u8], out: &mut [u8; ANSWER]) -> Turn
+    ensures { λ r. ⌜ (
+        let s = step (pair (now (f2 .entry)) (now (file .entry))) (called call blank) w in
+        (r .sheet ≡ s .sheet) × (take (r .size) (now (out .exit)) ≡ answerText (s .answer))
+        ) ⌝ }
+    ensures { λ r. ⌜ Counts (r .size) (now (out .exit)) ⌝ }
+{
+    let mut figures = [0.0f32; 151];
+    let next = make(w, call, f2, file, &mut figures);
+    let answer = next.answer;
+    let sheet = next.sheet;
+    let size = handed_text(answer, &figures, out);
+    Turn {
+        sheet: sheet,
+        size: size,
+    }
+}

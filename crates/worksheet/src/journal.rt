@@ -1,0 +1,63 @@
+// The calls on a worksheet as one type, and one function that makes any of them.
+use crate::desks;
+use crate::desks::Outcome;
+use crate::desks::Worksheet;
+use crate::inputs::Edit;
+use crate::showing::show;
+use base::refusal::Verdict;
+use maps::figures::Shown;
+ghost use mathlib.Core.Path.{_≡_};
+ghost use Rattle.worksheet.specs.Showing.{pair};
+ghost use Rattle.worksheet.specs.Journal.{stepOf, step};
+ghost use Rattle.worksheet.specs.Calls.{called, bufferAfter, nextOf};
+
+// Desks are any number; those that are none are refused. Show 0 is the worksheet's.
+pub enum Call {
+    Begin(u32),
+    Change(u32, Edit),
+    Commit(u32),
+    Cancel(u32),
+    TakeBack,
+    Show(u32),
+}
+
+pub enum Answer {
+    Told(Verdict),
+    // Unless it is refused, the figures are in the lent buffer.
+    Shown(Shown),
+}
+
+// A call's answer, and the worksheet that it leaves.
+pub struct Next {
+    pub answer: Answer,
+    pub sheet: Worksheet,
+}
+
+fn told(o: Outcome) -> Next
+    ensures { λ r. ⌜ r ≡ nextOf (stepOf o) ⌝ }
+{
+    let verdict = o.answer;
+    let sheet = o.sheet;
+    Next {
+        answer: Answer::Told(verdict),
+        sheet: sheet,
+    }
+}
+
+// Makes a call on a worksheet, over a lent record, month file and figures buffer; only a showing reads
+// the files and writes the buffer.
+pub fn make(w: Worksheet, call: Call, f2: &[u8], file: &[u8], out: &mut [f32]) -> Next
+    ensures { λ r. ⌜ (let s = step (pair (now (f2 .entry)) (now (file .entry))) (called call (now (out .entry))) w in (r ≡ nextOf s) × (now (out .exit) ≡ bufferAfter (s .answer) (now (out .entry)))) ⌝ }
+{
+    match call {
+        Call::Begin(desk) => told(desks::begin(w, desk)),
+        Call::Change(desk, e) => told(desks::change(w, desk, e)),
+        Call::Commit(desk) => told(desks::commit(w, desk)),
+        Call::Cancel(desk) => told(desks::cancel(w, desk)),
+        Call::TakeBack => told(desks::take_back(w)),
+        Call::Show(desk) => Next {
+            answer: Answer::Shown(show(w, desk, f2, file, out)),
+            sheet: w,
+        },
+    }
+}
