@@ -21,6 +21,7 @@ pub mod Intervals
 pub mod Reduction
 pub mod Turns
 pub mod Bounds
+pub mod Sizes
 pub mod Refusals
 pub mod Fills
 pub mod Entries

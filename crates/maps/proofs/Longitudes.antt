@@ -25,6 +25,7 @@ use Rattle.base.proofs.Order.{nought, Between, wider, trans-le, neg-le, le→ab
 use Rattle.base.proofs.Monotone.{sub-mono, add-size, sub-size, mul-size, div-size, abs-finite}
 use Rattle.base.proofs.Intervals.{every, all, exactly, sub-in, div-in}
 use Rattle.base.proofs.Bounds.{sin32-size, cos32-size}
+use Rattle.base.proofs.Sizes.{Sized, plus-sized, less-sized, times-sized, between-sized, larger, sized-number}
 use Rattle.maps.specs.declared.geometry.Place.{Place}
 use Rattle.maps.specs.declared.geometry.Track.{Track}
 use Rattle.maps.specs.Geometry.{EPSLON, DDX, R1, latitudeOf, distancesOf, clampedOf, cosBetween, dlongOf, atLeastMinimum, gcdOf, fromNorth, circleOf, close, nudgeOf, nudgedOf, signOf, acosClamped, turnedOf, foldedOf, otherWay, polar, placeOf, endLongitude, endOf, downMeridian, circleLongitude, onCircle, sampleOf, pointOf, absent, rowOf, rowAt, rowsOf, trackOf, pathOf, nowhere}
@@ -131,30 +132,6 @@ onward-in lon other d a b k = folded-in (lon ⊖ signOf (otherWay other a) d) (s
 acos-in : (q : Float) → T (not (isNan q)) → Between nought four (acosClamped q)
 unfolding fraction round
 acos-in q h = acos-clamped-in q h
-
--- ---- sizes
-record Sized (a x : Float) : Type 0 where
-  pub size : T (le (absOf x) a)
-
-module _ {a b x y : Float} (c : Float) where
-  plus-sized : T (every (finite a ∷ finite b ∷ le (a ⊕ b) c ∷ [])) → Sized a x → Sized b y → Sized c (x ⊕ y)
-  plus-sized t h k = let w = all (finite a ∷ finite b ∷ le (a ⊕ b) c ∷ []) t in record { size = trans-le (absOf (x ⊕ y)) (a ⊕ b) c (add-size binary32 x y a b (w .0) (w .1 .0) (h .size) (k .size)) (w .1 .1 .0) }
-
-  less-sized : T (every (finite a ∷ finite b ∷ le (a ⊕ b) c ∷ [])) → Sized a x → Sized b y → Sized c (x ⊖ y)
-  less-sized t h k = let w = all (finite a ∷ finite b ∷ le (a ⊕ b) c ∷ []) t in record { size = trans-le (absOf (x ⊖ y)) (a ⊕ b) c (sub-size binary32 x y a b (w .0) (w .1 .0) (h .size) (k .size)) (w .1 .1 .0) }
-
-  times-sized : T (every (finite a ∷ finite b ∷ le (a ⊗ b) c ∷ [])) → Sized a x → Sized b y → Sized c (x ⊗ y)
-  times-sized t h k = let w = all (finite a ∷ finite b ∷ le (a ⊗ b) c ∷ []) t in record { size = trans-le (absOf (x ⊗ y)) (a ⊗ b) c (mul-size binary32 x y a b (w .0) (w .1 .0) (h .size) (k .size)) (w .1 .1 .0) }
-
-between-sized : {lo hi x : Float} (a : Float) → T (every (le (neg a) lo ∷ le hi a ∷ [])) → Between lo hi x → Sized a x
-between-sized {lo} {hi} {x} a t b = let w = all (le (neg a) lo ∷ le hi a ∷ []) t in record { size = le→abs x a (trans-le (neg a) lo x (w .0) (b .low)) (trans-le x hi a (b .high) (w .1 .0)) }
-
-larger : {a x : Float} (c : Float) → T (le a c) → Sized a x → Sized c x
-larger {a} {x} c t h = record { size = trans-le (absOf x) a c (h .size) t }
-
--- a number with a bound is a number
-sized-number : {a x : Float} → Sized a x → T (not (isNan x))
-sized-number {a} {x} h = abs-no-nan x a (h .size)
 
 abbrev one : Float
 one = fin false 1 (pos 0)
