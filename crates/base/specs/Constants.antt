@@ -23,6 +23,17 @@ PIO2 = decimal 1570796326 9
 unfoldable pub RZ : Float
 RZ = decimal 63700 1
 
+-- the speed of light, metres in a microsecond
+unfoldable pub VOFL : Float
+VOFL = decimal 29979246 5
+
+-- Euler's constant
+unfoldable pub GAMA : Float
+GAMA = decimal 57721566 8
+
+unfoldable pub DCL : Float
+DCL = decimal 128 2
+
 -- all of them, in this order
 abbrev pub constants : List Float
-constants = D2R ∷ R2D ∷ PI ∷ PI2 ∷ PIO2 ∷ RZ ∷ []
+constants = D2R ∷ R2D ∷ PI ∷ PI2 ∷ PIO2 ∷ RZ ∷ VOFL ∷ GAMA ∷ DCL ∷ []

@@ -104,7 +104,8 @@ const FM3COF: usize = 441;
 
 const ERCOF: usize = 198;
 
-pub const HMYM: usize = 464;
+// The numbers of a plane `P(29,16)`, 16 rows of 29: the height map and the land map are such planes.
+pub const PLANE: usize = 464;
 
 // Where each of the six maps starts among their coefficients.
 const ESM_START: usize = ESLCOF;
@@ -124,10 +125,10 @@ pub const COFION: usize = ER_START + ERCOF;
 pub type SixMaps = [f32; COFION];
 
 // The coefficients of the height map.
-pub type HeightMap = [f32; HMYM];
+pub type HeightMap = [f32; PLANE];
 
 // The words of the land map.
-pub type LandMap = [f32; 464];
+pub type LandMap = [f32; PLANE];
 
 // The coefficients of the six maps at a sunspot number, from files that were checked.
 pub(crate) fn cofion_of(f2: &[u8], month: &[u8], ssn: f32, out: &mut SixMaps)
@@ -149,7 +150,7 @@ pub(crate) fn hmym_of(month: &[u8], ssn: f32, out: &mut HeightMap)
     requires { ⌜ monthFileSize ≤ length (now month) ⌝ }
     ensures { λ _. ⌜ now (out .exit) ≡ hmymOf (now (month .entry)) ssn ⌝ }
 {
-    blend(month, XPMAP, HMYM, height_weights(ssn), out, 0);
+    blend(month, XPMAP, PLANE, height_weights(ssn), out, 0);
 }
 
 // The words of the land map, of a file that was checked.

@@ -13,13 +13,19 @@ pub const PI2: f32 = 6.283185307;
 pub const PIO2: f32 = 1.570796326;
 // Earth radius, km.
 pub const RZ: f32 = 6370.0;
+// The speed of light, Euler's constant and DCL: no ported function reads them.
+pub const VOFL: f32 = 299.79246;
+
+pub const GAMA: f32 = 0.57721566;
+
+pub const DCL: f32 = 1.28;
 
 // The constants of this module in their order.
-pub type Constants = [f32; 6];
+pub type Constants = [f32; 9];
 
 // All of them: what the comparison with the Rust reads.
 pub fn all() -> Constants
     ensures { λ r. ⌜ r ≡ constants ⌝ }
 {
-    [D2R, R2D, PI, PI2, PIO2, RZ]
+    [D2R, R2D, PI, PI2, PIO2, RZ, VOFL, GAMA, DCL]
 }

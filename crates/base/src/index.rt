@@ -95,7 +95,9 @@ pub fn index_check(month: &[u8]) -> Verdict
 }
 
 // The words of `ikim`, ten for each of six maps.
-pub type IndexTable = [u32; 60];
+pub const INDEX: usize = 60;
+
+pub type IndexTable = [u32; INDEX];
 
 // The 60 words of `ikim`, of a file that was checked. The words that the index check does not leave free
 // are the signed ones too.

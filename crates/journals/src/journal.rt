@@ -18,18 +18,17 @@ use listing::answer::ANSWER;
 use listing::answer::stopped_text;
 use listing::answer::verdict_text;
 use listing::call::Read;
+use listing::call::START;
 use listing::call::call_in;
 use listing::call::size_of;
 use listing::turn::answered;
+use maps::inputs::FIELD_BYTES;
 use worksheet::desks;
 use worksheet::desks::Worksheet;
 use worksheet::journal::Call;
 ghost use mathlib.Core.Path.{_≡_};
 ghost use Prim.Native.Nat.{_+_, _<_, _≤_};
 ghost use lib.ListN.{length};
-
-// The first byte of the first call: 56 of words, the record, the month file.
-const START: u64 = 46512;
 
 // What stands at a place of the calls, and its size in bytes.
 struct Next {
@@ -150,7 +149,7 @@ fn is_replay(words: &[u8], calls: &[u8], record: &[u8], month: &[u8], wanted: &[
 
 // The next journal of the file.
 fn is_journal(fd: i32, record: &[u8], month: &[u8]) -> bool {
-    let mut words = [0u8; 56];
+    let mut words = [0u8; FIELD_BYTES];
     io::read_full(fd, &mut words);
     let c = next_size(fd);
     if c > CALLS {

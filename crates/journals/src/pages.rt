@@ -5,6 +5,7 @@ use crate::files::bytes;
 use crate::files::next;
 use crate::files::next_size;
 use crate::files::opened;
+use crate::sheets::PAIR;
 use crate::sheets::part;
 use crate::tally::counted;
 use crate::tally::none;
@@ -14,14 +15,13 @@ use base::month_file::MONTH_FILE;
 use base::month_file::RECORD;
 use listing::page::PAGE;
 use listing::sheet::page_answer;
+use maps::inputs::FIELD_BYTES;
 ghost use Prim.Native.Nat.{_≤_};
 
-// A record and its month file, and three such pairs.
-const PAIR: usize = 46456;
+// Three pairs of files.
+const PAIRS: usize = 3 * PAIR;
 
-const PAIRS: usize = 139368;
-
-fn is_text(words: &[u8; 56], pair: &[u8], wanted: &[u8]) -> bool {
+fn is_text(words: &[u8; FIELD_BYTES], pair: &[u8], wanted: &[u8]) -> bool {
     let mut text = [0u8; PAGE];
     let record = part(pair, 0, RECORD);
     let month = part(pair, RECORD, RECORD + MONTH_FILE);
@@ -32,7 +32,7 @@ fn is_text(words: &[u8; 56], pair: &[u8], wanted: &[u8]) -> bool {
 // The next page of the file.
 fn is_page(fd: i32, pairs: &[u8; PAIRS]) -> bool {
     let k = next_size(fd);
-    let mut words = [0u8; 56];
+    let mut words = [0u8; FIELD_BYTES];
     io::read_full(fd, &mut words);
     let o = next_size(fd);
     if k > 2 {

@@ -14,7 +14,16 @@ use base::month_file::MONTH_FILE;
 use base::month_file::RECORD;
 use listing::answer::ANSWER;
 use listing::sheet::sheet_answer;
+use maps::inputs::FIELD_BYTES;
 ghost use Prim.Native.Nat.{_≤_};
+
+// The bytes of a record and its month file, and of the longest input: the words, the two files and more.
+pub const PAIR: usize = RECORD + MONTH_FILE;
+
+const INPUT: usize = FIELD_BYTES + PAIR + 1000;
+
+// Where the month file starts in an input whose record is whole.
+const MONTH_START: usize = FIELD_BYTES + RECORD;
 
 fn min(a: usize, b: usize) -> usize
     ensures { λ r. ⌜ (r ≤ a) × (r ≤ b) ⌝ }
@@ -32,15 +41,15 @@ pub fn part(s: &[u8], a: usize, e: usize) -> &[u8] {
 // What `sheet` makes of an input.
 fn is_answer(input: &[u8], wanted: &[u8]) -> bool {
     let mut text = [0u8; ANSWER];
-    let words = part(input, 0, 56);
-    let record = part(input, 56, 7960);
-    let month = part(input, 7960, 47512);
+    let words = part(input, 0, FIELD_BYTES);
+    let record = part(input, FIELD_BYTES, MONTH_START);
+    let month = part(input, MONTH_START, INPUT);
     let n = sheet_answer(words, record, month, &mut text);
     say(wanted, 0, &text[..n]) == wanted.len()
 }
 
 // An input with the next bytes of a file from a on and before e.
-fn filled(fd: i32, input: [u8; 47512], a: usize, e: usize) -> [u8; 47512]
+fn filled(fd: i32, input: [u8; INPUT], a: usize, e: usize) -> [u8; INPUT]
     requires { ⌜ a ≤ e ⌝ }
     requires { ⌜ e ≤ 47512 ⌝ }
 {
@@ -59,7 +68,7 @@ fn skip(fd: i32, n: usize)
 
 // An input with the first r bytes of the record after its words, then the month file. They are read anew
 // from the file's start, where they follow its first word.
-fn with_files(input: [u8; 47512], r: usize) -> [u8; 47512]
+fn with_files(input: [u8; INPUT], r: usize) -> [u8; INPUT]
     requires { ⌜ r ≤ 7904 ⌝ }
 {
     let fd = opened(b"sheets-in.bin");
@@ -67,27 +76,27 @@ fn with_files(input: [u8; 47512], r: usize) -> [u8; 47512]
         return input;
     }
     skip(fd, 4);
-    let with_record = filled(fd, input, 56, 56 + r);
+    let with_record = filled(fd, input, FIELD_BYTES, FIELD_BYTES + r);
     skip(fd, RECORD - r);
-    let whole = filled(fd, with_record, 56 + r, 38608 + r);
+    let whole = filled(fd, with_record, FIELD_BYTES + r, FIELD_BYTES + MONTH_FILE + r);
     libc::close(fd);
     whole
 }
 
 // An input with a byte of its month file changed, where there is such a byte.
-fn with_change(input: [u8; 47512], r: usize, changed: usize, b: u8) -> [u8; 47512]
+fn with_change(input: [u8; INPUT], r: usize, changed: usize, b: u8) -> [u8; INPUT]
     requires { ⌜ r ≤ 7904 ⌝ }
 {
     let mut input = input;
     if changed < MONTH_FILE {
-        input[56 + r + changed] = b;
+        input[FIELD_BYTES + r + changed] = b;
     }
     input
 }
 
 // The next case of the file. Past its month file an input has aa.
 fn is_case(fd: i32) -> bool {
-    let words = filled(fd, [0xaau8; 47512], 0, 56);
+    let words = filled(fd, [0xaau8; INPUT], 0, FIELD_BYTES);
     let r = next_size(fd);
     // The month file's length, which the whole length gives.
     next(fd);
@@ -106,7 +115,7 @@ fn is_case(fd: i32) -> bool {
 fn replay_all(fd: i32) {
     let mut t = none();
     let mut left = next(fd);
-    let mut over = [0u8; 46456];
+    let mut over = [0u8; PAIR];
     io::read_full(fd, &mut over);
     while left > 0 {
         t = counted(t, is_case(fd));

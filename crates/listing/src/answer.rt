@@ -4,6 +4,7 @@ use crate::text::put_number;
 use base::number;
 use base::refusal::Refusal;
 use base::refusal::Verdict;
+use maps::figures::FIGURES;
 use maps::figures::Shown;
 ghost use mathlib.Core.Path.{_≡_};
 ghost use Prim.Native.Nat.{_+_, _≤_};
@@ -12,8 +13,8 @@ ghost use Rattle.io.specs.Counts.{Counts};
 ghost use Rattle.listing.specs.Text.{Put};
 ghost use Rattle.listing.specs.Answer.{glyphOf, hexOf, lineOf, linesOf, refusalText, verdictText, pointsText, shownText, sheetText, stoppedText};
 
-// The bytes of the longest answer: `points`, a number of ten digits, and 151 lines of nine bytes.
-pub const ANSWER: usize = 1377;
+// The bytes of the longest answer: `points`, a number of ten digits, and a line of nine bytes for each figure.
+pub const ANSWER: usize = 18 + 9 * FIGURES;
 
 // The hexadecimal digit of d, of its last one where d has more.
 pub fn glyph(d: u32) -> u8
@@ -86,7 +87,7 @@ pub fn verdict_text(v: Verdict, out: &mut [u8; ANSWER]) -> usize
 }
 
 // The line `points`, number, and the lines of the figures.
-fn points_text(count: u32, figures: &[f32; 151], out: &mut [u8; ANSWER]) -> usize
+fn points_text(count: u32, figures: &[f32; FIGURES], out: &mut [u8; ANSWER]) -> usize
     ensures { λ r. ⌜ take r (now (out .exit)) ≡ pointsText count (now (figures .entry)) ⌝ }
     ensures { λ r. ⌜ Counts r (now (out .exit)) ⌝ }
 {
@@ -97,7 +98,7 @@ fn points_text(count: u32, figures: &[f32; 151], out: &mut [u8; ANSWER]) -> usiz
 }
 
 // What a showing in a journal answers.
-pub fn shown_text(s: Shown, figures: &[f32; 151], out: &mut [u8; ANSWER]) -> usize
+pub fn shown_text(s: Shown, figures: &[f32; FIGURES], out: &mut [u8; ANSWER]) -> usize
     ensures { λ r. ⌜ take r (now (out .exit)) ≡ shownText s (now (figures .entry)) ⌝ }
     ensures { λ r. ⌜ Counts r (now (out .exit)) ⌝ }
 {
@@ -108,7 +109,7 @@ pub fn shown_text(s: Shown, figures: &[f32; 151], out: &mut [u8; ANSWER]) -> usi
 }
 
 // What a sheet by itself answers: the lines alone, or the refusal.
-pub fn sheet_text(s: Shown, figures: &[f32; 151], out: &mut [u8; ANSWER]) -> usize
+pub fn sheet_text(s: Shown, figures: &[f32; FIGURES], out: &mut [u8; ANSWER]) -> usize
     ensures { λ r. ⌜ take r (now (out .exit)) ≡ sheetText s (now (figures .entry)) ⌝ }
     ensures { λ r. ⌜ Counts r (now (out .exit)) ⌝ }
 {

@@ -1,8 +1,11 @@
 // A call as a run of little-endian words: the operation's number, the desk (take-back has none) and
 // the numbers of a change.
 use base::angle::Degrees;
+use base::month_file::MONTH_FILE;
+use base::month_file::RECORD;
 use base::words::float;
 use base::words::word;
+use maps::inputs::FIELD_BYTES;
 use maps::inputs::Factors;
 use maps::inputs::MagneticPole;
 use maps::inputs::Route;
@@ -11,6 +14,9 @@ use worksheet::journal::Call;
 ghost use mathlib.Core.Path.{_≡_};
 ghost use Prim.Native.Nat.{_≤_};
 ghost use Rattle.listing.specs.Calls.{pathEdit, pscEdit, poleEdit, changeIn, sizeOf, callIn};
+
+// The first byte of the first call of a journal: before it stand the words, the record and the month file.
+pub const START: u64 = (FIELD_BYTES + RECORD + MONTH_FILE) as u64;
 
 pub enum Read {
     // The input has ended.

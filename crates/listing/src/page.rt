@@ -4,6 +4,7 @@ use crate::decimal::put_float;
 use crate::text::put;
 use crate::text::put_number;
 use base::number;
+use maps::figures::FIGURES;
 use maps::inputs::Inputs;
 ghost use mathlib.Core.Path.{_≡_};
 ghost use Prim.Native.Nat.{_+_, _*_, _≤_, _<_};
@@ -237,7 +238,7 @@ fn put_fields(out: &mut [u8; PAGE], i: Inputs) -> usize
 }
 
 // A point under a line with its number.
-fn put_point(out: &mut [u8], at: usize, figures: &[f32; 151], p: u32) -> usize
+fn put_point(out: &mut [u8], at: usize, figures: &[f32; FIGURES], p: u32) -> usize
     requires { ⌜ p < 5 ⌝ }
     requires { ⌜ at + 2231 ≤ length (now out) ⌝ }
     ensures { λ r. ⌜ Put (now (out .entry)) at (pointText (now (figures .entry)) p) (now (out .exit)) r ⌝ }
@@ -248,7 +249,7 @@ fn put_point(out: &mut [u8], at: usize, figures: &[f32; 151], p: u32) -> usize
     put_rows(out, next, 18, figures, 6 + 29 * (p as usize), 29)
 }
 
-fn put_point_there(out: &mut [u8], at: usize, count: u32, figures: &[f32; 151], p: u32) -> usize
+fn put_point_there(out: &mut [u8], at: usize, count: u32, figures: &[f32; FIGURES], p: u32) -> usize
     requires { ⌜ p < 5 ⌝ }
     requires { ⌜ at + 2231 ≤ length (now out) ⌝ }
     ensures { λ r. ⌜ Put (now (out .entry)) at (thereText count (now (figures .entry)) p) (now (out .exit)) r ⌝ }
@@ -260,7 +261,7 @@ fn put_point_there(out: &mut [u8], at: usize, count: u32, figures: &[f32; 151], 
 }
 
 // Each point that is there.
-fn put_points(out: &mut [u8], at: usize, count: u32, figures: &[f32; 151]) -> usize
+fn put_points(out: &mut [u8], at: usize, count: u32, figures: &[f32; FIGURES]) -> usize
     requires { ⌜ at + 11155 ≤ length (now out) ⌝ }
     ensures { λ r. ⌜ Put (now (out .entry)) at (firstPoints count (now (figures .entry)) 5) (now (out .exit)) r ⌝ }
 {
@@ -274,7 +275,7 @@ fn put_points(out: &mut [u8], at: usize, count: u32, figures: &[f32; 151]) -> us
 }
 
 // The fields, the six figures of the path, then the points.
-pub fn page_text(i: Inputs, count: u32, figures: &[f32; 151], out: &mut [u8; PAGE]) -> usize
+pub fn page_text(i: Inputs, count: u32, figures: &[f32; FIGURES], out: &mut [u8; PAGE]) -> usize
     ensures { λ r. ⌜ take r (now (out .exit)) ≡ pageText i count (now (figures .entry)) ⌝ }
     ensures { λ r. ⌜ Counts r (now (out .exit)) ⌝ }
 {

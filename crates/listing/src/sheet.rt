@@ -6,6 +6,7 @@ use crate::page::PAGE;
 use crate::page::page_text;
 use crate::text::put;
 use base::refusal::Refusal;
+use maps::figures::FIGURES;
 use maps::figures::Shown;
 use maps::inputs::Inputs;
 use worksheet::desks::opened;
@@ -22,14 +23,14 @@ pub fn sheet_answer(words: &[u8], f2: &[u8], file: &[u8], out: &mut [u8; ANSWER]
     ensures { λ r. ⌜ take r (now (out .exit)) ≡ sheetAnswer (now (words .entry)) (now (f2 .entry)) (now (file .entry)) ⌝ }
     ensures { λ r. ⌜ Counts r (now (out .exit)) ⌝ }
 {
-    let mut figures = [0.0f32; 151];
+    let mut figures = [0.0f32; FIGURES];
     let o = opened(words);
     let w = o.sheet;
     let shown = show(w, 0, f2, file, &mut figures);
     sheet_text(shown, &figures, out)
 }
 
-fn page_for(i: Inputs, shown: Shown, figures: &[f32; 151], out: &mut [u8; PAGE]) -> usize
+fn page_for(i: Inputs, shown: Shown, figures: &[f32; FIGURES], out: &mut [u8; PAGE]) -> usize
     ensures { λ r. ⌜ take r (now (out .exit)) ≡ pageFor i shown (now (figures .entry)) ⌝ }
     ensures { λ r. ⌜ Counts r (now (out .exit)) ⌝ }
 {
@@ -53,7 +54,7 @@ pub fn page_answer(words: &[u8], f2: &[u8], file: &[u8], out: &mut [u8; PAGE]) -
     ensures { λ r. ⌜ take r (now (out .exit)) ≡ pageAnswer (now (words .entry)) (now (f2 .entry)) (now (file .entry)) ⌝ }
     ensures { λ r. ⌜ Counts r (now (out .exit)) ⌝ }
 {
-    let mut figures = [0.0f32; 151];
+    let mut figures = [0.0f32; FIGURES];
     let o = opened(words);
     let w = o.sheet;
     let shown = show(w, 0, f2, file, &mut figures);

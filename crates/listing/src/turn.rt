@@ -2,6 +2,7 @@
 use crate::answer::ANSWER;
 use crate::answer::shown_text;
 use crate::answer::verdict_text;
+use maps::figures::FIGURES;
 use worksheet::desks::Worksheet;
 use worksheet::journal::Answer;
 use worksheet::journal::Call;
@@ -20,7 +21,7 @@ pub struct Turn {
     pub size: usize,
 }
 
-fn handed_text(a: Answer, figures: &[f32; 151], out: &mut [u8; ANSWER]) -> usize
+fn handed_text(a: Answer, figures: &[f32; FIGURES], out: &mut [u8; ANSWER]) -> usize
     ensures { λ r. ⌜ take r (now (out .exit)) ≡ handedText a (now (figures .entry)) ⌝ }
     ensures { λ r. ⌜ Counts r (now (out .exit)) ⌝ }
 {
@@ -39,7 +40,7 @@ pub fn answered(w: Worksheet, call: Call, f2: &[u8], file: &[u8], out: &mut [u8;
         ) ⌝ }
     ensures { λ r. ⌜ Counts (r .size) (now (out .exit)) ⌝ }
 {
-    let mut figures = [0.0f32; 151];
+    let mut figures = [0.0f32; FIGURES];
     let next = make(w, call, f2, file, &mut figures);
     let answer = next.answer;
     let sheet = next.sheet;

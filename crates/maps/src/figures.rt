@@ -4,23 +4,22 @@ use crate::geometry::ControlPoint;
 use crate::geometry::PathGeometry;
 use crate::inputs::Inputs;
 use crate::ionosphere;
-use crate::ionosphere::INDEX;
 use crate::ionosphere::layers;
 use crate::ionosphere::layers::EsParams;
 use crate::ionosphere::layers::Ground;
 use crate::ionosphere::layers::LayerParams;
 use crate::ionosphere::layers::Monthly;
-use crate::ionosphere::noisy::PLANE;
 use crate::ionosphere::virtim;
 use crate::ionosphere::virtim::TimeMaps;
 use crate::magnetic;
 use crate::magnetic::MagneticVars;
 use base::blend::COFION;
-use base::blend::HMYM;
 use base::blend::HeightMap;
 use base::blend::LandMap;
+use base::blend::PLANE;
 use base::blend::SixMaps;
 use base::files::redmap;
+use base::index::INDEX;
 use base::index::IndexTable;
 use base::refusal::Refusal;
 use base::refusal::Verdict;
@@ -32,12 +31,14 @@ ghost use Rattle.base.specs.Fill.{fill};
 ghost use Rattle.maps.specs.Virtim.{GoodTable};
 ghost use Rattle.maps.specs.Figures.{hour, hourFrom, headOf, numbersOf, pointRow, rowAt, figuresTo, routeOf, shownOf, bufferAfter};
 
-// How many figures a sheet has, those of its path before a row for each of five points.
-pub const FIGURES: usize = 151;
-
+// The figures of a path.
 const HEAD: usize = 6;
 
+// The figures of a point.
 const ROW: usize = 29;
+
+// How many figures a sheet has, those of its path before a row for each of five points.
+pub const FIGURES: usize = HEAD + 5 * ROW;
 
 // What a showing answers: the number of points, or why it is refused.
 pub enum Shown {
@@ -247,7 +248,7 @@ pub fn figures(i: Inputs, f2: &[u8], file: &[u8], out: &mut [f32; FIGURES]) -> S
 {
     let mut index = [0u32; INDEX];
     let mut cofion = [0.0f32; COFION];
-    let mut hmym = [0.0f32; HMYM];
+    let mut hmym = [0.0f32; PLANE];
     let mut fakmap = [0.0f32; PLANE];
     let verdict = redmap(
         f2,

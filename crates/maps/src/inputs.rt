@@ -57,6 +57,9 @@ pub struct Inputs {
 
 pub const FIELDS: usize = 14;
 
+// The bytes of their words.
+pub const FIELD_BYTES: usize = 4 * FIELDS;
+
 // The words of the fields: month and flag are whole numbers, the others the bits of an `f32`.
 pub type FieldWords = [u32; FIELDS];
 

@@ -15,10 +15,11 @@ use crate::magnetic::MagneticVars;
 use base::angle::Degrees;
 use base::angle::Radians;
 use base::blend::COFION;
-use base::blend::HMYM;
 use base::blend::HeightMap;
+use base::blend::PLANE;
 use base::elementary::cos32;
 use base::files;
+use base::index::INDEX;
 use base::index::IndexTable;
 use base::ranges::month_check;
 use base::refusal::Verdict;
@@ -33,9 +34,6 @@ ghost use Rattle.base.specs.Blend.{hmymOf};
 ghost use Rattle.base.specs.Files.{filesCheck};
 ghost use Rattle.maps.specs.Virtim.{GoodTable};
 ghost use Rattle.maps.specs.Ionosphere.{hourMapsOf, gammasAt, pointAt, layersCheck, layersThere, noLayers, layersAtOf};
-
-// The words of an index table.
-pub(crate) const INDEX: usize = 60;
 
 // The coefficients of the six maps at an hour into a lent array, which a refusal leaves as it is.
 pub fn hour_maps(f2: &[u8], file: &[u8], ssn: f32, gmt: f32, ab: &mut TimeMaps) -> Verdict
@@ -179,7 +177,7 @@ pub fn layer_parameters_at(
     ensures { λ r. ⌜ r ≡ layersAtOf inputs (now (ab .entry)) (now (file .entry)) pole lat lon ⌝ }
 {
     let mut index = [0u32; INDEX];
-    let mut hmym = [0.0f32; HMYM];
+    let mut hmym = [0.0f32; PLANE];
     let verdict = layer_tables(inputs.month, inputs.ssn, file, &mut index, &mut hmym);
     match verdict {
         Verdict::Accepted => {

@@ -13,7 +13,9 @@ use listing::answer::ANSWER;
 use listing::answer::stopped_text;
 use listing::answer::verdict_text;
 use listing::call::Read;
+use listing::call::START;
 use listing::turn::answered;
+use maps::inputs::FIELD_BYTES;
 use worksheet::desks::Worksheet;
 use worksheet::desks::opened;
 use worksheet::journal::Call;
@@ -23,9 +25,6 @@ ghost use Rattle.worksheet.specs.Showing.{pair};
 ghost use Rattle.worksheet.specs.Journal.{Call as Called, step, run};
 ghost use Rattle.worksheet.specs.Calls.{called};
 ghost use Rattle.listing.specs.Turn.{blank};
-
-// The first byte of the first call: 56 of words, the record, the month file.
-const START: u64 = 46512;
 
 // Answers a call, and hands on the worksheet that it leaves.
 fn answer(w: Worksheet, call: Call, f2: &[u8], file: &[u8]) -> Worksheet
@@ -93,7 +92,7 @@ fn replay(words: &[u8], f2: &[u8], file: &[u8]) {
 }
 
 fn main() {
-    let mut words = [0u8; 56];
+    let mut words = [0u8; FIELD_BYTES];
     let mut record = [0u8; RECORD];
     let mut month = [0u8; MONTH_FILE];
     let a = io::read_full(STDIN_FILENO, &mut words);

@@ -6,7 +6,7 @@ use crate::tally::counted;
 use crate::tally::is_float;
 use crate::tally::none;
 use base::blend::COFION;
-use base::blend::HMYM;
+use base::blend::PLANE;
 use base::files::cofion;
 use base::files::hmym;
 use base::index::index_check;
@@ -212,11 +212,11 @@ fn cofions(fd: i32, record: &[u8], month: &[u8], ssn: f32, t: Tally) -> Tally {
 }
 
 fn heights(fd: i32, month: &[u8], ssn: f32, t: Tally) -> Tally {
-    let mut all = [-12345.0f32; HMYM];
+    let mut all = [-12345.0f32; PLANE];
     hmym(month, ssn, &mut all);
     let mut t = t;
     let mut k: usize = 0;
-    while k < HMYM {
+    while k < PLANE {
         t = counted(t, is_float(all[k], next(fd)));
         k += 1;
     }

@@ -55,15 +55,15 @@ fn from_single(x: f32) -> u64 {
 // The constants in their order, and the built-in pole after them.
 fn constant(k: u64) -> f32 {
     let list = constants::all();
-    if k < 6 {
+    if k < 9 {
         return list[k as usize];
     }
     let pole = MagneticPole::built_in();
     let lat = pole.lat;
     let lon = pole.lon;
-    if k == 6 {
+    if k == 9 {
         lat.0
-    } else if k == 7 {
+    } else if k == 10 {
         lon.0
     } else {
         0.0 / 0.0

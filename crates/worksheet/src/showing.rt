@@ -8,6 +8,7 @@ use crate::inputs::inputs_check;
 use base::refusal::Refusal;
 use base::refusal::Verdict;
 use base::refusal::then;
+use maps::figures::FIGURES;
 use maps::figures::Shown;
 use maps::figures::figures;
 use maps::inputs::Inputs;
@@ -48,12 +49,12 @@ fn judged_check(w: Worksheet, desk: u32) -> Verdict
 }
 
 // All figures into a buffer that has their number.
-fn put(out: &mut [f32], all: &[f32; 151])
+fn put(out: &mut [f32], all: &[f32; FIGURES])
     requires { ⌜ length (now out) ≡ 151 ⌝ }
     ensures { λ _. ⌜ now (out .exit) ≡ fill (λ (k : ℕ). getD (now (all .entry)) k nan) 0 (now (out .entry)) 151 ⌝ }
 {
     let mut k = 0usize;
-    while k < 151 {
+    while k < FIGURES {
         out[k] = all[k];
         k += 1;
     }
@@ -64,10 +65,10 @@ fn put(out: &mut [f32], all: &[f32; 151])
 pub fn drawn(i: Inputs, f2: &[u8], file: &[u8], out: &mut [f32]) -> Shown
     ensures { λ r. ⌜ (r ≡ drawnOf (pair (now (f2 .entry)) (now (file .entry)) i) i (now (out .entry))) × (now (out .exit) ≡ drawnBuffer (pair (now (f2 .entry)) (now (file .entry)) i) i (now (out .entry))) ⌝ }
 {
-    if out.len() != 151 {
+    if out.len() != FIGURES {
         return Shown::Refused(Refusal::Figures);
     }
-    let mut all = [0.0f32; 151];
+    let mut all = [0.0f32; FIGURES];
     let shown = figures(i, f2, file, &mut all);
     match shown {
         Shown::Points(count) => {

@@ -7,7 +7,7 @@ use crate::functions::{Function, FUNCTIONS};
 use crate::generator::Generator;
 use crate::ranges::inside;
 use crate::specials::specials;
-use crate::voacap::con::{MagneticPole, D2R, PI, PI2, PIO2, R2D, RZ};
+use crate::voacap::con::{MagneticPole, D2R, DCL, GAMA, PI, PI2, PIO2, R2D, RZ, VOFL};
 use std::collections::HashSet;
 use std::fs;
 
@@ -72,7 +72,8 @@ fn inside_count(stem: &str) -> usize {
     }
 }
 
-fn constants() -> [f32; 8] {
+fn constants() -> [f32; 11] {
     let pole = MagneticPole::default();
-    [D2R, R2D, PI, PI2, PIO2, RZ, pole.lat_deg, pole.lon_deg]
+    let [lat, lon] = [pole.lat_deg, pole.lon_deg];
+    [D2R, R2D, PI, PI2, PIO2, RZ, VOFL, GAMA, DCL, lat, lon]
 }

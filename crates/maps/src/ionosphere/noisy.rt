@@ -1,4 +1,5 @@
 // NOISY: a two-variable Fourier map.
+use base::blend::PLANE;
 use base::elementary::cos32;
 use base::elementary::sin32;
 ghost use mathlib.Core.Path.{_≡_};
@@ -8,9 +9,6 @@ ghost use lib.Ieee.{nan};
 ghost use Rattle.base.specs.Single.{_⊕_, _⊗_};
 ghost use Rattle.base.specs.Elementary.{sin32Of, cos32Of};
 ghost use Rattle.maps.specs.Noisy.{inPlane, turnOf, sxOf, each, columnsOf, zzOf, latitudeSum, noisyOf};
-
-// The numbers of a plane `P(29,16)`, 16 rows of 29.
-pub const PLANE: usize = 464;
 
 // One plane, its rows one after the other.
 pub type Plane = [f32; PLANE];
