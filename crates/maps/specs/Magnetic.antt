@@ -1,8 +1,10 @@
--- magnetic.rs statement by statement, under its names. A table of 7 by 7 numbers that changes stands as one list, row after row. Assumes nothing.
+-- magnetic.rs under its names, in closed form: sines, powers and Legendre's functions by their recurrences, and the
+-- field as sums over them; each operation is one of the Rust's, in its order. What the private contracts say of its
+-- arrays stands at the end. Assumes nothing.
 use mathlib.Core.Bool.{cond}
 use mathlib.Core.List.{List, [], _∷_}
-use Prim.Native.Nat.{ℕ, _+_, _-_, _*_}
-use lib.Dec.{eqb}
+use Prim.Native.Nat.{ℕ, zero, suc, _+_, _-_, _*_}
+use lib.Dec.{eqb, leb}
 use lib.IntN.{pos}
 use lib.ListN.{getD, set, replicate}
 use lib.Ieee.{Float, nan, binary32, neg, lt, le, ofInt}
@@ -76,20 +78,6 @@ H =
 abbrev pub entry : List (List Float) → ℕ → ℕ → Float
 entry t n m = getD (getD t n []) m nan
 
--- CT[n], G[n] and H[n]
-unfoldable pub rowOf : ℕ → Row
-rowOf n = record { ct = getD CT n []; g = getD G n []; h = getD H n [] }
-
--- ---- arrays
-
--- a[m]
-abbrev pub at : List Float → ℕ → Float
-at l m = getD l m nan
-
--- t[n][m], where the rows stand one after the other
-abbrev pub at7 : List Float → ℕ → ℕ → Float
-at7 t n m = getD t (n * 7 + m) nan
-
 -- ---- the position
 
 -- p1 and p2, after `if p1 > RD { .. } else if p1 < -RD { .. }`
@@ -98,6 +86,125 @@ clampedOf lat eastLon =
     cond (lt RD (lat .0)) (record { p1 = record { 0 = RD }; p2 = record { 0 = o } })
     (cond (lt (lat .0) (neg RD)) (record { p1 = record { 0 = neg RD }; p2 = record { 0 = o } })
     (record { p1 = lat; p2 = eastLon }))
+
+-- sp[m] and cp[m], the sine and the cosine of m times phi, by the rule for the sum of two angles
+unfoldable mutual
+  pub spOf : Radians → ℕ → Float
+  spOf phi zero = o
+  spOf phi (suc zero) = sin32Of (phi .0)
+  spOf phi (suc (suc m)) = sin32Of (phi .0) ⊗ cpOf phi (suc m) ⊕ cos32Of (phi .0) ⊗ spOf phi (suc m)
+
+  pub cpOf : Radians → ℕ → Float
+  cpOf phi zero = decimal 10 1
+  cpOf phi (suc zero) = cos32Of (phi .0)
+  cpOf phi (suc (suc m)) = cos32Of (phi .0) ⊗ cpOf phi (suc m) ⊖ sin32Of (phi .0) ⊗ spOf phi (suc m)
+
+-- aor[n], the power n + 2 of the ratio ar
+unfoldable pub aorOf : Float → ℕ → Float
+aorOf ar zero = ar ⊗ ar
+aorOf ar (suc zero) = aorOf ar zero ⊗ ar
+aorOf ar (suc (suc n)) = ar ⊗ aorOf ar (suc n)
+
+-- ---- Legendre's functions, as Gauss normalised them
+
+-- c is the sine of the latitude, which is the cosine of the colatitude, and s the sine of the colatitude
+module _ (c s : Float) where
+  -- p[n][m]; 0 for m above n, where the Rust reads what it has never written
+  unfoldable pub pOf : ℕ → ℕ → Float
+  pOf zero m = cond (eqb m 0) (decimal 10 1) o
+  pOf (suc zero) m = cond (eqb m 0) c (cond (eqb m 1) (s ⊗ pOf zero zero) o)
+  pOf (suc (suc n)) m =
+      cond (leb m (suc n)) (c ⊗ pOf (suc n) m ⊖ entry CT (suc (suc n)) m ⊗ pOf n m)
+      (cond (eqb m (suc (suc n))) (s ⊗ pOf (suc n) (suc n)) o)
+
+  -- dp[n][m], its derivative by the colatitude; 0 for m above n too
+  unfoldable pub dpOf : ℕ → ℕ → Float
+  dpOf zero m = o
+  dpOf (suc zero) m = cond (eqb m 0) (neg s) (cond (eqb m 1) (s ⊗ dpOf zero zero ⊕ c ⊗ pOf zero zero) o)
+  dpOf (suc (suc n)) m =
+      cond (leb m (suc n))
+      (c ⊗ dpOf (suc n) m ⊖ s ⊗ pOf (suc n) m ⊖ entry CT (suc (suc n)) m ⊗ dpOf n m)
+      (cond (eqb m (suc (suc n))) (s ⊗ dpOf (suc n) (suc n) ⊕ c ⊗ pOf (suc n) (suc n)) o)
+
+-- ---- the series
+
+-- ts of the degree n and the order m
+unfoldable pub tsOf : Radians → ℕ → ℕ → Float
+tsOf phi n m = entry G n m ⊗ cpOf phi m ⊕ entry H n m ⊗ spOf phi m
+
+module _ (c s : Float) (phi : Radians) where
+  -- sumr, sumt and sump of the degree n: for m in 0..=n, from 0.0
+  unfoldable pub sumrOf : ℕ → Float
+  sumrOf n = loop 0 (n + 1) (λ m sumr. sumr ⊕ pOf c s n m ⊗ tsOf phi n m) o
+
+  unfoldable pub sumtOf : ℕ → Float
+  sumtOf n = loop 0 (n + 1) (λ m sumt. sumt ⊕ dpOf c s n m ⊗ tsOf phi n m) o
+
+  unfoldable pub sumpOf : ℕ → Float
+  sumpOf n =
+      loop 0 (n + 1)
+      (λ m sump.
+      sump ⊕ ofInt binary32 (pos m) ⊗ pOf c s n m ⊗ (neg (entry G n m) ⊗ spOf phi m ⊕ entry H n m ⊗ cpOf phi m))
+      o
+
+  -- bv, bn and bphi: for n in 1..7, from 0.0
+  unfoldable pub bvOf : Float → Float
+  bvOf ar = loop 1 7 (λ n bv. bv ⊕ aorOf ar n ⊗ ofInt binary32 (pos (n + 1)) ⊗ sumrOf n) o
+
+  unfoldable pub bnOf : Float → Float
+  bnOf ar = loop 1 7 (λ n bn. bn ⊖ aorOf ar n ⊗ sumtOf n) o
+
+  unfoldable pub bphiOf : Float → Float
+  bphiOf ar = loop 1 7 (λ n bphi. bphi ⊖ aorOf ar n ⊗ sumpOf n) o
+
+-- ---- the field, the gyrofrequency and the dip angle
+
+-- [-bv, bn, -bphi / s], where c is p1.sin(), s is (1.0 - c * c).sqrt(), and ar the ratio of the radii
+unfoldable pub magfinOf : Radians → Radians → Float → Une
+magfinOf lat eastLon heightM =
+    let q = clampedOf lat eastLon in
+    let ar = HC ⊘ (HC ⊕ heightM) in
+    let c = sin32Of (q .p1 .0) in
+    let s = sqrtOf binary32 (decimal 10 1 ⊖ c ⊗ c) in
+    record { up = neg (bvOf c s (q .p2) ar); north = bnOf c s (q .p2) ar; east = neg (bphiOf c s (q .p2) ar) ⊘ s }
+
+-- if lon < 0.0 { c360 + lon } else { lon }, where c360 is 360.0 * D2R
+unfoldable pub eastOf : Radians → Radians
+eastOf lon =
+    let c360 = radiansOf (record { 0 = decimal 3600 1 }) in
+    cond (lt (lon .0) o) (record { 0 = c360 .0 ⊕ lon .0 }) lon
+
+-- lat.cos(), and 0.000001 if it is no more than that
+unfoldable pub gobOf : Radians → Float
+gobOf lat = let gob = cos32Of (lat .0) in cond (le gob (decimal 1 6)) (decimal 1 6) gob
+
+-- gyz, gmdip and east_lon. gmdip is Rawer's modified dip mu: tan(mu) = I / sqrt(cos lat), where I is the dip.
+unfoldable pub magvarOf : Radians → Radians → MagneticVars
+magvarOf lat lon =
+    let eastLon = eastOf lon in
+    let une = magfinOf lat eastLon (decimal 3000000 1) in
+    let hhm = sqrtOf binary32 (une .up ⊗ une .up ⊕ une .north ⊗ une .north ⊕ une .east ⊗ une .east) in
+    let tmp = une .north ⊗ une .north ⊕ une .east ⊗ une .east in
+    let dip = atan32Of (neg (une .up) ⊘ sqrtOf binary32 tmp) in
+    let gmdip = atan32Of (dip ⊘ sqrtOf binary32 (gobOf lat)) in
+    record { gyz = decimal 28 1 ⊗ hhm; gmdip = record { 0 = gmdip }; «east_lon» = eastLon }
+
+-- ---- the arrays on the way: nothing below need be believed
+
+-- Only private contracts and proofs use what follows; that the arrays hold the functions above is proofs/FieldSums.antt.
+-- A table of 7 by 7 numbers that changes stands as one list, row after row.
+
+-- CT[n], G[n] and H[n]
+unfoldable pub rowOf : ℕ → Row
+rowOf n = record { ct = getD CT n []; g = getD G n []; h = getD H n [] }
+
+-- a[m]
+abbrev pub at : List Float → ℕ → Float
+at l m = getD l m nan
+
+-- t[n][m], where the rows stand one after the other
+abbrev pub at7 : List Float → ℕ → ℕ → Float
+at7 t n m = getD t (n * 7 + m) nan
 
 -- the stores to sp[m] and cp[m]
 unfoldable pub multipleOf : ℕ → Multiples → Multiples
@@ -138,8 +245,6 @@ placedOf lat eastLon heightM =
       cp = v .cp;
       aor = powersOf ar;
     }
-
--- ---- the expansion
 
 -- p[n][m] and dp[n][m], where ct is CT[n][m]
 unfoldable pub elementOf : Float → Float → Float → ℕ → ℕ → List Float → List Float → Element
@@ -195,32 +300,3 @@ expansionOf x =
     loop 1 7 (degreeOf x)
     (state (set (replicate 49 o) 0 (decimal 10 1)) (replicate 49 o) (record { bv = o; bn = o; bphi = o }))
     .sums
-
--- ---- the field, the gyrofrequency and the dip angle
-
--- [-bv, bn, -bphi / s]
-unfoldable pub magfinOf : Radians → Radians → Float → Une
-magfinOf lat eastLon heightM =
-    let x = placedOf lat eastLon heightM in
-    let b = expansionOf x in
-    record { up = neg (b .bv); north = b .bn; east = neg (b .bphi) ⊘ x .s }
-
--- if lon < 0.0 { c360 + lon } else { lon }, where c360 is 360.0 * D2R
-unfoldable pub eastOf : Radians → Radians
-eastOf lon =
-    let c360 = radiansOf (record { 0 = decimal 3600 1 }) in
-    cond (lt (lon .0) o) (record { 0 = c360 .0 ⊕ lon .0 }) lon
-
--- lat.cos(), and 0.000001 if it is no more than that
-unfoldable pub gobOf : Radians → Float
-gobOf lat = let gob = cos32Of (lat .0) in cond (le gob (decimal 1 6)) (decimal 1 6) gob
-
--- gyz, gmdip and east_lon
-unfoldable pub magvarOf : Radians → Radians → MagneticVars
-magvarOf lat lon =
-    let eastLon = eastOf lon in
-    let une = magfinOf lat eastLon (decimal 3000000 1) in
-    let hhm = sqrtOf binary32 (une .up ⊗ une .up ⊕ une .north ⊗ une .north ⊕ une .east ⊗ une .east) in
-    let tmp = une .north ⊗ une .north ⊕ une .east ⊗ une .east in
-    let gmdip = atan32Of (atan32Of (neg (une .up) ⊘ sqrtOf binary32 tmp) ⊘ sqrtOf binary32 (gobOf lat)) in
-    record { gyz = decimal 28 1 ⊗ hhm; gmdip = record { 0 = gmdip }; «east_lon» = eastLon }

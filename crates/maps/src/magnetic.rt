@@ -369,7 +369,7 @@ pub fn magfin(lat: Radians, east_lon: Radians, height_m: f32) -> Une
     }
 }
 
-// Gyrofrequency, MHz; Rawer magnetic dip angle; the point's longitude as an east longitude.
+// Gyrofrequency, MHz; Rawer's modified dip angle; the point's longitude as an east longitude.
 pub struct MagneticVars {
     pub gyz: f32,
     pub gmdip: Radians,
@@ -396,8 +396,7 @@ fn gob(lat: Radians) -> f32
     if cosine <= 0.000001 { 0.000001 } else { cosine }
 }
 
-// Gyrofrequency and dip angle at a control point, from the field at 300 km over it. The dip is an
-// arc tangent of an arc tangent, as the Rust has it.
+// Gyrofrequency and dip angle at a control point, from the field at 300 km over it.
 pub fn magvar(lat: Radians, lon: Radians) -> MagneticVars
     ensures { λ r. ⌜ r ≡ magvarOf lat lon ⌝ }
 {
@@ -408,6 +407,7 @@ pub fn magvar(lat: Radians, lon: Radians) -> MagneticVars
     let hhm = sqrt32(une.up * une.up + nn + ee);
     let tmp = nn + ee;
     let dip = atan32(-une.up / sqrt32(tmp));
+    // Rawer's modified dip mu: tan(mu) = I / sqrt(cos lat), where I is the dip.
     let gmdip = atan32(dip / sqrt32(gob(lat)));
     MagneticVars {
         gyz: 2.8 * hhm,
