@@ -5,6 +5,7 @@ use mathlib.Core.List.{List}
 use Prim.Native.Nat.{ℕ, zero, suc, _+_, _-_, _*_, _≤_, _<_}
 use native.Mathlib.Nat.{add-zero}
 use native.Mathlib.Omega.{arith}
+use lib.Dec.{lit<}
 use lib.ListN.{getD}
 use lib.Ieee.{Float, nan}
 use Rattle.base.specs.declared.refusal.Verdict.the-variants.{Accepted}
@@ -18,7 +19,7 @@ use Rattle.base.specs.Blend.{IC, cofionOf, coefficientOf}
 use Rattle.base.proofs.Indexing.{good-index}
 use Rattle.base.proofs.TableEntries.{index-entry, row-waves, cofion-entry}
 use Rattle.maps.specs.Virtim.{GoodTable, hourWave, dailyOf, coefficientIn, virtimOf}
-use Rattle.maps.specs.Versy.{geographicOf, gammaOf, seriesOf, versyOf}
+use Rattle.maps.specs.Versy.{geographicOf, gammaOf, seriesOf, versyOf, gammasOf}
 use Rattle.maps.specs.Series.{mapSeriesOf, omegaOf}
 use Rattle.maps.specs.Ionosphere.{hourMapsOf}
 use Rattle.maps.proofs.GeographicFunctions.{geographic-same}
@@ -98,3 +99,24 @@ module _ (f2 month : List ℕ) (ssn gmt x clg gob : Float) (passed : indexCheck 
       map-series (cofionOf f2 month ssn) (indexOf month) gmt x clg gob (good-index month passed) k h
       ∙ blended-series
       ∙ omega-same (coefficientOf f2 month ssn k) _ _ gmt x clg gob (λ i l. index-entry month k i h l)
+
+-- the six maps of a place, as `versy` gives them
+module _ (f2 month : List ℕ) (ssn gmt dip lat clg gob : Float) (passed : indexCheck month ≡ Accepted) where
+  abbrev Omega : ℕ → Float → Float
+  Omega k x = omegaOf (coefficientOf f2 month ssn k) (λ i. wordAt month (entryPlace ikim i k 0)) gmt x clg gob
+
+  pub six-series :
+      gammasOf (hourMapsOf f2 month ssn gmt) (indexOf month) dip lat clg gob
+      ≡
+      record { g1 = Omega 0 dip; g2 = Omega 1 dip; g3 = Omega 2 dip; g4 = Omega 3 dip; g5 = Omega 4 dip; g6 = Omega 5 lat }
+  unfolding gammasOf
+  six-series =
+      λ t.
+      record {
+        g1 = report-340 f2 month ssn gmt dip clg gob passed 0 (lit< tt) t;
+        g2 = report-340 f2 month ssn gmt dip clg gob passed 1 (lit< tt) t;
+        g3 = report-340 f2 month ssn gmt dip clg gob passed 2 (lit< tt) t;
+        g4 = report-340 f2 month ssn gmt dip clg gob passed 3 (lit< tt) t;
+        g5 = report-340 f2 month ssn gmt dip clg gob passed 4 (lit< tt) t;
+        g6 = report-340 f2 month ssn gmt lat clg gob passed 5 (lit< tt) t;
+      }
