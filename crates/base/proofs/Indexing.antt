@@ -1,11 +1,12 @@
 -- A month file that passes the index check gives, for each map, a ladder within 75, terms within the map's rows and harmonics
 -- within its own, so that every index that `virtim` and `versy` make of them is inside its array. Assumes nothing.
-use mathlib.Core.Path.{_≡_, refl, sym, ap, _∙_}
+use mathlib.Core.Path.{_≡_, refl, sym, ap, _∙_, subst}
 use mathlib.Core.Bool.{Bool, true, false, cond}
 use mathlib.Core.List.{List}
 use mathlib.Core.Logic.{_⊎_, inl, inr}
 use Prim.Native.Nat.{ℕ, zero, suc, _+_, _-_, _*_, _%_, _^_, _≤_, _<_}
 use native.Mathlib.Nat.{add-zero, zero-add}
+use native.Mathlib.Numerals.{add-one}
 use native.Mathlib.Omega.{arith}
 use lib.IntN.{ℤ, pos}
 use lib.ListN.{getD}
@@ -13,7 +14,7 @@ use Rattle.base.specs.declared.refusal.Verdict.the-variants.{Accepted, R
 use Rattle.base.specs.declared.refusal.Refusal.the-variants.{Index}
 use Rattle.base.specs.Number.{signedOf}
 use Rattle.base.specs.Words.{integerAt}
-use Rattle.base.specs.Index.{ikimAt, indexOf, mapWord, rows, harmonics, goodMap, lowestBad, indexCheck, Climbs, top, level, up, GoodIndex}
+use Rattle.base.specs.Index.{ikimAt, indexOf, mapWord, rows, harmonics, goodMap, lowestBad, indexCheck, Climbs, top, level, up, GoodIndex, Reaches}
 use Rattle.base.specs.Blend.{IA, IB, IC}
 use Rattle.base.proofs.Fills.{run-at}
 use Rattle.base.proofs.Records.{refused-accepted}
@@ -60,7 +61,7 @@ climbs-same w v (suc n) j f h (up a b d c) =
     let e : (v (j + 1) - v j) % 2 ≡ (w (j + 1) - w j) % 2 = ap (λ (t : ℕ). (t - v j) % 2) y ∙ ap (λ (t : ℕ). (w (j + 1) - t) % 2) x in
     up {n = n} {j = j} (omega arith) (e ∙ b) (omega arith) (climbs-same w v n (j + 1) f (omega arith) c)
 
-index-word : (month : List ℕ) (k j : ℕ) → k < 6 → j < 10 → mapWord (indexOf month) k j ≡ mapWords month k j
+pub index-word : (month : List ℕ) (k j : ℕ) → k < 6 → j < 10 → mapWord (indexOf month) k j ≡ mapWords month k j
 unfolding indexOf
 index-word month k j h l = run-at _ 60 (k * 10 + j) 0 (omega arith)
 
@@ -93,6 +94,38 @@ pub climbs-cases :
 climbs-cases (level e) = inl e
 climbs-cases (up a b d c) = inr (a, b, d, c)
 
+-- a word that the ladder reaches: it is at most 75 if word 0 is, what follows climbs on, and the next word, if it is another, is above it
+pub record Reached (w : ℕ → ℕ) (j : ℕ) : Type 0 where
+  pub most : w 0 ≤ 75 → w j ≤ 75
+  pub on : Climbs w (8 - j) j
+  pub rises : j < 8 → (w (j + 1) ≡ w j → ⊥) → w j < w (j + 1)
+
+module _ (w : ℕ → ℕ) where
+  rung-from : (n j : ℕ) → n ≡ 8 - j → (w 0 ≤ 75 → w j ≤ 75) → Climbs w n j → Reached w j
+  rung-from n j e m c =
+      record {
+        most = m;
+        on = subst (λ (x : ℕ). Climbs w x j) e c;
+        rises = λ h d. go n e c h d;
+      }
+    where
+      go : (n : ℕ) → n ≡ 8 - j → Climbs w n j → j < 8 → (w (j + 1) ≡ w j → ⊥) → w j < w (j + 1)
+      go zero e top h d = absurd (omega arith)
+      go (suc n) e (level l) h d = absurd (d l)
+      go (suc n) e (up a b m c) h d = omega arith
+
+  next-rung : (n j : ℕ) → suc n ≡ 8 - j → Climbs w (suc n) j → (w (j + 1) ≡ w j → ⊥) → Reached w (j + 1)
+  next-rung n j e (level l) d = absurd (d l)
+  next-rung n j e (up a b m c) d = rung-from n (j + 1) (omega arith) (λ z. m) c
+
+  -- every word that the ladder reaches
+  pub rungs : Climbs w 8 0 → (j : ℕ) → j ≤ 8 → Reaches w j → Reached w j
+  rungs c zero h r = rung-from 8 0 refl (λ m. m) c
+  rungs c (suc j) h r =
+      let g = rungs c j (omega arith) (λ i l. r i (omega arith)) in
+      let e : suc (7 - j) ≡ 8 - j = omega arith in
+      subst (Reached w) (add-one j) (next-rung (7 - j) j e (subst (λ (x : ℕ). Climbs w x j) (sym e) (g .on)) (r j (omega arith)))
+
 -- ---- the indices
 
 -- `virtim` reads the row j of the map k up to the harmonic h: `cof[isubc]`, the last of them, lies in the map's own run of COFION and so
@@ -121,9 +154,10 @@ module _ (month : List ℕ) (passed : indexCheck month ≡ Accepted) (k : ℕ) (
       (j i : ℕ) → j < mapWord (indexOf month) k 8 + 1 → i ≤ mapWord (indexOf month) k 9 → VirtimInside k j i
   virtim-inside j i a b = let g = good-index month passed k h in reads-inside k h j i (omega arith) (omega arith)
 
-  -- `versy`'s basis has 76 places: the powers up to word 0, and the terms up to word 8; a step of the ladder has its own bound
-  pub versy-inside : (mapWord (indexOf month) k 0 < 76) × (mapWord (indexOf month) k 8 < 76)
+  -- `versy`'s basis has 76 places: at every rung of the ladder it is written up to that word, and it is read up to word 8
+  pub versy-inside :
+      ((j : ℕ) → j ≤ 8 → Reaches (mapWord (indexOf month) k) j → mapWord (indexOf month) k j < 76) × (mapWord (indexOf month) k 8 < 76)
   versy-inside =
       let g = good-index month passed k h in
       let l = limits k h in
-      (omega arith, omega arith)
+      (λ j n r. let m = rungs (mapWord (indexOf month) k) (g .climbing) j n r .most (g .high) in omega arith, omega arith)

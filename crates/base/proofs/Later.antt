@@ -17,7 +17,7 @@ use Rattle.base.specs.Number.{signedOf}
 use Rattle.base.specs.Fill.{run}
 use Rattle.base.specs.Words.{wordOf, wordAt, integerAt, floatAt}
 use Rattle.base.specs.MonthFile.{recordSize, monthFileSize, sizes, Four, marker, anything, layout, isRight, walk, monthFileCheck}
-use Rattle.base.specs.Tables.{placeOf, planeOf, f2Plane, wordsOf, ikim, fakmap, xfm3cf, xesmcf, xpmap, xeslcf, xesucf, xercof}
+use Rattle.base.specs.Tables.{placeOf, planeOf, wordsOf, xf2cof, ikim, fakmap, xfm3cf, xesmcf, xpmap, xeslcf, xesucf, xercof}
 use Rattle.base.specs.Index.{rows, harmonics, isTo, equals, exceeds, climbs, goodMap, ikimPlace, ikimAt, lowestBad, indexCheck, indexOf}
 use Rattle.base.specs.Blend.{blendOf, blendAt, blendTable, f2Weights, eWeights, heightWeights, eslcofOf, esmcofOf, esucofOf, f2cofOf, fm3cofOf, ercofOf, hmymOf, fakmapOf, appended, cofionOf}
 
@@ -154,7 +154,7 @@ module _ (s t : List ℕ) (a : Alike monthFileSize s t) where
   module _ (f g : List ℕ) (b : Alike recordSize f g) where
     f2-alike : (x : Float) → f2cofOf f x ≡ f2cofOf g x
     unfolding f2cofOf
-    f2-alike x = blend-alike recordSize f g b 0 f2Plane (f2Weights x) (lit≤ tt)
+    f2-alike x = blend-alike recordSize f g b (placeOf xf2cof) (planeOf xf2cof) (f2Weights x) (lit≤ tt)
 
     pub cofion-alike : (x : Float) → cofionOf f s x ≡ cofionOf g t x
     unfolding cofionOf eslcofOf esmcofOf esucofOf fm3cofOf ercofOf

@@ -32,6 +32,7 @@ pub mod Parts
 pub mod Ladders
 pub mod Indexing
 pub mod Maps
+pub mod TableEntries
 pub mod Points
 pub mod Blends
 pub mod Later

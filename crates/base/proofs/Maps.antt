@@ -10,7 +10,7 @@ use lib.Seq.{getD-append-add}
 use Rattle.base.specs.declared.blend.Weights.{Weights}
 use Rattle.base.specs.Fill.{fill, run}
 use Rattle.base.specs.Blend.{blendAt, blendTable, f2Weights, eWeights, heightWeights, eslcofOf, esmcofOf, esucofOf, f2cofOf, fm3cofOf, ercofOf, hmymOf, cofionMaps, appended, cofionOf, IA, IB}
-use Rattle.base.specs.Tables.{placeOf, planeOf, f2Plane, xfm3cf, xesmcf, xpmap, xeslcf, xesucf, xercof}
+use Rattle.base.specs.Tables.{placeOf, planeOf, xf2cof, xfm3cf, xesmcf, xpmap, xeslcf, xesucf, xercof}
 use Rattle.base.specs.Index.{rows}
 use Rattle.base.proofs.Fills.{fill-run, fill-all, length-run}
 use Rattle.base.proofs.Ladders.{six}
@@ -47,12 +47,9 @@ filled {base} {rest} {xs} {l} f n s e =
 pub whole : {base : ℕ} {xs l : List Float} → Starts base 0 xs l → l ≡ xs
 whole {base} {xs} s = s .is ∙ ap (λ (x : List Float). xs ++ x) (empty (s .others) (s .after)) ∙ append-nil xs
 
--- the elements that a call of `blend` makes of a table of the month file
+-- the elements that a call of `blend` makes of a table
 abbrev tableBlend : ℕ → Weights → List ℕ → ℕ → Float
-tableBlend number w month = blendAt month (placeOf number) (planeOf number) w
-
-abbrev f2Blend : Weights → List ℕ → ℕ → Float
-f2Blend w f2 = blendAt f2 0 f2Plane w
+tableBlend number w file = blendAt file (placeOf number) (planeOf number) w
 
 -- the six calls of `cofion_of`
 module _
@@ -61,14 +58,14 @@ module _
     (e1 : o1 ≡ fill (tableBlend xeslcf we month) 0 o0 (planeOf xeslcf))
     (e2 : o2 ≡ fill (tableBlend xesmcf we month) 275 o1 (planeOf xesmcf))
     (e3 : o3 ≡ fill (tableBlend xesucf we month) 702 o2 (planeOf xesucf))
-    (e4 : o4 ≡ fill (f2Blend wf f2) 977 o3 f2Plane)
+    (e4 : o4 ≡ fill (tableBlend xf2cof wf f2) 977 o3 (planeOf xf2cof))
     (e5 : o5 ≡ fill (tableBlend xfm3cf wf month) 1965 o4 (planeOf xfm3cf))
     (e6 : o6 ≡ fill (tableBlend xercof we month) 2406 o5 (planeOf xercof))
   where
     abbrev runs : Weights → Weights → List Float
     runs wf we =
         ((((([] ++ blendTable xeslcf we month) ++ blendTable xesmcf we month) ++ blendTable xesucf we month)
-        ++ run (f2Blend wf f2) f2Plane)
+        ++ blendTable xf2cof wf f2)
         ++ blendTable xfm3cf wf month)
         ++ blendTable xercof we month
 
@@ -77,7 +74,7 @@ module _
         whole
         (filled (tableBlend xercof we month) (planeOf xercof)
         (filled (tableBlend xfm3cf wf month) (planeOf xfm3cf)
-        (filled (f2Blend wf f2) f2Plane
+        (filled (tableBlend xf2cof wf f2) (planeOf xf2cof)
         (filled (tableBlend xesucf we month) (planeOf xesucf)
         (filled (tableBlend xesmcf we month) (planeOf xesmcf)
         (filled (tableBlend xeslcf we month) (planeOf xeslcf) (start o0 2604 all) e1) e2) e3) e4) e5) e6)
@@ -131,9 +128,9 @@ module _ (f2 month : List ℕ) (s : Float) where
   unfolding esucofOf
   length-esucof = length-run _ (planeOf xesucf)
 
-  length-f2cof : length (f2cofOf f2 s) ≡ f2Plane
+  length-f2cof : length (f2cofOf f2 s) ≡ planeOf xf2cof
   unfolding f2cofOf
-  length-f2cof = length-run _ f2Plane
+  length-f2cof = length-run _ (planeOf xf2cof)
 
   length-fm3cof : length (fm3cofOf month s) ≡ planeOf xfm3cf
   unfolding fm3cofOf

@@ -1,8 +1,8 @@
 -- Table: what is refused, what is known where nothing is, and that the part handed back lies in the file that holds it, by one test over all the places. Assumes nothing.
 use mathlib.Core.Path.{_≡_, refl, sym, ap, _∙_}
 use mathlib.Core.Bool.{Bool, true, false, cond}
-use mathlib.Core.List.{List, _∷_, map}
-use Prim.Native.Nat.{ℕ, _+_, _≤_, _<_}
+use mathlib.Core.List.{List, map}
+use Prim.Native.Nat.{ℕ, _+_, _*_, _≤_, _<_}
 use native.Mathlib.Omega.{arith}
 use native.Mathlib.Decide.{decLt}
 use lib.Dec.{leb, leb→le}
@@ -15,7 +15,7 @@ use Rattle.base.specs.declared.refusal.Verdict.{Verdict}
 use Rattle.base.specs.declared.refusal.Verdict.the-variants.{Accepted, Refused}
 use Rattle.base.specs.Refusal.{verdictReport}
 use Rattle.base.specs.MonthFile.{recordSize, monthFileSize, Part, emptyPart, accepted, monthFileCheck}
-use Rattle.base.specs.Tables.{tables, f2Planes, bytesIn, partOf, tableCheck, tablePart, tableFile}
+use Rattle.base.specs.Tables.{Table, wordsIn, endOf, numbered, absent, bytesIn, partOf, tableCheck, tablePart, tableFile}
 use Rattle.base.proofs.Entries.{at as entry}
 use Rattle.base.proofs.Picks.{cond-true, cond-false}
 use Rattle.base.proofs.Records.{refused-accepted}
@@ -67,14 +67,11 @@ module _ (k : ℕ) (f m : List ℕ) where
 
 -- ---- the places
 
-abbrev parts : List Part
-parts = f2Planes ∷ map bytesIn tables
-
 abbrev ends : List ℕ
-ends = map (λ (p : Part). p .from + p .size) parts
+ends = map endOf numbered
 
 abbrev bytes : List ℕ
-bytes = map (λ (p : Part). p .size) parts
+bytes = map (λ (t : Table). 4 * wordsIn t) numbered
 
 ends-within : ℕ → ℕ → Bool
 ends-within k e = leb e monthFileSize
@@ -91,8 +88,8 @@ pub record Placed (k : ℕ) : Type 0 where
 pub placed : (k : ℕ) → k ≤ 20 → Placed k
 unfolding partOf ends-within some-bytes
 placed k h =
-    let e : getD ends k 0 ≡ partOf k .from + partOf k .size = List·getD-map (λ (p : Part). p .from + p .size) parts k emptyPart in
-    let z : getD bytes k 0 ≡ partOf k .size = List·getD-map (λ (p : Part). p .size) parts k emptyPart in
+    let e : getD ends k 0 ≡ partOf k .from + partOf k .size = List·getD-map endOf numbered k absent in
+    let z : getD bytes k 0 ≡ partOf k .size = List·getD-map (λ (t : Table). 4 * wordsIn t) numbered k absent in
     let i : getD ends k 0 ≤ monthFileSize = leb→le (getD ends k 0) monthFileSize (entry ends-within ends tt k (omega arith)) in
     let n : 8 ≤ getD bytes k 0 = leb→le 8 (getD bytes k 0) (entry some-bytes bytes tt k (omega arith)) in
     record {
@@ -103,7 +100,7 @@ placed k h =
 
 pub no-part : (k : ℕ) → 20 < k → partOf k ≡ emptyPart
 unfolding partOf
-no-part k h = List·getD-eq-default parts _ {n = k} (omega arith)
+no-part k h = ap bytesIn (List·getD-eq-default numbered absent {n = k} (omega arith))
 
 -- ---- what is handed back
 

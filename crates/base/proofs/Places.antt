@@ -6,7 +6,7 @@ use Prim.Native.Nat.{ℕ, _+_}
 use lib.Dec.{T, leb, eqb, leb→le, eqb→eq}
 use lib.ListN.{length}
 use Rattle.base.specs.MonthFile.{recordSize, monthFileSize, sizes}
-use Rattle.base.specs.Tables.{f2Planes, Table, tables, tablesByRecord, endOf, bytesOf, Packed, PackedRecords}
+use Rattle.base.specs.Tables.{Table, tables, tablesByRecord, xf2cof, partOf, endOf, bytesOf, Packed, PackedRecords}
 use Rattle.base.proofs.Entries.{both, both-left, both-right}
 
 abbrev packed : ℕ → ℕ → List Table → Bool
@@ -48,5 +48,6 @@ pub twenty-tables : length tables ≡ 20
 twenty-tables = refl
 
 -- an F2 record is its planes and nothing else
-pub planes-fill : f2Planes .size ≡ recordSize
+pub planes-fill : partOf xf2cof ≡ record { from = 0; size = recordSize }
+unfolding partOf
 planes-fill = refl

@@ -1,12 +1,13 @@
 -- Document 01, Blend: the maps at a sunspot number, from their two planes. Assumes nothing.
 use Prim.Native.Nat.{ℕ, _+_, _*_}
 use mathlib.Core.List.{List, [], _∷_, _++_}
+use lib.ListN.{getD}
 use lib.Ieee.{Float}
 use Rattle.base.specs.declared.blend.Weights.{Weights}
 use Rattle.base.specs.Single.{_⊕_, _⊖_, _⊗_, _⊘_, decimal}
 use Rattle.base.specs.Fill.{run}
 use Rattle.base.specs.Words.{floatAt}
-use Rattle.base.specs.Tables.{placeOf, wordsOf, planeOf, f2Plane, fakmap, xfm3cf, xesmcf, xpmap, xeslcf, xesucf, xercof}
+use Rattle.base.specs.Tables.{placeOf, wordsOf, planeOf, holding, entryPlace, xf2cof, fakmap, xfm3cf, xesmcf, xpmap, xeslcf, xesucf, xercof}
 
 -- ---- the blend
 
@@ -32,9 +33,9 @@ blendAt file at width w i = blendOf w (floatAt file (at + 4 * i)) (floatAt file 
 
 -- ---- the maps, in the order of the Rust's storage
 
--- the two planes of a table of the month file, blended
+-- the two planes of a table, blended; the file is the one that holds it
 abbrev pub blendTable : ℕ → Weights → List ℕ → List Float
-blendTable number w month = run (blendAt month (placeOf number) (planeOf number) w) (planeOf number)
+blendTable number w file = run (blendAt file (placeOf number) (planeOf number) w) (planeOf number)
 
 unfoldable pub eslcofOf : List ℕ → Float → List Float
 eslcofOf month s = blendTable xeslcf (eWeights s) month
@@ -46,7 +47,7 @@ unfoldable pub esucofOf : List ℕ → Float → List Float
 esucofOf month s = blendTable xesucf (eWeights s) month
 
 unfoldable pub f2cofOf : List ℕ → Float → List Float
-f2cofOf f2 s = run (blendAt f2 0 f2Plane (f2Weights s)) f2Plane
+f2cofOf f2 s = blendTable xf2cof (f2Weights s) f2
 
 unfoldable pub fm3cofOf : List ℕ → Float → List Float
 fm3cofOf month s = blendTable xfm3cf (f2Weights s) month
@@ -92,3 +93,22 @@ IB = 5 ∷ 7 ∷ 5 ∷ 13 ∷ 9 ∷ 9 ∷ []
 -- IC: where the rows of each map begin among the 318, counted from 1
 abbrev pub IC : List ℕ
 IC = 1 ∷ 56 ∷ 117 ∷ 172 ∷ 248 ∷ 297 ∷ []
+
+-- ---- a map's coefficient by its entries
+
+-- the tables of the six maps, in the order of `cofion`
+abbrev pub mapTables : List ℕ
+mapTables = xeslcf ∷ xesmcf ∷ xesucf ∷ xf2cof ∷ xfm3cf ∷ xercof ∷ []
+
+-- and their weights
+abbrev pub mapWeights : Float → List Weights
+mapWeights s = eWeights s ∷ eWeights s ∷ eWeights s ∷ f2Weights s ∷ f2Weights s ∷ eWeights s ∷ []
+
+-- the coefficient i of the row j of the map k, counted from 0: the entries [0][j][i] and [1][j][i] of its table, blended
+unfoldable pub coefficientOf : List ℕ → List ℕ → Float → ℕ → ℕ → ℕ → Float
+coefficientOf f2 month s k i j =
+    let number = getD mapTables k 0 in
+    let file = holding number f2 month in
+    blendOf (getD (mapWeights s) k (eWeights s))
+    (floatAt file (entryPlace number i j 0))
+    (floatAt file (entryPlace number i j 1))

@@ -86,6 +86,10 @@ pub record GoodIndex (w : ℕ → ℕ) (rows harmonics : ℕ) : Type 0 where
   pub terms : w 8 < rows
   pub waves : w 9 ≤ harmonics
 
+-- the ladder goes as far as its word j: none of its words up to there equals its predecessor
+abbrev pub Reaches : (ℕ → ℕ) → ℕ → Type 0
+Reaches w j = (i : ℕ) → i < j → w (i + 1) ≡ w i → ⊥
+
 -- the word j of the map k among the 60
 abbrev pub mapWord : List ℕ → ℕ → ℕ → ℕ
 mapWord index k j = getD index (k * 10 + j) 0

@@ -1,8 +1,9 @@
--- The 20 tables of the month file: where each stands, from the records' sizes and the shapes of the Rust's arrays; and document 01's Table. Assumes nothing.
+-- The 20 tables of the month file and, as number 0, the planes of the F2 record: where each stands, from the records' sizes and the shapes
+-- of the Rust's arrays, and where each entry of its array; and document 01's Table. Assumes nothing.
 use mathlib.Core.Path.{_≡_}
-use Prim.Native.Nat.{ℕ, _+_, _-_, _*_, _/_, _≤_}
+use Prim.Native.Nat.{ℕ, _+_, _*_, _/_, _≤_, _<_}
 use mathlib.Core.Bool.{cond}
-use mathlib.Core.List.{List, [], _∷_, _++_, map}
+use mathlib.Core.List.{List, [], _∷_, _++_}
 use lib.Dec.{leb, eqb}
 use lib.ListN.{length, getD}
 use denote.Ref.{RefT, now}
@@ -36,22 +37,28 @@ shapes =
     ∷ ((9 ∷ 22 ∷ 2 ∷ []) ∷ [])
     ∷ []
 
+-- the F2 record is `XF2COF(13,76,2)` and nothing else
+abbrev pub f2Shape : List ℕ
+f2Shape = 13 ∷ 76 ∷ 2 ∷ []
+
 -- ---- places
 
--- a table: its first byte, the words of a row (the innermost dimension) and all its words
+-- a table: its first byte in its file, and the dimensions of its array, the innermost first
 pub record Table : Type 0 where
   pub from : ℕ
-  pub width : ℕ
-  pub words : ℕ
+  pub shape : List ℕ
 
 abbrev pub product : List ℕ → ℕ
 product [] = 1
 product (n ∷ ns) = n * product ns
 
+abbrev pub wordsIn : Table → ℕ
+wordsIn t = product (t .shape)
+
 -- the tables of a record whose body starts at `at`, one after the other
 abbrev pub inRecord : ℕ → List (List ℕ) → List Table
 inRecord at [] = []
-inRecord at (d ∷ ds) = record { from = at; width = getD d 0 0; words = product d } ∷ inRecord (at + 4 * product d) ds
+inRecord at (d ∷ ds) = record { from = at; shape = d } ∷ inRecord (at + 4 * product d) ds
 
 -- those of each record, the first one's marker being at `at`: a record's body stands between two markers
 abbrev pub inRecords : ℕ → List ℕ → List (List (List ℕ)) → List (List Table)
@@ -69,34 +76,37 @@ joined (ts ∷ rs) = ts ++ joined rs
 abbrev pub tables : List Table
 tables = joined tablesByRecord
 
--- the F2 record is `XF2COF(13,76,2)` and nothing else
-abbrev pub f2Shape : List ℕ
-f2Shape = 13 ∷ 76 ∷ 2 ∷ []
-
--- the words of one of its two planes
-abbrev pub f2Plane : ℕ
-f2Plane = product f2Shape / 2
-
 -- ---- by number
 
--- the table of a number, '1 to 20 (`ikim` to `xercof` in file order)'
+-- 'number 0 (F2 planes)', then '1 to 20 (`ikim` to `xercof` in file order)'
+abbrev pub numbered : List Table
+numbered = record { from = 0; shape = f2Shape } ∷ tables
+
+-- a number above 20 has no words
+abbrev pub absent : Table
+absent = record { from = 0; shape = 0 ∷ [] }
+
 abbrev pub tableOf : ℕ → Table
-tableOf number = getD tables (number - 1) (record { from = 0; width = 0; words = 0 })
+tableOf number = getD numbered number absent
 
 abbrev pub placeOf : ℕ → ℕ
 placeOf number = tableOf number .from
 
-abbrev pub widthOf : ℕ → ℕ
-widthOf number = tableOf number .width
-
 abbrev pub wordsOf : ℕ → ℕ
-wordsOf number = tableOf number .words
+wordsOf number = wordsIn (tableOf number)
 
 -- the words of one plane of a table that has two, one at each sunspot number
 abbrev pub planeOf : ℕ → ℕ
 planeOf number = wordsOf number / 2
 
+-- the file that holds the table of a number
+abbrev pub holding : {A : Type 0} → ℕ → A → A → A
+holding number f2 month = cond (eqb number 0) f2 month
+
 -- the numbers of the tables that are used
+abbrev pub xf2cof : ℕ
+xf2cof = 0
+
 abbrev pub ikim : ℕ
 ikim = 1
 
@@ -136,10 +146,30 @@ xesucf = 19
 abbrev pub xercof : ℕ
 xercof = 20
 
+-- ---- by entry
+
+-- the dimension n of a table's array, the innermost being 0; an array of one or two has 1 for the others
+unfoldable pub dimension : ℕ → ℕ → ℕ
+dimension number n = getD (tableOf number .shape) n 1
+
+-- the array has an entry [k][j][i], as the Rust writes it; of one or two dimensions [i] and [j][i], the other indices being 0
+pub record Entry (number i j k : ℕ) : Type 0 where
+  pub column : i < dimension number 0
+  pub row : j < dimension number 1
+  pub plane : k < dimension number 2
+
+-- how many of the table's words stand before it: the last index of the Rust runs fastest
+abbrev pub entryWord : ℕ → ℕ → ℕ → ℕ → ℕ
+entryWord number i j k = (k * dimension number 1 + j) * dimension number 0 + i
+
+-- its first byte in the file that holds the table
+unfoldable pub entryPlace : ℕ → ℕ → ℕ → ℕ → ℕ
+entryPlace number i j k = placeOf number + 4 * entryWord number i j k
+
 -- ---- what the tables and the records' sizes must agree in
 
 abbrev pub endOf : Table → ℕ
-endOf t = t .from + 4 * t .words
+endOf t = t .from + 4 * wordsIn t
 
 -- from `at` on each table starts where the one before ends, ends by `end`, and the last ends there
 abbrev pub Packed : ℕ → ℕ → List Table → Type 0
@@ -148,7 +178,7 @@ Packed at end (t ∷ ts) = (t .from ≡ at) × (endOf t ≤ end) × Packed (endO
 
 abbrev pub bytesOf : List Table → ℕ
 bytesOf [] = 0
-bytesOf (t ∷ ts) = 4 * t .words + bytesOf ts
+bytesOf (t ∷ ts) = 4 * wordsIn t + bytesOf ts
 
 -- in each record of n bytes, whose marker is at `at`, the tables make up the n bytes and stand packed in them; the last record ends at `end`
 abbrev pub PackedRecords : ℕ → ℕ → List ℕ → List (List Table) → Type 0
@@ -160,16 +190,12 @@ PackedRecords at end (n ∷ ns) (ts ∷ rs) =
 
 -- ---- Table
 
--- 'number 0 (F2 planes)'
-abbrev pub f2Planes : Part
-f2Planes = record { from = 0; size = 4 * product f2Shape }
-
 abbrev pub bytesIn : Table → Part
-bytesIn t = record { from = t .from; size = 4 * t .words }
+bytesIn t = record { from = t .from; size = 4 * wordsIn t }
 
 -- the part of a number in the file that holds it; of no bytes above 20
 unfoldable pub partOf : ℕ → Part
-partOf number = getD (f2Planes ∷ map bytesIn tables) number emptyPart
+partOf number = bytesIn (tableOf number)
 
 -- 'It refuses 13 (number above 20), 8, 9, 10, both files being checked for every number'; of the F2 record 'bytes after 7,904 ignored'
 unfoldable pub tableCheck : ℕ → List ℕ → List ℕ → Verdict
@@ -185,4 +211,4 @@ tablePart number f2 month = cond (accepted (tableCheck number f2 month)) (partOf
 -- 'a part of the lent file that holds them'; refused, 'at the start of the first file lent'
 unfoldable pub tableFile : ℕ → RefT (List ℕ) → RefT (List ℕ) → RefT (List ℕ)
 tableFile number f2 month =
-    cond (accepted (tableCheck number (now f2) (now month))) (cond (eqb number 0) f2 month) f2
+    cond (accepted (tableCheck number (now f2) (now month))) (holding number f2 month) f2

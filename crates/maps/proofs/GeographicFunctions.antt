@@ -1,12 +1,13 @@
--- The array that is filled along a map's ladder holds, at each of its 76 places, the geographic function of the closed form; past the
--- ladder's last word both are 0. By induction along the ladder: before each word the array is the closed form up to the word before it,
--- and 0 above. Assumes nothing.
+-- The geographic functions along a map's ladder: the powers up to word 0, between two words the functions of one harmonic, past the last
+-- word 0; and the array that is filled along the ladder holds them at each of its 76 places. By induction along the ladder: before each word
+-- the array is the closed form up to the word before it, and 0 above. Assumes nothing.
 use mathlib.Core.Path.{_≡_, refl, sym, ap, _∙_}
 use mathlib.Core.Logic.{inl, inr}
 use mathlib.Core.Bool.{false, cond}
 use mathlib.Core.List.{List}
 use Prim.Native.Nat.{ℕ, zero, suc, _+_, _-_, _*_, _/_, _%_, _≤_, _<_}
 use native.Mathlib.Nat.{add-zero, zero-add, add-suc, add-assoc}
+use native.Mathlib.Numerals.{add-one}
 use native.Mathlib.Omega.{arith}
 use native.Mathlib.Decide.{decLt}
 use lib.Dec.{eqb, leb}
@@ -16,8 +17,9 @@ use lib.Ieee.{Float, nan}
 use borrow.Author.Tests.{eq-eqb, ne-eqb, le-leb, lt-leb}
 use Rattle.base.specs.Double.{fraction}
 use Rattle.base.specs.Fill.{fill, run}
-use Rattle.base.specs.Index.{Climbs, top, level, up}
+use Rattle.base.specs.Index.{Climbs, top, level, up, Reaches}
 use Rattle.base.proofs.Picks.{cond-true, cond-false}
+use Rattle.base.proofs.Indexing.{rungs}
 use Rattle.base.proofs.Fills.{length-fill, fill-next, fill-at, fill-other, length-run, run-at}
 use Rattle.maps.specs.Versy.{powerOf, raised, cosWave, sinWave, waveAt, rungOf, harmonicOf, geographicFrom, geographicOf, zeros, filledFrom, filledOf, topFrom, topOf}
 
@@ -66,6 +68,37 @@ odd-wave gob clg i j e =
 pub rung-harmonic : (sx gob clg : Float) (j : ℕ) {c s : Float} → c ≡ cosWave gob clg j → s ≡ sinWave gob clg j → rungOf sx c s ≡ harmonicOf sx gob clg j
 unfolding rungOf harmonicOf
 rung-harmonic sx gob clg j {c} {s} p q = λ t i. raised sx (i / 2) (cond (eqb (i % 2) 0) (p t) (q t))
+
+-- ---- the closed form takes the words 0 to 8
+
+module _ (w v : ℕ → ℕ) (e : (i : ℕ) → i ≤ 8 → w i ≡ v i) (sx gob clg : Float) (k : ℕ) where
+  from-same : (n j : ℕ) → j + n ≤ 9 → geographicFrom w sx gob clg n j k ≡ geographicFrom v sx gob clg n j k
+  unfolding geographicFrom
+  from-same zero j h = refl
+  from-same (suc n) j h =
+      let a = e j (omega arith) in
+      let b = e (j - 1) (omega arith) in
+      let c = from-same n (j + 1) (omega arith) in
+      λ t. cond (eqb (a t) (b t)) (fraction 0 1) (cond (leb k (a t)) (harmonicOf sx gob clg j (k - b t - 1)) (c t))
+
+  pub geographic-same : geographicOf w sx gob clg k ≡ geographicOf v sx gob clg k
+  unfolding geographicOf
+  geographic-same = let a = e 0 (omega arith) in let b = from-same 8 1 (omega arith) in λ t. cond (leb k (a t)) (powerOf sx k) (b t)
+
+-- ---- the ladder's last word is inside the array
+
+top-within : (w : ℕ → ℕ) (n j : ℕ) → Climbs w n j → w j ≤ 75 → topFrom w n j ≤ 75
+unfolding topFrom
+top-within w zero j top h = h
+top-within w (suc n) j (level d) h = let e = cond-true (w j) (topFrom w n (j + 1)) (eq-eqb (w (j + 1)) (w j) d) in omega arith
+top-within w (suc n) j (up a b d c) h =
+    let e = cond-false (w j) (topFrom w n (j + 1)) (ne-eqb (w (j + 1)) (w j) (λ q. omega arith)) in
+    let m = top-within w n (j + 1) c d in
+    omega arith
+
+pub top-inside : (w : ℕ → ℕ) → w 0 ≤ 75 → Climbs w 8 0 → topOf w < 76
+unfolding topOf
+top-inside w h c = let m = top-within w 8 0 c h in omega arith
 
 -- ---- the closed form, a word at a time
 
@@ -156,9 +189,10 @@ module _ (w : ℕ → ℕ) (sx gob clg : Float) where
 
   -- ---- the laws
 
-  starts : (k : ℕ) → k ≤ w 0 → powerOf sx k ≡ G k
+  -- up to word 0 the functions are the powers of sx
+  pub in-powers : (k : ℕ) → k ≤ w 0 → geographicOf w sx gob clg k ≡ powerOf sx k
   unfolding geographicOf
-  starts k l = sym (cond-true _ _ (le-leb k (w 0) l))
+  in-powers k l = cond-true _ _ (le-leb k (w 0) l)
 
   above : (k : ℕ) → w 0 < k → G k ≡ From 8 1 k
   unfolding geographicOf
@@ -169,12 +203,34 @@ module _ (w : ℕ → ℕ) (sx gob clg : Float) where
     pub filled-closed : filledOf w sx gob clg ≡ run (geographicOf w sx gob clg) 76
     unfolding filledOf
     filled-closed =
-        ap (filledFrom w sx gob clg 8 0) (fill-same (powerOf sx) G 0 zeros (w 0 + 1) (λ i l. starts i (omega arith)))
+        ap (filledFrom w sx gob clg 8 0) (fill-same (powerOf sx) G 0 zeros (w 0 + 1) (λ i l. sym (in-powers i (omega arith))))
         ∙ along 8 0 climbing high above
 
     -- at every place
     pub filled-at : (k : ℕ) → k < 76 → getD (filledOf w sx gob clg) k nan ≡ geographicOf w sx gob clg k
     filled-at k l = ap (λ (g : List Float). getD g k nan) filled-closed ∙ run-at G 76 k nan l
+
+  module _ (climbing : Climbs w 8 0) where
+    beyond : (j k : ℕ) → j ≤ 8 → Reaches w j → w j < k → G k ≡ From (8 - j) (j + 1) k
+    beyond zero k h r l = above k l
+    beyond (suc j) k h r l =
+        let rise = rungs w climbing j (omega arith) (λ i m. r i (omega arith)) .rises (omega arith) (r j (omega arith)) in
+        let e = ap w (add-one j) in
+        let n : suc (7 - j) ≡ 8 - j = omega arith in
+        let m : 7 - j ≡ 8 - suc j = omega arith in
+        let o : j + 1 + 1 ≡ suc j + 1 = omega arith in
+        beyond j k (omega arith) (λ i m. r i (omega arith)) (omega arith)
+        ∙ ap (λ (x : ℕ). From x (j + 1) k) (sym n)
+        ∙ from-above (7 - j) j k rise (omega arith)
+        ∙ (λ t. From (m t) (o t) k)
+
+    -- above a word that the ladder reaches, up to the next: the functions of the next harmonic, in their order
+    pub in-harmonic :
+        (j k : ℕ) → j < 8 → Reaches w j → w j < k → k ≤ w (j + 1) →
+        geographicOf w sx gob clg k ≡ harmonicOf sx gob clg (j + 1) (k - w j - 1)
+    in-harmonic j k h r l u =
+        let n : suc (7 - j) ≡ 8 - j = omega arith in
+        beyond j k (omega arith) r l ∙ ap (λ (x : ℕ). From x (j + 1) k) (sym n) ∙ from-here (7 - j) j k (omega arith) u
 
   -- ---- past the ladder's last word
 

@@ -6,6 +6,8 @@ pub mod PointCounts
 pub mod PointRows
 pub mod GeographicFunctions
 pub mod MapSeries
+pub mod DailySeries
+pub mod Report340
 pub mod Refills
 pub mod NoisySums
 pub mod Clock

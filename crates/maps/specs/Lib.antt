@@ -5,6 +5,7 @@ pub mod Magnetic
 pub mod Geometry
 pub mod Virtim
 pub mod Versy
+pub mod Series
 pub mod Noisy
 pub mod Layers
 pub mod Clocks

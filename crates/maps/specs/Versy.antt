@@ -1,5 +1,5 @@
--- `versy` of ionosphere.rs, as the map series of CCIR Report 340: a map's value is the sum of its time coefficients, each times a geographic
--- function of the place, and the geographic functions are given in closed form from the map's ladder of words. Assumes nothing.
+-- `versy` of ionosphere.rs: a map's value is the sum of its time coefficients D_j, each times a geographic function of the place G_j, and the
+-- geographic functions are given in closed form from the map's ladder of words. Series.antt has the whole formula. Assumes nothing.
 use Prim.Native.Nat.{ℕ, zero, suc, _+_, _-_, _*_, _/_, _%_}
 use mathlib.Core.Bool.{cond}
 use mathlib.Core.List.{List}
@@ -119,9 +119,7 @@ seriesOf ab index k g = gammaOf ab (getD IC k 0 - 1) g (mapWord index k 8)
 
 -- the value of the map iz, 1 to 6; its last term is word 8
 unfoldable pub versyOf : List Float → List ℕ → ℕ → Float → Float → Float → Float
-versyOf ab index iz x clg gob =
-    let w = mapWord index (iz - 1) in
-    gammaOf ab (getD IC (iz - 1) 0 - 1) (geographicOf w (sinOf x) gob clg) (w 8)
+versyOf ab index iz x clg gob = seriesOf ab index (iz - 1) (geographicOf (mapWord index (iz - 1)) (sinOf x) gob clg)
 
 -- three sums at once
 abbrev pub sumsOf : List Float → ℕ → (ℕ → Float) → ℕ → (ℕ → Float) → ℕ → (ℕ → Float) → ℕ → Sums

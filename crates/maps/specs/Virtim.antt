@@ -51,6 +51,15 @@ valueOf v cof at zero = getD cof at nan
 valueOf v cof at (suc ka) =
     valueOf v cof at ka ⊕ v ka .s ⊗ getD cof (at + 2 * ka + 1) nan ⊕ v ka .c ⊗ getD cof (at + 2 * ka + 2) nan
 
+-- D(T) = U_0 + sum over h = 1 .. n of (U_{2h-1} sin hT + U_{2h} cos hT) of a row's coefficients u: v (h - 1) has cos hT and sin hT
+unfoldable pub dailyOf : (ℕ → Wave) → (ℕ → Float) → ℕ → Float
+dailyOf v u zero = u 0
+dailyOf v u (suc n) = dailyOf v u n ⊕ v n .s ⊗ u (2 * n + 1) ⊕ v n .c ⊗ u (2 * n + 2)
+
+-- U_{s,j} of the map k where it stands in COFION
+abbrev pub coefficientIn : List Float → ℕ → ℕ → ℕ → Float
+coefficientIn cof k s j = getD cof (getD IA k 0 - 1 + j * getD IB k 0 + s) nan
+
 -- the value of the row j of the map iz: its coefficients start at IA + j * IB, and word 9 is its number of harmonics
 unfoldable pub rowValue : (ℕ → Wave) → List Float → List ℕ → ℕ → ℕ → Float
 rowValue v cof index iz j = valueOf v cof (getD IA iz 0 - 1 + j * getD IB iz 0) (mapWord index iz 9)
@@ -62,5 +71,4 @@ timeMapOf v cof index iz ab = fill (rowValue v cof index iz) (getD IC iz 0 - 1) 
 -- for each map the rows 0 to word 8 are put into AB from IC on; the other numbers of AB are 0.0
 unfoldable pub virtimOf : List Float → List ℕ → Float → List Float
 virtimOf cof index gmt =
-    loop 0 6 (λ iz ab. fill (rowValue (hourWave gmt) cof index iz) (getD IC iz 0 - 1) ab (mapWord index iz 8 + 1))
-    (replicate 318 (decimal 0 1))
+    loop 0 6 (timeMapOf (hourWave gmt) cof index) (replicate 318 (decimal 0 1))

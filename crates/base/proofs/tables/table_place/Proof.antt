@@ -1,11 +1,11 @@
 -- The source's rows are the parts' starts and sizes, by computation over the whole table; a reading of one is a reading of the other.
 use borrow.Author.Needs.{needs}
-use mathlib.Core.Path.{_≡_, sym, ap}
+use mathlib.Core.Path.{_≡_, sym, ap, _∙_}
 use mathlib.Core.List.{List, [], _∷_, map}
 use Prim.Native.Nat.{ℕ}
 use lib.ListN.{getD, List·getD-map}
 use Rattle.base.specs.MonthFile.{Part}
-use Rattle.base.specs.Tables.{tables, f2Planes, bytesIn, partOf}
+use Rattle.base.specs.Tables.{numbered, absent, bytesIn, partOf}
 use Rattle.base.proofs.Parts.{no-part}
 use Rattle.base.proofs.tables.table_place.Statement.{statement}
 use Rattle.base.proofs.tables.table_place.Tie as tie
@@ -18,11 +18,11 @@ abbrev of-row : List ℕ → Part
 of-row l = record { from = getD l 0 0; size = getD l 1 0 }
 
 abbrev rows : List (List ℕ)
-rows = map row (f2Planes ∷ map bytesIn tables)
+rows = map row (map bytesIn numbered)
 
 of-rows : (k : ℕ) → partOf k ≡ of-row (getD rows k [])
 unfolding partOf
-of-rows k = List·getD-map of-row rows k []
+of-rows k = sym (List·getD-map bytesIn numbered k absent) ∙ List·getD-map of-row rows k []
 
 returns : tie.Need-returns
 returns c =

@@ -70,7 +70,7 @@ loop-again c =
     )
 
 returns : tie.Need-returns Inv-loop μ-loop
-unfolding timeMapOf virtimOf decimal round ofBits
+unfolding virtimOf decimal round ofBits
 returns c = let e : c .before .loop .k ≡ 6 = omega arith in rw e at (c .before .loop .inv .1)
 
 pub virtim-spec : {M : Type 1} → statement M
