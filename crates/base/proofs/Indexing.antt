@@ -51,7 +51,7 @@ module _ (month : List ℕ) (passed : indexCheck month ≡ Accepted) where
 
 -- ---- over the 60 words
 
-climbs-same : (w v : ℕ → ℕ) (n j : ℕ) → ((i : ℕ) → i ≤ 8 → v i ≡ w i) → n + j ≤ 8 → Climbs w n j → Climbs v n j
+pub climbs-same : (w v : ℕ → ℕ) (n j : ℕ) → ((i : ℕ) → i ≤ 8 → v i ≡ w i) → n + j ≤ 8 → Climbs w n j → Climbs v n j
 climbs-same w v zero j f h top = top
 climbs-same w v (suc n) j f h (level e) = level (f (j + 1) (omega arith) ∙ e ∙ sym (f j (omega arith)))
 climbs-same w v (suc n) j f h (up a b d c) =
@@ -60,7 +60,7 @@ climbs-same w v (suc n) j f h (up a b d c) =
     let e : (v (j + 1) - v j) % 2 ≡ (w (j + 1) - w j) % 2 = ap (λ (t : ℕ). (t - v j) % 2) y ∙ ap (λ (t : ℕ). (w (j + 1) - t) % 2) x in
     up {n = n} {j = j} (omega arith) (e ∙ b) (omega arith) (climbs-same w v n (j + 1) f (omega arith) c)
 
-index-word : (month : List ℕ) (k j : ℕ) → k < 6 → j < 10 → mapWord (indexOf month) k j ≡ mapWords month k j
+pub index-word : (month : List ℕ) (k j : ℕ) → k < 6 → j < 10 → mapWord (indexOf month) k j ≡ mapWords month k j
 unfolding indexOf
 index-word month k j h l = run-at _ 60 (k * 10 + j) 0 (omega arith)
 

@@ -32,7 +32,11 @@ pub mod Parts
 pub mod Ladders
 pub mod Indexing
 pub mod Maps
+pub mod Marks
+pub mod MadeFiles
 pub mod Points
+pub mod IndexAnswers
+pub mod GoodFiles
 pub mod Blends
 pub mod Later
 pub mod Readers
