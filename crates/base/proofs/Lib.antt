@@ -37,6 +37,8 @@ pub mod MadeFiles
 pub mod Points
 pub mod IndexAnswers
 pub mod GoodFiles
+pub mod NoNumbers
+pub mod MinMax
 pub mod Blends
 pub mod Later
 pub mod Readers
