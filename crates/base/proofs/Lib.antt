@@ -39,6 +39,8 @@ pub mod IndexAnswers
 pub mod GoodFiles
 pub mod NoNumbers
 pub mod MinMax
+pub mod MonthRecords
 pub mod Blends
 pub mod Later
 pub mod Readers
+pub mod LaterParts

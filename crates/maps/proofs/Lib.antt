@@ -21,3 +21,5 @@ pub mod Written
 pub mod Typed
 pub mod Alone
 pub mod Ignored
+pub mod Midnight
+pub mod NoSun
