@@ -52,7 +52,7 @@ module _ (month : List ℕ) (passed : indexCheck month ≡ Accepted) where
 
 -- ---- over the 60 words
 
-climbs-same : (w v : ℕ → ℕ) (n j : ℕ) → ((i : ℕ) → i ≤ 8 → v i ≡ w i) → n + j ≤ 8 → Climbs w n j → Climbs v n j
+pub climbs-same : (w v : ℕ → ℕ) (n j : ℕ) → ((i : ℕ) → i ≤ 8 → v i ≡ w i) → n + j ≤ 8 → Climbs w n j → Climbs v n j
 climbs-same w v zero j f h top = top
 climbs-same w v (suc n) j f h (level e) = level (f (j + 1) (omega arith) ∙ e ∙ sym (f j (omega arith)))
 climbs-same w v (suc n) j f h (up a b d c) =

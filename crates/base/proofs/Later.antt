@@ -151,18 +151,26 @@ module _ (s t : List ℕ) (a : Alike monthFileSize s t) where
   unfolding fakmapOf
   fakmap-alike = run-alike _ _ (wordsOf fakmap) (λ k q. float-alike monthFileSize s t a (placeOf fakmap + 4 * k) (omega arith))
 
-  module _ (f g : List ℕ) (b : Alike recordSize f g) where
-    f2-alike : (x : Float) → f2cofOf f x ≡ f2cofOf g x
-    unfolding f2cofOf
-    f2-alike x = blend-alike recordSize f g b (placeOf xf2cof) (planeOf xf2cof) (f2Weights x) (lit≤ tt)
+  -- beside any record
+  pub cofion-month : (f : List ℕ) (x : Float) → cofionOf f s x ≡ cofionOf f t x
+  unfolding cofionOf eslcofOf esmcofOf esucofOf fm3cofOf ercofOf
+  cofion-month f x =
+      let m1 = table-alike xeslcf (eWeights x) (lit≤ tt) in
+      let m2 = table-alike xesmcf (eWeights x) (lit≤ tt) in
+      let m3 = table-alike xesucf (eWeights x) (lit≤ tt) in
+      let m5 = table-alike xfm3cf (f2Weights x) (lit≤ tt) in
+      let m6 = table-alike xercof (eWeights x) (lit≤ tt) in
+      λ i. appended (m1 i ∷ m2 i ∷ m3 i ∷ f2cofOf f x ∷ m5 i ∷ m6 i ∷ [])
 
-    pub cofion-alike : (x : Float) → cofionOf f s x ≡ cofionOf g t x
-    unfolding cofionOf eslcofOf esmcofOf esucofOf fm3cofOf ercofOf
-    cofion-alike x =
-        let m1 = table-alike xeslcf (eWeights x) (lit≤ tt) in
-        let m2 = table-alike xesmcf (eWeights x) (lit≤ tt) in
-        let m3 = table-alike xesucf (eWeights x) (lit≤ tt) in
-        let m4 = f2-alike x in
-        let m5 = table-alike xfm3cf (f2Weights x) (lit≤ tt) in
-        let m6 = table-alike xercof (eWeights x) (lit≤ tt) in
-        λ i. appended (m1 i ∷ m2 i ∷ m3 i ∷ m4 i ∷ m5 i ∷ m6 i ∷ [])
+-- ---- a record, whole in both, beside any month file
+
+module _ (f g : List ℕ) (b : Alike recordSize f g) where
+  f2-alike : (x : Float) → f2cofOf f x ≡ f2cofOf g x
+  unfolding f2cofOf
+  f2-alike x = blend-alike recordSize f g b (placeOf xf2cof) (planeOf xf2cof) (f2Weights x) (lit≤ tt)
+
+  pub cofion-record : (s : List ℕ) (x : Float) → cofionOf f s x ≡ cofionOf g s x
+  unfolding cofionOf
+  cofion-record s x =
+      let m4 = f2-alike x in
+      λ i. appended (eslcofOf s x ∷ esmcofOf s x ∷ esucofOf s x ∷ m4 i ∷ fm3cofOf s x ∷ ercofOf s x ∷ [])

@@ -33,7 +33,15 @@ pub mod Ladders
 pub mod Indexing
 pub mod Maps
 pub mod TableEntries
+pub mod Marks
+pub mod MadeFiles
 pub mod Points
+pub mod IndexAnswers
+pub mod GoodFiles
+pub mod NoNumbers
+pub mod MinMax
+pub mod MonthRecords
 pub mod Blends
 pub mod Later
 pub mod Readers
+pub mod LaterParts

@@ -4,7 +4,7 @@ use mathlib.Core.List.{List, [], _∷_, map}
 use Prim.Native.Nat.{ℕ, zero, suc, _+_, _-_, _*_, _%_, _^_}
 use lib.IntN.{ℤ, pos, _+ℤ_}
 use lib.Dec.{eqb}
-use lib.Ieee.{Float, nan, inf, fin, binary64, round, size, neg, lt, le, ofInt, toUnsigned}
+use lib.Ieee.{Float, nan, inf, fin, binary32, binary64, round, size, neg, lt, le, ofInt, toUnsigned}
 use Rattle.base.specs.Double.{_⊕_, _⊖_, _⊗_, _⊘_, fraction}
 use Rattle.base.specs.Number.{negative, absOf, withSign, narrowOf, sqrtOf}
 
@@ -179,3 +179,23 @@ exp32Of x = narrowOf (expOf x)
 
 unfoldable pub ln32Of : Float → Float
 ln32Of x = narrowOf (lnOf x)
+
+-- ---- all of them with the root, in f64 and in f32
+
+abbrev pub elementaryFunctions : List (Float → Float)
+elementaryFunctions =
+    sinOf
+    ∷ cosOf
+    ∷ atanOf
+    ∷ acosOf
+    ∷ expOf
+    ∷ lnOf
+    ∷ sqrtOf binary64
+    ∷ sin32Of
+    ∷ cos32Of
+    ∷ atan32Of
+    ∷ acos32Of
+    ∷ exp32Of
+    ∷ ln32Of
+    ∷ sqrtOf binary32
+    ∷ []

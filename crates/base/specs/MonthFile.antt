@@ -88,6 +88,23 @@ walk s at (f ∷ fs) =
 unfoldable pub monthFileCheck : List ℕ → Verdict
 monthFileCheck s = walk s 0 (layout sizes)
 
+-- ---- the same check without the walk (`month-file-good`)
+
+-- from `at` on stand records of the sizes ns, each between two markers of its size
+abbrev pub Marked : List ℕ → ℕ → List ℕ → Type 0
+Marked s at [] = Unit
+Marked s at (n ∷ ns) = (wordAt s at ≡ n) × (wordAt s (at + n + 4) ≡ n) × Marked s (at + n + 8) ns
+
+-- all 38,552 bytes are there, and the 18 markers are right
+pub record WellMarked (s : List ℕ) : Type 0 where
+  pub whole : monthFileSize ≤ length s
+  pub marks : Marked s 0 sizes
+
+-- the first 17 markers are right: those of eight records, and the one that opens the ninth
+pub record MarkedToLast (s : List ℕ) : Type 0 where
+  pub eight : Marked s 0 (take 8 sizes)
+  pub ninth : wordAt s 36960 ≡ 1584
+
 -- ---- what the code's table of sizes says of each
 
 pub record Sized (k n : ℕ) : Type 0 where

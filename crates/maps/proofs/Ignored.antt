@@ -1,5 +1,6 @@
 -- Document 01's 'later bytes are ignored', of the record and of the month file: files that agree in their first 7,904 and 38,552 bytes have the same check,
--- the same answer and the same figures. Everything that a sheet reads lies among those bytes. Assumes nothing.
+-- the same answer and the same figures, also where only one of the two files is changed and the other is any list at all. Everything that a sheet reads lies
+-- among those bytes. Assumes nothing.
 use mathlib.Core.Path.{_≡_, sym, ap, _∙_}
 use mathlib.Core.Bool.{cond}
 use mathlib.Core.List.{List, [], _∷_}
@@ -17,14 +18,18 @@ use Rattle.base.specs.Refusal.{_then_, writtenOver}
 use Rattle.base.specs.Files.{fileCheck, filesCheck}
 use Rattle.base.specs.Tables.{placeOf, achi, bchi, anew, bnew, abmap}
 use Rattle.base.specs.Words.{floatAt}
-use Rattle.base.proofs.Later.{Alike, float-alike, file-alike, check-alike, index-alike, cofion-alike, hmym-alike, fakmap-alike}
+use Rattle.base.specs.Index.{indexOf}
+use Rattle.base.specs.Blend.{hmymOf, fakmapOf}
+use Rattle.base.proofs.Later.{Alike, float-alike, file-alike, check-alike, index-alike, cofion-month, cofion-record, hmym-alike, fakmap-alike}
 use Rattle.maps.specs.declared.inputs.Inputs.{Inputs}
 use Rattle.maps.specs.declared.ionosphere.layers.Monthly.{Monthly}
 use Rattle.maps.specs.Virtim.{virtimOf}
 use Rattle.maps.specs.Layers.{sunOf, termOf, abmapAt, monthlyOf}
 use Rattle.maps.specs.Figures.{Hour, hour, hourFrom, hourOf, figuresTo, routeOf, figuresOf, answerOf, shownOf, bufferAfter}
 
-module _ (f g s t : List ℕ) (b : Alike 7904 f g) (a : Alike 38552 s t) where
+-- ---- the month file alone, beside any record
+
+module _ (s t : List ℕ) (a : Alike 38552 s t) where
   term-alike : (x y k : ℕ) (ssn : Float) → placeOf x + 4 * k + 4 ≤ 38552 → placeOf y + 4 * k + 4 ≤ 38552 → termOf s x y k ssn ≡ termOf t x y k ssn
   unfolding termOf
   term-alike x y k ssn p q =
@@ -62,34 +67,68 @@ module _ (f g s t : List ℕ) (b : Alike 7904 f g) (a : Alike 38552 s t) where
         «ratio_bet» = m11 i;
       }
 
-  files-alike : filesCheck f s ≡ filesCheck g t
+  month-files : (f : List ℕ) → filesCheck f s ≡ filesCheck f t
   unfolding filesCheck fileCheck
-  files-alike =
-      let p = b .here in
-      let q = b .there in
-      let l : leb 7904 (length f) ≡ leb 7904 (length g) = le-leb 7904 (length f) p ∙ sym (le-leb 7904 (length g) q) in
+  month-files f =
       let walked = file-alike s t a in
       let index = check-alike 38552 s t a (lit≤ tt) in
-      λ i. cond (l i) (walked i then index i) (Refused Record)
+      λ i. cond (leb 7904 (length f)) (walked i then index i) (Refused Record)
 
-  module _ (x : Inputs) where
-    hour-alike : hourOf f s x ≡ hourOf g t x
+  module _ (f : List ℕ) (x : Inputs) where
+    month-hour : hourOf f s x ≡ hourOf f t x
     unfolding hourOf hourFrom
-    hour-alike =
-        let cof = cofion-alike s t a f g b (x .ssn) in
+    month-hour =
+        let cof = cofion-month s t a f (x .ssn) in
         let index = index-alike 38552 s t a (lit≤ tt) in
         let monthly = monthly-alike (x .month) (x .ssn) in
         let hmym = hmym-alike s t a (x .ssn) in
         let fakmap = fakmap-alike s t a in
         λ i. hour (virtimOf (cof i) (index i) (x .gmt)) (index i) (monthly i) (hmym i) (fakmap i)
 
-    pub later-figures : figuresOf f s x ≡ figuresOf g t x
+    pub later-month-figures : figuresOf f s x ≡ figuresOf f t x
     unfolding figuresOf
-    later-figures = ap (λ (h : Hour). figuresTo h x (routeOf x) 5) hour-alike
+    later-month-figures = ap (λ (h : Hour). figuresTo h x (routeOf x) 5) month-hour
+
+    pub later-month-answer : shownOf f s x ≡ shownOf f t x
+    unfolding shownOf
+    later-month-answer = ap (λ (v : Verdict). answerOf v (routeOf x .count)) (month-files f)
+
+-- ---- the record alone, beside any month file
+
+module _ (f g : List ℕ) (b : Alike 7904 f g) (s : List ℕ) where
+  record-files : filesCheck f s ≡ filesCheck g s
+  unfolding filesCheck
+  record-files =
+      let p = b .here in
+      let q = b .there in
+      let l : leb 7904 (length f) ≡ leb 7904 (length g) = le-leb 7904 (length f) p ∙ sym (le-leb 7904 (length g) q) in
+      λ i. cond (l i) (fileCheck s) (Refused Record)
+
+  module _ (x : Inputs) where
+    record-hour : hourOf f s x ≡ hourOf g s x
+    unfolding hourOf
+    record-hour = ap (λ (c : List Float). hourFrom s (indexOf s) c (hmymOf s (x .ssn)) (fakmapOf s) x) (cofion-record f g b s (x .ssn))
+
+    pub later-record-figures : figuresOf f s x ≡ figuresOf g s x
+    unfolding figuresOf
+    later-record-figures = ap (λ (h : Hour). figuresTo h x (routeOf x) 5) record-hour
+
+    pub later-record-answer : shownOf f s x ≡ shownOf g s x
+    unfolding shownOf
+    later-record-answer = ap (λ (v : Verdict). answerOf v (routeOf x .count)) record-files
+
+-- ---- both
+
+module _ (f g s t : List ℕ) (b : Alike 7904 f g) (a : Alike 38552 s t) where
+  files-alike : filesCheck f s ≡ filesCheck g t
+  files-alike = record-files f g b s ∙ month-files s t a g
+
+  module _ (x : Inputs) where
+    pub later-figures : figuresOf f s x ≡ figuresOf g t x
+    later-figures = later-record-figures f g b s x ∙ later-month-figures s t a g x
 
     pub later-answer : shownOf f s x ≡ shownOf g t x
-    unfolding shownOf
-    later-answer = ap (λ (v : Verdict). answerOf v (routeOf x .count)) files-alike
+    later-answer = later-record-answer f g b s x ∙ later-month-answer s t a g x
 
     pub later-buffer : (out : List Float) → bufferAfter f s x out ≡ bufferAfter g t x out
     unfolding bufferAfter

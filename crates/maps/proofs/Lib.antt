@@ -25,3 +25,5 @@ pub mod Alone
 pub mod Ignored
 pub mod Legendre
 pub mod FieldSums
+pub mod Midnight
+pub mod NoSun
