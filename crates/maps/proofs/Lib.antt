@@ -20,4 +20,5 @@ pub mod Checks
 pub mod Written
 pub mod Typed
 pub mod Alone
+pub mod FigurePlaces
 pub mod Ignored
