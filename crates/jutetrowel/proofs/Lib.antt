@@ -3,4 +3,5 @@ pub mod Stored
 pub mod Returned
 pub mod Crossed
 pub mod Carried
+pub mod InsuredOver
 pub mod Unopened

@@ -35,7 +35,7 @@ row-length h i g p = go (ltb p (g .count))
     go true = refl
     go false = refl
 
-to-length : (h : Hour) (i : Inputs) (g : PathGeometry) (p : ℕ) → length (figuresTo h i g p) ≡ 6 + 29 * p
+pub to-length : (h : Hour) (i : Inputs) (g : PathGeometry) (p : ℕ) → length (figuresTo h i g p) ≡ 6 + 29 * p
 unfolding figuresTo headOf
 to-length h i g zero = refl
 to-length h i g (suc p) =

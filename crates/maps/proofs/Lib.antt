@@ -22,6 +22,7 @@ pub mod Checks
 pub mod Written
 pub mod Typed
 pub mod Alone
+pub mod FigurePlaces
 pub mod Ignored
 pub mod Legendre
 pub mod FieldSums

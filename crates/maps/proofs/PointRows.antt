@@ -79,7 +79,7 @@ module _ (tlat tlong rlat rlong : Degrees) (long : Bool) (pole : MagneticPole) w
   unfolding pathOf
   rows-past i h k = row-at _ _ _ _ i h ∙ row-absent _ _ _ _ i k
 
-  most : pathOf tlat tlong rlat rlong long pole .count ≤ 5
+  pub most : pathOf tlat tlong rlat rlong long pole .count ≤ 5
   unfolding pathOf
   most = at-most-five _ _ (count-rule _)
 

@@ -1,5 +1,5 @@
 -- A desk's draft in a worksheet, put there, turned stale, or alone with every other desk closed: by the tests of the desk's number. Assumes nothing.
-use Prim.Native.Nat.{ℕ}
+use Prim.Native.Nat.{ℕ, _≤_}
 use mathlib.Core.Bool.{Bool, true, false, cond}
 use mathlib.Core.Path.{_≡_, refl, sym, ap, _∙_, subst}
 use native.Mathlib.Omega.{arith}
@@ -94,6 +94,10 @@ pub rest-draft : (n : ℕ) (w : Worksheet) → draftAt n (atRest w) ≡ Closed
 unfolding draftAt
 rest-draft n w = none-chosen (eqb n 1) (eqb n 2) (eqb n 3) (eqb n 4)
 
+-- a worksheet whose desks are closed has no fresh draft
+pub rest-none : (w : Worksheet) → atRest w ≡ w → (n : ℕ) (x : Inputs) → FreshAt n x w → ⊥
+rest-none w h n x f = closed-not-fresh (rest-draft n w) (subst (λ (v : Worksheet). FreshAt n x v) (sym h) f)
+
 pub rest-with : (n : ℕ) (d : Draft) (w : Worksheet) → atRest (withDraft n d w) ≡ atRest w
 unfolding withDraft
 rest-with n d w = refl
@@ -128,6 +132,24 @@ pub with-draft : (n : ℕ) (v w : Worksheet) (d : Draft) (x : Inputs) → FreshA
 unfolding draftAt withDraft
 with-draft n v w d x h =
     put-chosen (eqb n 1) (eqb n 2) (eqb n 3) (eqb n 4) (v .d1) (v .d2) (v .d3) (v .d4) d (w .d1) (w .d2) (w .d3) (w .d4) (Fresh x) h (λ e. closed-not-fresh e refl)
+
+-- so has every desk 1 to 4
+pub desk-draft : (n : ℕ) (d : Draft) (w : Worksheet) → 1 ≤ n → n ≤ 4 → draftAt n (withDraft n d w) ≡ d
+unfolding draftAt withDraft
+desk-draft n d w l h = go (eqb n 1) (eqb n 2) (eqb n 3) (eqb n 4) refl refl refl refl
+  where
+    go : (a b c e : Bool) → eqb n 1 ≡ a → eqb n 2 ≡ b → eqb n 3 ≡ c → eqb n 4 ≡ e
+        → chosen a b c e (cond a d (w .d1)) (cond b d (w .d2)) (cond c d (w .d3)) (cond e d (w .d4)) ≡ d
+    go true b c e p q r s = refl
+    go false true c e p q r s = refl
+    go false false true e p q r s = refl
+    go false false false true p q r s = refl
+    go false false false false p q r s =
+        let a : 2 ≤ n = omega (arith, eqb-false n 1 p) in
+        let b : 3 ≤ n = omega (arith, eqb-false n 2 q) in
+        let c : 4 ≤ n = omega (arith, eqb-false n 3 r) in
+        let e : 5 ≤ n = omega (arith, eqb-false n 4 s) in
+        absurd (omega arith)
 
 -- another desk's draft stays
 module _ (n m : ℕ) (d : Draft) (e : eqb n m ≡ false) where

@@ -1,9 +1,12 @@
 -- What an accepted call found and left, and what it needs to be accepted: the rules of the desks, each opened once. Assumes nothing.
 use Prim.Native.Nat.{ℕ}
-use mathlib.Core.Bool.{Bool, true, false, true≢false, false≢true}
+use mathlib.Core.Bool.{Bool, true, false, _&&_, true≢false, false≢true}
 use mathlib.Core.Path.{_≡_, refl, ap, _∙_}
 use native.Mathlib.Omega.{arith}
+use lib.Dec.{leb}
+use borrow.Author.Tests.{leb-true}
 use Rattle.base.specs.declared.refusal.Refusal.{Refusal}
+use Rattle.base.specs.declared.refusal.Refusal.the-variants.{Desk}
 use Rattle.base.specs.declared.refusal.Verdict.{Verdict}
 use Rattle.base.specs.declared.refusal.Verdict.the-variants.{Accepted, Refused}
 use Rattle.maps.specs.declared.inputs.Inputs.{Inputs}
@@ -14,12 +17,12 @@ use Rattle.worksheet.specs.declared.desks.Earlier.{Earlier}
 use Rattle.worksheet.specs.declared.desks.Earlier.the-variants.{Nothing, Set}
 use Rattle.worksheet.specs.declared.desks.Outcome.{Outcome}
 use Rattle.worksheet.specs.declared.desks.Worksheet.{Worksheet}
-use Rattle.base.specs.Refusal.{_then_}
+use Rattle.base.specs.Refusal.{refuseUnless, _then_}
 use Rattle.worksheet.specs.Inputs.{editCheck, edited}
-use Rattle.worksheet.specs.Desks.{draftAt, withDraft, inputsOf, movedTo, outcome, deskCheck, closedCheck, draftCheck, freshCheck, earlierCheck, beginCheck, beginOf, changeCheck, editedDraft, changeOf, commitCheck, commitOf, cancelCheck, cancelOf, setOf, takeBackOf}
+use Rattle.worksheet.specs.Desks.{draftAt, withDraft, inputsOf, movedTo, outcome, isDesk, deskCheck, closedCheck, draftCheck, freshCheck, earlierCheck, beginCheck, beginOf, changeCheck, editedDraft, changeOf, commitCheck, commitOf, cancelCheck, cancelOf, setOf, takeBackOf}
 use Rattle.worksheet.specs.Showing.{Source}
 use Rattle.worksheet.specs.Journal.{Call, begin, commit, cancel, change, takeBack, show, told, accepted, Step, stepOf, step}
-use Rattle.worksheet.proofs.Drafts.{FreshAt, closed-not-fresh, stale-not-fresh}
+use Rattle.worksheet.proofs.Drafts.{FreshAt, closed-not-fresh, stale-not-fresh, desk-draft}
 
 -- ---- verdicts and outcomes
 
@@ -32,6 +35,22 @@ then-both (Refused why) b h = absurd (refused-not-accepted h)
 
 both-then : (a b : Verdict) → a ≡ Accepted → b ≡ Accepted → (a then b) ≡ Accepted
 both-then a b p q = ap (λ (z : Verdict). z then b) p ∙ q
+
+-- a test that is not refused succeeds
+pub passed : (b : Bool) (why : Refusal) → refuseUnless b why ≡ Accepted → b ≡ true
+passed true why h = refl
+passed false why h = absurd (refused-not-accepted h)
+
+pub both-true : (a b : Bool) → (a && b) ≡ true → (a ≡ true) × (b ≡ true)
+both-true true b h = (refl, h)
+both-true false b h = absurd (false≢true h)
+
+-- an accepted desk has what is put there
+pub desk-put : (n : ℕ) (d : Draft) (w : Worksheet) → deskCheck n ≡ Accepted → draftAt n (withDraft n d w) ≡ d
+unfolding deskCheck
+desk-put n d w h =
+    let b = both-true (leb 1 n) (leb n 4) (passed (isDesk n) Desk h) in
+    desk-draft n d w (leb-true 1 n (b .0)) (leb-true n 4 (b .1))
 
 abbrev acceptedAs : Outcome → Bool
 acceptedAs o = accepted (told (o .answer))

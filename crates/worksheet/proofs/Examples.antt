@@ -3,19 +3,20 @@ use Prim.Native.Nat.{ℕ}
 use mathlib.Core.List.{List, [], _∷_}
 use mathlib.Core.Path.{_≡_, refl}
 use lib.Ieee.{Float, round, le}
-use Rattle.base.specs.declared.refusal.Refusal.the-variants.{Hour as BadHour, Desk, Drafted, NoDraft, Stale as IsStale, NothingEarlier}
+use Rattle.base.specs.declared.refusal.Refusal.the-variants.{Hour as BadHour, Figures, Desk, Drafted, NoDraft, Stale as IsStale, NothingEarlier}
 use Rattle.base.specs.declared.refusal.Verdict.the-variants.{Accepted, Refused}
-use Rattle.base.specs.Single.{decimal}
+use Rattle.base.specs.Single.{decimal, minusDecimal}
 use Rattle.maps.specs.declared.inputs.Inputs.{Inputs}
 use Rattle.maps.specs.declared.figures.Shown.the-variants.{Refused as NotShown}
 use Rattle.worksheet.specs.declared.inputs.Edit.{Edit}
 use Rattle.worksheet.specs.declared.inputs.Edit.the-variants.{Sunspot, Hour}
-use Rattle.base.specs.Ranges.{monthCheck, hourCheck}
-use Rattle.worksheet.specs.Inputs.{sunspotCheck, inputsCheck, editCheck}
-use Rattle.worksheet.specs.Desks.{draftAt, withDraft, inputsOf, staleOf, movedTo, outcome, deskCheck, closedCheck, draftCheck, freshCheck, earlierCheck, freshSheet, beginCheck, beginOf, changeCheck, editedDraft, changeOf, commitCheck, commitOf, cancelCheck, cancelOf, setOf, takeBackOf}
+use Rattle.base.specs.Ranges.{monthCheck, hourCheck, latitudeCheck, longitudeCheck}
+use Rattle.worksheet.specs.Inputs.{sunspotCheck, factorCheck, flagCheck, routeCheck, factorsCheck, poleCheck, inputsCheck, editCheck, edited}
+use Rattle.worksheet.specs.Desks.{draftAt, withDraft, inputsOf, staleOf, movedTo, outcome, deskCheck, closedCheck, draftCheck, freshCheck, earlierCheck, freshSheet, openOf, beginCheck, beginOf, changeCheck, editedDraft, changeOf, commitCheck, commitOf, cancelCheck, cancelOf, setOf, takeBackOf}
 use Rattle.worksheet.specs.Showing.{Source, inputsShown, askedCheck, bufferCheck, drawnCheck, judgedCheck, showCheck, showOf, showBuffer}
 use Rattle.worksheet.specs.Journal.{Call, begin, commit, cancel, change, takeBack, show, Answer, told, shown, Entry, step, run, own, keptFor, shorter, callsOf, keptOf}
 use Rattle.worksheet.specs.InForce.{editsOf, changesBy, forceAfter, commitsInForce}
+use Rattle.worksheet.proofs.Openings.{degrees}
 
 -- two hours and a sunspot number in range, and an hour that is not
 abbrev three : Edit
@@ -34,13 +35,28 @@ late = Hour (decimal 25 0)
 abbrev outOfRange : Inputs → Inputs
 outOfRange i = record { month = 1; ssn = decimal 100 0; gmt = decimal 25 0; route = i .route; psc = i .psc; pole = i .pole }
 
+-- inputs that open accepts
+abbrev inRange : Inputs
+inRange = record {
+  month = 1;
+  ssn = decimal 100 0;
+  gmt = decimal 12 0;
+  route = record { tlat = degrees (decimal 0 0); tlong = degrees (decimal 0 0); rlat = degrees (decimal 90 0); rlong = degrees (decimal 0 0); «long_path» = 0 };
+  psc = record { e = decimal 1 0; f1 = decimal 1 0; f2 = decimal 1 0; es = decimal 1 0 };
+  pole = record { lat = degrees (decimal 785 1); lon = degrees (decimal 0 0) };
+}
+
+in-range : openOf inRange .answer ≡ Accepted
+unfolding openOf inputsCheck monthCheck sunspotCheck hourCheck routeCheck latitudeCheck longitudeCheck flagCheck factorsCheck factorCheck poleCheck decimal minusDecimal round le
+in-range = refl
+
 abbrev entry : Call → Answer → Entry
 entry c r = record { call = c; answer = r }
 
-module _ (source : Source) (i : Inputs) (a b c d : List Float) where
+module _ (source : Source) (i : Inputs) (x : Float) (a b c d : List Float) where
   -- the entries of a run on a worksheet just opened, and the shorter list's; every rule is open to computation
   full : Inputs → List Call → List Entry
-  unfolding run step freshSheet draftAt withDraft inputsOf staleOf movedTo outcome deskCheck closedCheck draftCheck freshCheck earlierCheck beginCheck beginOf changeCheck editedDraft changeOf commitCheck commitOf cancelCheck cancelOf setOf takeBackOf editCheck sunspotCheck hourCheck monthCheck inputsCheck inputsShown askedCheck bufferCheck drawnCheck judgedCheck showCheck showOf showBuffer decimal round le
+  unfolding run step freshSheet draftAt withDraft inputsOf staleOf movedTo outcome deskCheck closedCheck draftCheck freshCheck earlierCheck beginCheck beginOf changeCheck editedDraft changeOf commitCheck commitOf cancelCheck cancelOf setOf takeBackOf editCheck edited sunspotCheck hourCheck monthCheck latitudeCheck longitudeCheck factorCheck flagCheck routeCheck factorsCheck poleCheck inputsCheck inputsShown askedCheck bufferCheck drawnCheck judgedCheck showCheck showOf showBuffer decimal minusDecimal round le
   full j cs = run source cs (freshSheet j) .entries
 
   short : Inputs → List Call → List Entry
@@ -86,6 +102,34 @@ module _ (source : Source) (i : Inputs) (a b c d : List Float) where
       ∷ []
   unfolding short
   refused-showings = refl
+
+  -- the same of inputs in range, refused 12 for their short buffers, before and after the draft was changed
+  refused-buffers : short inRange (begin 1 ∷ show 1 (x ∷ []) ∷ show 0 [] ∷ change 1 three ∷ show 1 [] ∷ commit 1 ∷ show 0 (x ∷ []) ∷ [])
+      ≡ entry (show 0 []) (shown (NotShown Figures) [])
+      ∷ entry (begin 1) (told Accepted)
+      ∷ entry (show 1 (x ∷ [])) (shown (NotShown Figures) (x ∷ []))
+      ∷ entry (change 1 three) (told Accepted)
+      ∷ entry (show 1 []) (shown (NotShown Figures) [])
+      ∷ entry (commit 1) (told Accepted)
+      ∷ entry (show 0 (x ∷ [])) (shown (NotShown Figures) (x ∷ []))
+      ∷ []
+  unfolding short
+  refused-buffers = refl
+
+  -- refused so, a showing of another desk, of a cancelled draft or of a stale one is dropped with its draft's other calls
+  dropped-buffers : short inRange (begin 2 ∷ show 2 [] ∷ begin 1 ∷ begin 3 ∷ show 3 [] ∷ cancel 3 ∷ show 1 [] ∷ commit 1 ∷ show 2 [] ∷ [])
+      ≡ entry (begin 1) (told Accepted)
+      ∷ entry (show 1 []) (shown (NotShown Figures) [])
+      ∷ entry (commit 1) (told Accepted)
+      ∷ []
+  unfolding short
+  dropped-buffers = refl
+
+  -- a desk's showing before its begin or after its commit, refused 16, is no own one
+  no-draft-showings : kept (show 1 a ∷ begin 1 ∷ show 1 b ∷ commit 1 ∷ show 1 c ∷ begin 1 ∷ commit 1 ∷ show 1 d ∷ [])
+      ≡ begin 1 ∷ show 1 b ∷ commit 1 ∷ begin 1 ∷ commit 1 ∷ []
+  unfolding kept
+  no-draft-showings = refl
 
   -- another desk's showings and changes are dropped
   other-desks : kept (begin 1 ∷ begin 2 ∷ show 1 a ∷ show 2 b ∷ show 3 c ∷ change 1 three ∷ commit 2 ∷ [])

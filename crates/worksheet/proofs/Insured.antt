@@ -1,14 +1,13 @@
 -- The insurer's line: of every list of calls, each accepted showing of the worksheet gave, whole, the figures of the inputs in force; and where those come from. By the invariant of the run at the showing or the commit. Assumes nothing.
 use Prim.Native.Nat.{ℕ}
-use mathlib.Core.Bool.{Bool, true, false, cond, not, _&&_, _||_, false≢true}
-use mathlib.Core.List.{List, [], _∷_, _++_, reverse, reverseAux, append-assoc, reverse-cons, reverse-append, reverse-reverse, nil≢cons, head-eq-of-cons-eq, tail-eq-of-cons-eq, List·Memᴰ, List·Memᴰ·head, List·Memᴰ·tail, List·Memᴰ·not-nil, List·Memᴰ·cases-cons, List·Memᴰ·append-cases}
+use mathlib.Core.Bool.{Bool, true, false, cond, not, _&&_, false≢true}
+use mathlib.Core.List.{List, [], _∷_, _++_, reverse, reverseAux, append-assoc, reverse-cons, reverse-append, reverse-reverse, nil≢cons, head-eq-of-cons-eq, tail-eq-of-cons-eq, List·Memᴰ, List·Memᴰ·head, List·Memᴰ·tail, List·Memᴰ·not-nil, List·Memᴰ·append-cases}
 use mathlib.Core.Logic.{_⊎_, inl, inr}
 use mathlib.Core.Path.{_≡_, refl, sym, ap, ap₂, subst, _∙_}
 use native.Mathlib.Omega.{arith}
 use lib.Dec.{eqb}
 use lib.ListN.{length}
 use lib.Ieee.{Float}
-use borrow.Author.Tests.{eqb-true}
 use Rattle.base.specs.declared.refusal.Verdict.{Verdict}
 use Rattle.base.specs.declared.refusal.Verdict.the-variants.{Accepted, Refused}
 use Rattle.base.specs.Refusal.{_then_, writtenOver}
@@ -17,19 +16,18 @@ use Rattle.maps.specs.declared.figures.Shown.the-variants.{Points}
 use Rattle.base.specs.Files.{filesCheck}
 use Rattle.maps.specs.Figures.{routeOf, figuresOf, answerOf}
 use Rattle.worksheet.specs.declared.inputs.Edit.{Edit}
-use Rattle.worksheet.specs.declared.desks.Earlier.{Earlier}
-use Rattle.worksheet.specs.declared.desks.Earlier.the-variants.{Nothing, Set}
 use Rattle.worksheet.specs.declared.desks.Worksheet.{Worksheet}
-use Rattle.worksheet.specs.Desks.{freshSheet, openOf}
+use Rattle.worksheet.specs.declared.desks.Draft.the-variants.{Fresh}
+use Rattle.worksheet.specs.Desks.{draftAt, freshSheet, openOf}
 use Rattle.worksheet.specs.Showing.{Source, pair, inputsShown, bufferCheck, drawnCheck, judgedCheck, showCheck, showOf, showBuffer}
-use Rattle.worksheet.specs.Journal.{Call, begin, commit, cancel, change, takeBack, show, shown, Role, beginning, ending, settling, belonging, returning, showing, roleOf, Entry, accepted, roleIn, good, step, entryOf, run, isBegin, isOwn, begins, belongs, own, none}
-use Rattle.worksheet.specs.InForce.{editsIn, editsOf, Commit, Standing, changesBy, inputsBy, Force, standingAt, standingBefore, forceIn, pushed, returnedTo, forceBy, forceAfter, commitsInForce, inForce, takenBackBy, takenBack, FiguresOf, disturbs, Drafted}
-use Rattle.worksheet.proofs.Drafts.{atRest, FreshAt, closed-not-fresh, rest-draft}
-use Rattle.worksheet.proofs.Effects.{refused-not-accepted, then-both}
-use Rattle.worksheet.proofs.Replay.{Law}
+use Rattle.worksheet.specs.Journal.{Call, begin, commit, cancel, change, takeBack, show, shown, Role, beginning, ending, settling, belonging, returning, showing, roleOf, Entry, accepted, roleIn, good, Step, step, entryOf, run, isBegin, isOwn, begins, belongs, own, none}
+use Rattle.worksheet.specs.InForce.{editsIn, editsOf, Commit, changesBy, inputsBy, Force, forceIn, forceAfter, commitsInForce, inForce, FiguresOf, disturbs, Drafted, CommitInForce, InForceBy}
+use Rattle.worksheet.proofs.Drafts.{atRest, rest-none}
+use Rattle.worksheet.proofs.Effects.{then-both, Accepts, begun, begin-leaves, desk-put}
 use Rattle.worksheet.proofs.Rules.{law}
 use Rattle.worksheet.proofs.Kept.{_∈_, own-member, own-calls, none-first}
-use Rattle.worksheet.proofs.Tracked.{force-still, quiet-still, begin-still, quiet-unbegun, nothing-not-set, earlierBy, Holds, next, start-holds, run-holds}
+use Rattle.worksheet.proofs.Tracked.{force-still, quiet-still, begin-still, quiet-unbegun, Holds, start-holds, run-holds}
+use Rattle.worksheet.proofs.Lasting.{commits-exactly, left-source}
 
 -- ---- lists read backwards
 
@@ -88,9 +86,10 @@ run-split source (c ∷ cs) w (z ∷ before) x later h =
       there = r .there;
     }
 
--- a worksheet whose desks are closed has no fresh draft
-rest-none : (w : Worksheet) → atRest w ≡ w → (n : ℕ) (x : Inputs) → FreshAt n x w → ⊥
-rest-none w h n x f = closed-not-fresh (rest-draft n w) (subst (λ (v : Worksheet). FreshAt n x v) (sym h) f)
+-- what stands before an entry of a run is the run of the calls before
+pub run-before : (source : Source) (cs : List Call) (w : Worksheet) (before : List Entry) (x : Entry) (later : List Entry)
+    → run source cs w .entries ≡ before ++ (x ∷ later) → (calls : List Call) × (run source calls w .entries ≡ before)
+run-before source cs w before x later h = let a = run-split source cs w before x later h in (a .calls, a .ran)
 
 -- the invariant holds at every entry
 at-holds : (source : Source) (w : Worksheet) → atRest w ≡ w → (before : List Entry) (x : Entry) (a : At source w before x)
@@ -98,6 +97,30 @@ at-holds : (source : Source) (w : Worksheet) → atRest w ≡ w → (before : Li
 at-holds source w rest before x a =
     subst (λ (l : List Entry). Holds (forceIn w) (reverse l) (run source (a .calls) w .sheet)) (a .ran)
     (run-holds source (forceIn w) (a .calls) [] w (start-holds w (rest-none w rest)))
+
+-- ---- THE INPUTS IN FORCE ARE THE WORKSHEET'S
+
+-- over any source of files, of every worksheet whose desks are closed, after every list of calls
+pub in-force : (source : Source) (w : Worksheet) → atRest w ≡ w → (cs : List Call)
+    → run source cs w .sheet .inputs ≡ inForce w (run source cs w .entries)
+unfolding inForce
+in-force source w rest cs = run-holds source (forceIn w) cs [] w (start-holds w (rest-none w rest)) .at-present
+
+-- and what an accepted begin copies, after every list of calls, is the inputs in force then
+pub begun-in-force : (source : Source) (w : Worksheet) → atRest w ≡ w → (cs : List Call) (n : ℕ) → let s = run source cs w in
+    Accepts source (begin n) (s .sheet) → draftAt n (step source (begin n) (s .sheet) .sheet) ≡ Fresh (inForce w (s .entries))
+begun-in-force source w rest cs n a =
+    let s = run source cs w .sheet in
+    let b = begun source n s a in
+    ap (λ (t : Step). draftAt n (t .sheet)) (begin-leaves source n s b)
+    ∙ desk-put n (Fresh (s .inputs)) s (b .desk)
+    ∙ ap Fresh (in-force source w rest cs)
+
+-- the same of every worksheet that open gives
+pub opened-in-force : (f2 file : List ℕ) (opened : Inputs) → openOf opened .answer ≡ Accepted → (cs : List Call)
+    → run (pair f2 file) cs (openOf opened .sheet) .sheet .inputs ≡ inForce (openOf opened .sheet) (run (pair f2 file) cs (openOf opened .sheet) .entries)
+unfolding openOf freshSheet
+opened-in-force f2 file opened given cs = in-force (pair f2 file) (openOf opened .sheet) refl cs
 
 -- ---- THE INSURER'S LINE
 
@@ -171,178 +194,11 @@ undisturbed-draft source w rest cs before later x n h c good =
 
 -- ---- WHERE A CHANGE IN FORCE COMES FROM: it was accepted, it is among the own calls of an accepted commit, and that commit was not taken back
 
--- a commit in force, of all entries
-pub record CommitInForce (entries : List Entry) (c : Commit) : Type 0 where
-  pub after : List Entry
-  pub split : entries ≡ reverse (c .past) ++ (c .entry ∷ after)
-  pub is-commit : roleIn (c .entry) ≡ settling (c .desk)
-  pub committed : good (c .entry) ≡ true
-  pub not-taken-back : takenBack after ≡ false
-
--- a change in force
-pub record InForceBy (entries : List Entry) (e : Edit) : Type 0 where
-  pub its-commit : Commit
-  pub in-force : CommitInForce entries its-commit
-  pub its-change : Entry
-  pub is-own : its-change ∈ own (its-commit .desk) (its-commit .past)
-  pub is-change : List·Memᴰ e (editsIn (roleIn its-change))
-  pub belongs-to-it : belongs (its-commit .desk) its-change ≡ true
-  pub accepted-too : good its-change ≡ true
-
--- `takenBack` with what is said of nothing
-takenBackOr : Bool → List Entry → Bool
-takenBackOr u [] = u
-takenBackOr u (x ∷ later) = takenBackBy (roleIn x) (good x) (takenBackOr u later)
-
-taken-back-or : (l : List Entry) → takenBackOr false l ≡ takenBack l
-unfolding takenBackOr takenBack
-taken-back-or [] = refl
-taken-back-or (x ∷ l) = ap (takenBackBy (roleIn x) (good x)) (taken-back-or l)
-
-taken-back-last : (u : Bool) (l : List Entry) (x : Entry) → takenBackOr u (l ++ (x ∷ [])) ≡ takenBackOr (takenBackBy (roleIn x) (good x) u) l
-unfolding takenBackOr
-taken-back-last u [] x = refl
-taken-back-last u (z ∷ l) x = ap (takenBackBy (roleIn z) (good z)) (taken-back-last u l x)
-
--- a commit among the entries `past`, the latest first, that was not taken back, whatever u says of what comes
-record Among (u : Bool) (past : List Entry) (c : Commit) : Type 0 where
-  after : List Entry
-  split : reverse past ≡ reverse (c .past) ++ (c .entry ∷ after)
-  is-commit : roleIn (c .entry) ≡ settling (c .desk)
-  committed : good (c .entry) ≡ true
-  stays : takenBackOr u after ≡ false
-
--- one entry more
-among-more : (u v : Bool) (past : List Entry) (c : Commit) (x : Entry) → takenBackBy (roleIn x) (good x) v ≡ u → Among u past c → Among v (x ∷ past) c
-among-more u v past c x e a = record {
-  after = a .after ++ (x ∷ []);
-  split = reverse-cons x past ∙ ap (λ (l : List Entry). l ++ (x ∷ [])) (a .split) ∙ append-assoc (reverse (c .past)) (c .entry ∷ a .after) (x ∷ []);
-  is-commit = a .is-commit;
-  committed = a .committed;
-  stays = taken-back-last v (a .after) x ∙ ap (λ (b : Bool). takenBackOr b (a .after)) e ∙ a .stays;
-}
-
--- all commits of a set
-abbrev AllAmong : Bool → List Entry → Standing → Type 0
-AllAmong u past s = (c : Commit) → List·Memᴰ c (s .commits) → Among u past c
-
-record Kept (past : List Entry) (f : Force) : Type 0 where
-  present : AllAmong false past (f .present)
-  before : (s : Standing) → List·Memᴰ s (f .before) → AllAmong true past s
-
--- what an entry of the role r does to it
-module _ (past : List Entry) (x : Entry) (f : Force) (k : Kept past f) where
-  -- nothing is pushed or returned
-  kept-still : ((u : Bool) → takenBackBy (roleIn x) (good x) u ≡ u) → Kept (x ∷ past) f
-  kept-still e = record {
-    present = λ c m. among-more false false past c x (e false) (k .present c m);
-    before = λ s m c n. among-more true true past c x (e true) (k .before s m c n);
-  }
-
-  kept-pushed : (n : ℕ) → roleIn x ≡ settling n → good x ≡ true → Kept (x ∷ past) (pushed (record { desk = n; past = past; entry = x }) f)
-  unfolding takenBackOr
-  kept-pushed n e g = record {
-    present = λ c m. first c (List·Memᴰ·cases-cons m);
-    before = λ s m c q. among-more false true past c x (ap₂ (λ (r : Role) (b : Bool). takenBackBy r b true) e g)
-        (k .present c (only s c (List·Memᴰ·cases-cons m) q));
-  }
-    where
-      new : Commit
-      new = record { desk = n; past = past; entry = x }
-
-      first : (c : Commit) → (c ≡ new) ⊎ List·Memᴰ c (f .present .commits) → Among false (x ∷ past) c
-      first c (inl q) = subst (λ (z : Commit). Among false (x ∷ past) z) (sym q) (record { after = []; split = reverse-cons x past; is-commit = e; committed = g; stays = refl })
-      first c (inr m) = among-more false false past c x (ap₂ (λ (r : Role) (b : Bool). takenBackBy r b false) e g) (k .present c m)
-
-      only : (s : Standing) (c : Commit) → (s ≡ f .present) ⊎ List·Memᴰ s [] → List·Memᴰ c (s .commits) → List·Memᴰ c (f .present .commits)
-      only s c (inl q) m = subst (λ (z : Standing). List·Memᴰ c (z .commits)) q m
-      only s c (inr none) m = absurd (List·Memᴰ·not-nil none)
-
-  kept-returned : (s : Standing) (l : List Standing) → f .before ≡ s ∷ l → ((u : Bool) → takenBackBy (roleIn x) (good x) u ≡ true) → Kept (x ∷ past) (returnedTo (s ∷ l) f)
-  kept-returned s l q e = record {
-    present = λ c m. among-more true false past c x (e false) (k .before s (subst (λ (z : List Standing). List·Memᴰ s z) (sym q) (List·Memᴰ·head refl)) c m);
-    before = λ z m. absurd (List·Memᴰ·not-nil m);
-  }
-
--- an earlier set is there where the worksheet has one
-set-before : (l : List Standing) (i : Inputs) → earlierBy l ≡ Set i → (s : Standing) × ((k : List Standing) × (l ≡ s ∷ k))
-set-before [] i h = absurd (nothing-not-set h)
-set-before (s ∷ k) i h = (s, (k, refl))
-
-module _ (source : Source) (f : Force) (past : List Entry) (w : Worksheet) (g : Holds f past w) (c : Call) (k : Kept past (forceAfter f past)) where
-  abbrev y : Entry
-  y = entryOf source c w
-
-  abbrev F : Force
-  F = forceAfter f past
-
-  abbrev KeptAs : Role → Type 0
-  KeptAs r = roleOf c ≡ r → Kept (entryOf source c w ∷ past) (forceBy past (entryOf source c w) r (good (entryOf source c w)) (forceAfter f past))
-
-  -- what `takenBackBy` says by the role and the acceptance
-  by-role : (r : Role) (b : Bool) → roleOf c ≡ r → accepted (y .answer) ≡ b → (u : Bool) → takenBackBy (roleIn y) (good y) u ≡ takenBackBy r b u
-  by-role r b e a u = ap₂ (λ (z : Role) (t : Bool). takenBackBy z t u) e a
-
-  settled-kept : (n : ℕ) (b : Bool) → accepted (y .answer) ≡ b → KeptAs (settling n)
-  settled-kept n true a e =
-      subst (λ (b : Bool). Kept (y ∷ past) (forceBy past y (settling n) b F)) (sym a) (kept-pushed past y F k n e a)
-  settled-kept n false a e =
-      subst (λ (b : Bool). Kept (y ∷ past) (forceBy past y (settling n) b F)) (sym a) (kept-still past y F k (by-role (settling n) false e a))
-
-  returned-kept : Law source returning c w → (b : Bool) → accepted (y .answer) ≡ b → KeptAs returning
-  returned-kept l true a e =
-      let d = l .done a in
-      let s = set-before (F .before) (d .set) (sym (g .at-earlier) ∙ d .was) in
-      subst (λ (b : Bool). Kept (y ∷ past) (forceBy past y returning b F)) (sym a)
-      (subst (λ (z : List Standing). Kept (y ∷ past) (returnedTo z F)) (sym (s .1 .1))
-      (kept-returned past y F k (s .0) (s .1 .0) (s .1 .1) (by-role returning true e a)))
-  returned-kept l false a e =
-      subst (λ (b : Bool). Kept (y ∷ past) (forceBy past y returning b F)) (sym a) (kept-still past y F k (by-role returning false e a))
-
-  kept-as : (r : Role) → Law source r c w → KeptAs r
-  kept-as (beginning n) l e = kept-still past y F k (by-role (beginning n) _ e refl)
-  kept-as (ending n) l e = kept-still past y F k (by-role (ending n) _ e refl)
-  kept-as (settling n) l e = settled-kept n (accepted (y .answer)) refl e
-  kept-as (belonging n even es) l e = kept-still past y F k (by-role (belonging n even es) _ e refl)
-  kept-as returning l e = returned-kept l (accepted (y .answer)) refl e
-  kept-as showing l e = kept-still past y F k (by-role showing _ e refl)
-
-module _ (source : Source) (f : Force) where
-  run-kept : (cs : List Call) (past : List Entry) (w : Worksheet) → Holds f past w → Kept past (forceAfter f past)
-      → Kept (reverseAux (run source cs w .entries) past) (forceAfter f (reverseAux (run source cs w .entries) past))
-  unfolding run forceAfter
-  run-kept [] past w g k = k
-  run-kept (c ∷ cs) past w g k =
-      run-kept cs (entryOf source c w ∷ past) (step source c w .sheet) (next source f past w g c)
-      (kept-as source f past w g c k (roleOf c) (law source c w) refl)
-
-no-commits : (w : Worksheet) → Kept [] (forceAfter (forceIn w) [])
-unfolding forceAfter
-no-commits w = record { present = λ c m. absurd (List·Memᴰ·not-nil m); before = λ s m c n. go (w .earlier) s m c n }
-  where
-    empty : (i : Inputs) (s : Standing) (c : Commit) → (s ≡ standingAt i) ⊎ List·Memᴰ s [] → List·Memᴰ c (s .commits) → Among true [] c
-    empty i s c (inl q) n = absurd (List·Memᴰ·not-nil (subst (λ (z : Standing). List·Memᴰ c (z .commits)) q n))
-    empty i s c (inr m) n = absurd (List·Memᴰ·not-nil m)
-
-    go : (e : Earlier) (s : Standing) → List·Memᴰ s (standingBefore e) → (c : Commit) → List·Memᴰ c (s .commits) → Among true [] c
-    go Nothing s m c n = absurd (List·Memᴰ·not-nil m)
-    go (Set i) s m c n = empty i s c (List·Memᴰ·cases-cons m) n
-
 -- EVERY COMMIT IN FORCE was accepted and not taken back
 pub commit-source : (source : Source) (w : Worksheet) → atRest w ≡ w → (cs : List Call) (c : Commit)
     → List·Memᴰ c (commitsInForce w (run source cs w .entries)) → CommitInForce (run source cs w .entries) c
-unfolding commitsInForce
 commit-source source w rest cs c m =
-    let entries = run source cs w .entries in
-    let k = run-kept source (forceIn w) cs [] w (start-holds w (rest-none w rest)) (no-commits w) in
-    let a = k .present c m in
-    record {
-      after = a .after;
-      split = sym (reverse-reverse entries) ∙ a .split;
-      is-commit = a .is-commit;
-      committed = a .committed;
-      not-taken-back = sym (taken-back-or (a .after)) ∙ a .stays;
-    }
+    left-source [] (run source cs w .entries) c (subst (λ (l : List Commit). List·Memᴰ c l) (commits-exactly source w rest cs) m)
 
 -- a change among some entries is one of theirs
 edit-entry : (e : Edit) (l : List Entry) → List·Memᴰ e (editsOf l) → (y : Entry) × (y ∈ l) × List·Memᴰ e (editsIn (roleIn y))

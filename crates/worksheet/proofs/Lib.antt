@@ -10,4 +10,7 @@ pub mod Rules
 pub mod Examples
 pub mod Kept
 pub mod Tracked
+pub mod Lasting
 pub mod Insured
+pub mod Unbroken
+pub mod ShownClocks

@@ -33,7 +33,7 @@ open-refused source i lent why h = ap (λ (v : Verdict). answerOf (v then drawnC
 
 -- ---- 'Ends are included; NaN is outside'
 
-abbrev degrees : Float → Degrees
+abbrev pub degrees : Float → Degrees
 degrees x = record { 0 = x }
 
 pub months : monthCheck 0 ∷ monthCheck 1 ∷ monthCheck 12 ∷ monthCheck 13 ∷ [] ≡ Refused Month ∷ Accepted ∷ Accepted ∷ Refused Month ∷ []

@@ -1,7 +1,7 @@
 -- The inputs in force: a fold over a run's entries, from the worksheet at its start; no draft is looked at. For the insurer's line. Assumes nothing.
 use Prim.Native.Nat.{ℕ}
-use mathlib.Core.Bool.{Bool, true, false, cond, _&&_}
-use mathlib.Core.List.{List, [], _∷_, _++_, reverse}
+use mathlib.Core.Bool.{Bool, true, false, cond, not, _&&_}
+use mathlib.Core.List.{List, [], _∷_, _++_, reverse, List·Memᴰ}
 use mathlib.Core.Path.{_≡_}
 use lib.Dec.{eqb}
 use lib.Ieee.{Float}
@@ -13,8 +13,9 @@ use Rattle.worksheet.specs.declared.desks.Earlier.{Earlier}
 use Rattle.worksheet.specs.declared.desks.Earlier.the-variants.{Nothing, Set}
 use Rattle.worksheet.specs.declared.desks.Worksheet.{Worksheet}
 use Rattle.worksheet.specs.Inputs.{edited}
+use Rattle.worksheet.specs.Desks.{setOf}
 use Rattle.worksheet.specs.Showing.{Source}
-use Rattle.worksheet.specs.Journal.{Role, beginning, ending, settling, belonging, returning, showing, Entry, roleIn, good, begins, belongs, own, keep, none}
+use Rattle.worksheet.specs.Journal.{begin, commit, change, Role, beginning, ending, settling, belonging, returning, showing, Entry, roleIn, good, begins, belongs, own, keep, none}
 
 -- ---- the changes of a commit
 
@@ -122,6 +123,26 @@ unfoldable pub takenBack : List Entry → Bool
 takenBack [] = false
 takenBack (x ∷ later) = takenBackBy (roleIn x) (good x) (takenBack later)
 
+-- ---- the same without the fold
+
+-- the entry's commit, if it is an accepted one that was not taken back
+abbrev pub leftBy : List Entry → Entry → Role → Bool → Bool → List Commit
+leftBy past x (beginning n) good taken = []
+leftBy past x (ending n) good taken = []
+leftBy past x (settling n) good taken = cond (good && not taken) (record { desk = n; past = past; entry = x } ∷ []) []
+leftBy past x (belonging n even es) good taken = []
+leftBy past x returning good taken = []
+leftBy past x showing good taken = []
+
+-- of entries in their order, after those of `past`: the accepted commits that were not taken back
+unfoldable pub commitsLeft : List Entry → List Entry → List Commit
+commitsLeft past [] = []
+commitsLeft past (x ∷ later) = commitsLeft (x ∷ past) later ++ leftBy past x (roleIn x) (good x) (takenBack later)
+
+-- the inputs that those commits changed: the worksheet's own, or its earlier set, where the first of all takes back
+abbrev pub startLeft : Worksheet → List Entry → Inputs
+startLeft w entries = cond (takenBack entries) (setOf (w .earlier) (w .inputs)) (w .inputs)
+
 -- ---- the insurer's line
 
 module _ (source : Source) where
@@ -158,3 +179,62 @@ pub record Drafted (w : Worksheet) (n : ℕ) (before : List Entry) : Type 0 wher
   pub own-calls : own n (reverse before) ≡ own-begin ∷ keep (belongs n) between
   -- the inputs in force at the commit are those that its begin copied
   pub same-inputs : inForce w before ≡ inForce w front
+
+-- ---- where a change in force comes from
+
+-- the commit c stands among the entries, was accepted, and was not taken back
+pub record CommitInForce (entries : List Entry) (c : Commit) : Type 0 where
+  pub after : List Entry
+  pub split : entries ≡ reverse (c .past) ++ (c .entry ∷ after)
+  pub is-commit : roleIn (c .entry) ≡ settling (c .desk)
+  pub committed : good (c .entry) ≡ true
+  pub not-taken-back : takenBack after ≡ false
+
+-- the change e was accepted, among the own calls of such a commit
+pub record InForceBy (entries : List Entry) (e : Edit) : Type 0 where
+  pub its-commit : Commit
+  pub in-force : CommitInForce entries its-commit
+  pub its-change : Entry
+  pub is-own : List·Memᴰ its-change (own (its-commit .desk) (its-commit .past))
+  pub is-change : List·Memᴰ e (editsIn (roleIn its-change))
+  pub belongs-to-it : belongs (its-commit .desk) its-change ≡ true
+  pub accepted-too : good its-change ≡ true
+
+-- 'from no edit that somebody had cancelled': of the change e, read down the entries
+pub record NeverCancelled (entries : List Entry) (e : Edit) : Type 0 where
+  pub desk : ℕ
+  pub front : List Entry
+  pub its-begin : Entry
+  pub to-change : List Entry
+  pub its-change : Entry
+  pub to-commit : List Entry
+  pub its-commit : Entry
+  pub after : List Entry
+  pub in-order : entries ≡ front ++ (its-begin ∷ (to-change ++ (its-change ∷ (to-commit ++ (its-commit ∷ after)))))
+  -- an accepted begin of the desk
+  pub is-begin : its-begin .call ≡ begin desk
+  pub begun : good its-begin ≡ true
+  -- nobody commits or takes back, and the draft is not cancelled or begun anew
+  pub quiet-to-change : none (disturbs desk) to-change ≡ true
+  -- this change of its draft, accepted
+  pub is-change : its-change .call ≡ change desk e
+  pub made : good its-change ≡ true
+  pub quiet-to-commit : none (disturbs desk) to-commit ≡ true
+  -- an accepted commit of the desk, which nobody took back
+  pub is-commit : its-commit .call ≡ commit desk
+  pub committed : good its-commit ≡ true
+  pub not-taken-back : takenBack after ≡ false
+
+-- ---- the insurer's sentence
+
+module _ (source : Source) where
+  -- of a showing after some entries, from the inputs `start` on: 'its layer heights, its critical frequencies and its
+  -- ground all came from one sunspot number, one hour and one route, and from no edit that somebody had cancelled'
+  pub record Insured (start : Inputs) (entries : List Entry) (count : ℕ) (figures : List Float) : Type 0 where
+    pub edits : List Edit
+    -- one set of inputs has all the figures
+    pub one-set : FiguresOf source (changed start edits) count figures
+    -- it has the changes of all commits that were not taken back, in their order, each once
+    pub all-edits : edits ≡ changesBy (commitsLeft [] entries)
+    -- and each of them was committed and never cancelled
+    pub none-cancelled : (e : Edit) → List·Memᴰ e edits → NeverCancelled entries e
