@@ -22,6 +22,8 @@ pub mod Reduction
 pub mod Turns
 pub mod Bounds
 pub mod Sizes
+pub mod Spans
+pub mod SineSpans
 pub mod Refusals
 pub mod Fills
 pub mod Entries

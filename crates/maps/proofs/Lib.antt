@@ -18,6 +18,8 @@ pub mod Wraps
 pub mod Points
 pub mod Sines
 pub mod Longitudes
+pub mod FinitePath
+pub mod FieldSpans
 pub mod Checks
 pub mod Written
 pub mod Typed

@@ -21,7 +21,7 @@ use Rattle.base.specs.Number.{negative, absOf, narrowOf}
 use Rattle.base.specs.Constants.{D2R, PI, PI2, PIO2, RZ}
 use Rattle.base.specs.Angle.{radiansOf}
 use Rattle.base.specs.Elementary.{acosOf, sin32Of, cos32Of, acos32Of}
-use Rattle.base.proofs.Order.{nought, Between, wider, trans-le, neg-le, le→abs, abs-no-nan, abs-not-below, le-left, le-right, not-lt→le, total-le, no-nan-finite, finite-between, between-finite, size-between}
+use Rattle.base.proofs.Order.{nought, Between, wider, trans-le, neg-le, le→abs, abs-neg, abs-no-nan, abs-not-below, le-left, le-right, not-lt→le, total-le, no-nan-finite, finite-between, between-finite, size-between}
 use Rattle.base.proofs.Monotone.{sub-mono, add-size, sub-size, mul-size, div-size, abs-finite}
 use Rattle.base.proofs.Intervals.{every, all, exactly, sub-in, div-in}
 use Rattle.base.proofs.Bounds.{sin32-size, cos32-size}
@@ -35,7 +35,7 @@ use Rattle.maps.proofs.Sines.{Away, faint, above-away, mul-away, sine-n
 use Rattle.maps.proofs.Clock.{lt-not-le, not-le→lt, farthest, Hour, Longitude, OnClock, typed-longitude, clock-range}
 
 -- ---- the ends
-zero-longitude : Longitude (decimal 0 1)
+pub zero-longitude : Longitude (decimal 0 1)
 unfolding farthest PI PI2 decimal round neg add sub le
 zero-longitude = record { low = tt; high = tt }
 
@@ -107,7 +107,7 @@ module _ (x : Float) (b : Between (neg most) most x) where
 abbrev onward : Float → Bool → Float → Float → Float
 onward lon other d a = foldedOf (lon ⊖ signOf (otherWay other a) d)
 
-abbrev four : Float
+abbrev pub four : Float
 four = fin false 1 (pos 2)
 
 way-in : (other : Bool) (a : Float) → Between nought four a → Between nought PI2 (otherWay other a)
@@ -133,58 +133,61 @@ acos-in : (q : Float) → T (not (isNan q)) → Between nought four (acosClamped
 unfolding fraction round
 acos-in q h = acos-clamped-in q h
 
-abbrev one : Float
+abbrev pub one : Float
 one = fin false 1 (pos 0)
 
-abbrev two : Float
+abbrev pub two : Float
 two = fin false 1 (pos 1)
 
-abbrev eight : Float
+abbrev pub eight : Float
 eight = fin false 1 (pos 3)
 
-abbrev sixteen : Float
+abbrev pub sixteen : Float
 sixteen = fin false 1 (pos 4)
 
 -- what every angle here is at most
-abbrev angle : Float
+abbrev pub angle : Float
 angle = fin false 1 (pos 5)
 
-sines : (v : Float) → Sized angle v → Sized two (sin32Of v) × Sized two (cos32Of v)
+pub sines : (v : Float) → Sized angle v → Sized two (sin32Of v) × Sized two (cos32Of v)
 unfolding fraction round le
 sines v h =
     let k : T (le (absOf v) (fraction 1000 1)) = trans-le (absOf v) angle (fraction 1000 1) (h .size) tt in
     (record { size = sin32-size v k }, record { size = cos32-size v k })
 
 -- ---- the ends
-record Known (p : Place) : Type 0 where
+pub record Known (p : Place) : Type 0 where
+  pub lat : Sized angle (p .lat)
   pub sin : Sized two (p .sin)
   pub cos : Sized two (p .cos)
   pub lon : Longitude (p .lon)
 
+pub placed-known : (lat lon : Float) → Sized angle lat → Longitude lon → Known (placeOf lat lon)
+unfolding placeOf
+placed-known lat lon h b = let s = sines lat h in record { lat = h; sin = s .0; cos = s .1; lon = b }
+
 -- what a latitude in degrees is at most, nudged
-abbrev hundred : Float
+abbrev pub hundred : Float
 hundred = fin false 25 (pos 2)
 
-D2R-sized : Sized (fin false 1 (negsuc 4)) D2R
+pub D2R-sized : Sized (fin false 1 (negsuc 4)) D2R
 unfolding D2R decimal round absOf negative le
 D2R-sized = record { size = tt }
 
 end-known : (lat lon : Degrees) → Sized hundred (lat .0) → Between (minusDecimal 1800 1) (decimal 1800 1) (lon .0) → Known (endOf lat lon)
-unfolding endOf placeOf radiansOf mul le
-end-known lat lon h b =
-    let s = sines (radiansOf lat .0) (times-sized angle tt h D2R-sized) in
-    record { sin = s .0; cos = s .1; lon = end-longitude lat lon b }
+unfolding endOf radiansOf mul le
+end-known lat lon h b = placed-known (lat .0 ⊗ D2R) (endLongitude lat lon) (times-sized angle tt h D2R-sized) (end-longitude lat lon b)
 
 DDX-sized : (c : Bool) → Sized one (cond c (neg DDX) DDX)
 unfolding DDX decimal round absOf negative neg le
 DDX-sized true = record { size = tt }
 DDX-sized false = record { size = tt }
 
-typed-latitude : {lat : Float} → Between (minusDecimal 900 1) (decimal 900 1) lat → Sized (decimal 900 1) lat
+pub typed-latitude : {lat : Float} → Between (minusDecimal 900 1) (decimal 900 1) lat → Sized (decimal 900 1) lat
 unfolding decimal minusDecimal round neg le
 typed-latitude b = between-sized (decimal 900 1) tt b
 
-nudged-latitude : (tlat tlong rlat rlong : Degrees) → Sized (decimal 900 1) (tlat .0) → Sized (decimal 900 1) (rlat .0) → Sized hundred (nudgedOf tlat tlong rlat rlong .0)
+pub nudged-latitude : (tlat tlong rlat rlong : Degrees) → Sized (decimal 900 1) (tlat .0) → Sized (decimal 900 1) (rlat .0) → Sized hundred (nudgedOf tlat tlong rlat rlong .0)
 unfolding nudgedOf nudgeOf decimal round add le
 nudged-latitude tlat tlong rlat rlong h k = go (close tlat rlat && close tlong rlong)
   where
@@ -221,10 +224,10 @@ unfolding EPSLON decimal round neg add sub le
 off-pole c h e = cos-off c h (λ u. subst T e (not-le→lt (c ⊖ EPSLON) nought (le-left (c ⊖ EPSLON) (hair ⊖ EPSLON) u) (no-nan-finite nought tt) (λ w. trans-le nought (c ⊖ EPSLON) (hair ⊖ EPSLON) w u)))
 
 -- a quotient by a divisor that is not near zero is a number
-quotient-number : (x y k : Float) → Sized sixteen x → T (positive k) → T (le k (absOf y)) → T (not (isNan (x ⊘ y)))
+pub quotient-number : (x y k : Float) → Sized sixteen x → T (positive k) → T (le k (absOf y)) → T (not (isNan (x ⊘ y)))
 quotient-number x y k h p q = abs-no-nan (x ⊘ y) (sixteen ⊘ k) (div-size binary32 x y sixteen k tt p (h .size) q)
 
-cos-between : (a b : Place) (d : Float) → Known a → Known b → Sized angle d → Sized sixteen (cosBetween a b d)
+pub cos-between : (a b : Place) (d : Float) → Known a → Known b → Sized angle d → Sized sixteen (cosBetween a b d)
 unfolding cosBetween add mul le
 cos-between a b d h k s = plus-sized sixteen tt (times-sized four tt (h .sin) (k .sin)) (times-sized eight tt (times-sized four tt (h .cos) (k .cos)) (sines d s .1))
 
@@ -237,7 +240,7 @@ least-in a b = go (lt a (decimal 1 6)) refl
     go false e = record { low = not-lt→le a (decimal 1 6) (le-right nought a (b .low)) (unfold decimal round isNan in tt) e; high = b .high }
 
 -- what the length of a path is at most, the long way round
-abbrev farther : Float
+abbrev pub farther : Float
 farther = PI2 ⊖ decimal 1 6
 
 length-in : (long : Bool) (a : Float) → Between (decimal 1 6) four a → Between (decimal 1 6) farther (otherWay long a)
@@ -264,7 +267,7 @@ unfolding otherWay acosClamped acos32Of
 length-fits true q = sub-fits binary32 PI2 (atLeastMinimum (acosClamped q))
 length-fits false q = least-fits (acosClamped q) (narrow-fits (acosOf (clampedOf q)))
 
-lon-sized : {x : Float} → Longitude x → Sized four x
+pub lon-sized : {x : Float} → Longitude x → Sized four x
 unfolding farthest PI PI2 decimal round neg add sub le
 lon-sized b = between-sized four tt b
 
@@ -304,7 +307,7 @@ module _ (tx rx : Place) (h : Known tx) (k : Known rx) (long : Bool) where
       go true = less-sized angle tt (lon-sized between-in) (turn-sized (foldedOf (tx .lon ⊖ rx .lon)))
       go false = larger angle tt (lon-sized between-in)
 
-  gcd-in : Between (decimal 1 6) farther (circleOf tx rx long .gcd)
+  pub gcd-in : Between (decimal 1 6) farther (circleOf tx rx long .gcd)
   unfolding circleOf gcdOf
   gcd-in = length-in long _ (least-in _ (acos-in _ (sized-number (cos-between tx rx (dlongOf (tx .lon) (rx .lon) long) h k dlong-sized))))
 
@@ -314,19 +317,60 @@ module _ (tx rx : Place) (h : Known tx) (k : Known rx) (long : Bool) where
   gcd-sines : Sized two (sin32Of (circleOf tx rx long .gcd)) × Sized two (cos32Of (circleOf tx rx long .gcd))
   gcd-sines = sines (circleOf tx rx long .gcd) (unfold PI2 decimal round neg add sub le in between-sized {lo = decimal 1 6} {hi = farther} angle tt gcd-in)
 
-  btr-cos : Sized two (cos32Of (circleOf tx rx long .btr))
+  pub bearings : Sized angle (circleOf tx rx long .btr) × Sized angle (circleOf tx rx long .brt)
   unfolding circleOf
-  btr-cos = sines (circleOf tx rx long .btr) (way-sized _ _ (north-in tx rx _ _ h k (gcd-sines .0) (gcd-sines .1) gcd-sine)) .1
+  bearings = (way-sized _ _ (north-in tx rx _ _ h k (gcd-sines .0) (gcd-sines .1) gcd-sine), way-sized _ _ (north-in rx tx _ _ k h (gcd-sines .0) (gcd-sines .1) gcd-sine))
+
+  btr-cos : Sized two (cos32Of (circleOf tx rx long .btr))
+  btr-cos = sines (circleOf tx rx long .btr) (bearings .0) .1
 
 -- ---- a sample area
-record Tracked (t : Track) : Type 0 where
+pub record Tracked (t : Track) : Type 0 where
   pub tx : Known (t .tx)
   pub rlong : Longitude (t .rlong)
   pub btr : Sized two (t .«btr_cos»)
 
-latitude-sized : (q : Float) → T (not (isNan q)) → Sized angle (latitudeOf q)
+pub latitude-sized : (q : Float) → T (not (isNan q)) → Sized angle (latitudeOf q)
 unfolding latitudeOf PIO2 decimal round neg add sub le
 latitude-sized q h = between-sized angle tt (sub-in binary32 (neg four) four tt (exactly PIO2 tt) (acos-in q h))
+
+-- straight down the meridian of a transmitter near a pole
+abs-abs : (x : Float) → absOf (absOf x) ≡ absOf x
+unfolding absOf negative neg
+abs-abs nan = refl
+abs-abs (inf true) = refl
+abs-abs (inf false) = refl
+abs-abs (fin true m e) = refl
+abs-abs (fin false m e) = refl
+
+pub abs-sized : {a : Float} (x : Float) → Sized a x → Sized a (absOf x)
+abs-sized {a} x h = record { size = subst (λ (z : Float). T (le z a)) (sym (abs-abs x)) (h .size) }
+
+pub neg-sized : {a : Float} (x : Float) → Sized a x → Sized a (neg x)
+neg-sized {a} x h = record { size = subst (λ (z : Float). T (le z a)) (sym (abs-neg x)) (h .size) }
+
+sign-sized : {a : Float} (x d : Float) → Sized a x → Sized a (signOf x d)
+unfolding signOf
+sign-sized {a} x d h = go (le (decimal 0 1) d)
+  where
+    go : (c : Bool) → Sized a (cond c (absOf x) (neg (absOf x)))
+    go true = abs-sized x h
+    go false = neg-sized (absOf x) (abs-sized x h)
+
+quarter-sized : Sized two PIO2 × Sized one (decimal 10 1) × T (le PIO2 angle) × T (not (isNan PIO2))
+unfolding PIO2 decimal round absOf negative le isNan
+quarter-sized = (record { size = tt }, record { size = tt }, tt, tt)
+
+kept-sized : (rflt : Float) → T (not (isNan rflt)) → Sized angle (cond (lt PIO2 (absOf rflt)) (PIO2 ⊗ signOf (decimal 10 1) rflt) rflt)
+kept-sized rflt n = go (lt PIO2 (absOf rflt)) refl
+  where
+    go : (c : Bool) → lt PIO2 (absOf rflt) ≡ c → Sized angle (cond c (PIO2 ⊗ signOf (decimal 10 1) rflt) rflt)
+    go true e = unfold mul le in times-sized angle tt (quarter-sized .0) (sign-sized (decimal 10 1) rflt (quarter-sized .1))
+    go false e = record { size = trans-le (absOf rflt) PIO2 angle (not-lt→le PIO2 (absOf rflt) (quarter-sized .3) (le-right nought (absOf rflt) (abs-not-below rflt n)) e) (quarter-sized .2) }
+
+meridian-sized : (tlat drf : Float) → Sized angle tlat → Sized angle drf → Sized angle (downMeridian tlat drf)
+unfolding downMeridian
+meridian-sized tlat drf h k = kept-sized (tlat ⊖ signOf drf tlat) (unfold add le in sized-number (less-sized (fin false 1 (pos 6)) tt h (sign-sized drf tlat k)))
 
 module _ (t : Track) (k : Tracked t) (drf : Float) (s : Sized angle drf) where
   circle-in : (sin cos : Float) → Sized two sin → Sized two cos → T (le hair (t .tx .cos)) → Longitude (circleLongitude t drf (cos32Of drf) sin cos)
@@ -343,20 +387,21 @@ module _ (t : Track) (k : Tracked t) (drf : Float) (s : Sized angle drf) where
       go true e = k .tx .lon
       go false e = onward-in (t .tx .lon) (le PI drf) (t .dlong) _ (k .tx .lon) (acos-in _ (off e))
 
-  on-circle-in : T (le hair (t .tx .cos)) → Longitude (onCircle t drf .lon)
-  unfolding onCircle placeOf
-  on-circle-in w =
+  on-circle-known : T (le hair (t .tx .cos)) → Known (onCircle t drf)
+  unfolding onCircle
+  on-circle-known w =
       let q : Sized sixteen (cos32Of drf ⊗ t .tx .sin ⊕ sin32Of drf ⊗ t .tx .cos ⊗ t .«btr_cos») = unfold add mul le in plus-sized sixteen tt (times-sized four tt (sines drf s .1) (k .tx .sin)) (times-sized eight tt (times-sized four tt (sines drf s .0) (k .tx .cos)) (k .btr)) in
-      let l = sines _ (latitude-sized _ (sized-number q)) in
-      circle-in _ _ (l .0) (l .1) w
+      let h = latitude-sized _ (sized-number q) in
+      let l = sines _ h in
+      placed-known _ _ h (circle-in _ _ (l .0) (l .1) w)
 
-  sample-in : Longitude (sampleOf t drf .lon)
-  unfolding sampleOf placeOf
-  sample-in = go (lt (t .tx .cos ⊖ EPSLON) (decimal 0 1)) refl
+  pub sample-known : Known (sampleOf t drf)
+  unfolding sampleOf
+  sample-known = go (lt (t .tx .cos ⊖ EPSLON) (decimal 0 1)) refl
     where
-      go : (p : Bool) → lt (t .tx .cos ⊖ EPSLON) (decimal 0 1) ≡ p → Longitude (cond p (placeOf (downMeridian (t .tx .lat) drf) (t .rlong)) (onCircle t drf) .lon)
-      go true e = k .rlong
-      go false e = on-circle-in (off-pole (t .tx .cos) (k .tx .cos) e)
+      go : (p : Bool) → lt (t .tx .cos ⊖ EPSLON) (decimal 0 1) ≡ p → Known (cond p (placeOf (downMeridian (t .tx .lat) drf) (t .rlong)) (onCircle t drf))
+      go true e = placed-known (downMeridian (t .tx .lat) drf) (t .rlong) (meridian-sized (t .tx .lat) drf (k .tx .lat) s) (k .rlong)
+      go false e = on-circle-known (off-pole (t .tx .cos) (k .tx .cos) e)
 
 -- ---- the distances
 abbrev Each : List Float → Type 0
@@ -368,7 +413,7 @@ each-at [] h i k = absurd (not-suc-le-zero k)
 each-at (x ∷ xs) h zero k = h .0
 each-at (x ∷ xs) h (suc i) k = each-at xs (h .1) i (le-of-suc-le-suc k)
 
-zero-sized : Sized angle (decimal 0 1)
+pub zero-sized : Sized angle (decimal 0 1)
 unfolding decimal round absOf negative le
 zero-sized = record { size = tt }
 
@@ -387,7 +432,7 @@ abbrev of-five : Float → List Float
 of-five gcd = R1 ∷ (R1 ⊕ R1) ∷ gcd ⊘ decimal 20 1 ∷ (gcd ⊖ (R1 ⊕ R1)) ∷ (gcd ⊖ R1) ∷ []
 
 module _ (gcd : Float) (b : Between (decimal 1 6) farther gcd) where
-  whole-sized : Sized eight gcd
+  pub whole-sized : Sized eight gcd
   unfolding PI2 decimal round neg add sub le
   whole-sized = between-sized {lo = decimal 1 6} {hi = farther} eight tt b
 
@@ -403,7 +448,7 @@ module _ (gcd : Float) (b : Between (decimal 1 6) farther gcd) where
   unfolding le
   more x k = larger angle tt k
 
-  distance-sized : (n i : ℕ) → i < 5 → Sized angle (getD (distancesOf gcd n) i nan)
+  pub distance-sized : (n i : ℕ) → i < 5 → Sized angle (getD (distancesOf gcd n) i nan)
   unfolding distancesOf
   distance-sized n i h = go (eqb n 1) (eqb n 3)
     where
@@ -415,7 +460,7 @@ module _ (gcd : Float) (b : Between (decimal 1 6) farther gcd) where
 -- ---- the rows
 row-in : (t : Track) (p : Place) (drf : Float) (present : Bool) → Tracked t → Sized angle drf → Longitude (rowOf t p drf present .lon .0)
 unfolding rowOf pointOf absent
-row-in t p drf true k s = sample-in t k drf s
+row-in t p drf true k s = sample-known t k drf s .lon
 row-in t p drf false k s = zero-longitude
 
 rows-in : (t : Track) (p : Place) (gcd : Float) (n : ℕ) → Tracked t → Between (decimal 1 6) farther gcd → (i : ℕ) → i < 5 → Longitude (getD (rowsOf t p gcd n) i nowhere .lon .0)
@@ -434,17 +479,20 @@ pub record Typed (lat lon : Degrees) : Type 0 where
   pub longitude : Between (minusDecimal 1800 1) (decimal 1800 1) (lon .0)
 
 module _ (tlat tlong rlat rlong : Degrees) (a : Typed tlat tlong) (b : Typed rlat rlong) (long : Bool) (pole : MagneticPole) where
-  transmitter : Known (endOf tlat tlong)
+  pub transmitter : Known (endOf tlat tlong)
   unfolding decimal round le
   transmitter = end-known tlat tlong (larger hundred tt (typed-latitude (a .latitude))) (a .longitude)
 
-  receiver : Known (endOf (nudgedOf tlat tlong rlat rlong) rlong)
+  pub receiver : Known (endOf (nudgedOf tlat tlong rlat rlong) rlong)
   receiver = end-known (nudgedOf tlat tlong rlat rlong) rlong (nudged-latitude tlat tlong rlat rlong (typed-latitude (a .latitude)) (typed-latitude (b .latitude))) (b .longitude)
 
+  pub tracked : Tracked (trackOf (endOf tlat tlong) (endOf (nudgedOf tlat tlong rlat rlong) rlong) long)
+  unfolding trackOf
+  tracked = record { tx = transmitter; rlong = receiver .lon; btr = btr-cos _ _ transmitter receiver long }
+
   pub point-longitude : (i : ℕ) → i < 5 → Longitude (getD (pathOf tlat tlong rlat rlong long pole .points) i nowhere .lon .0)
-  unfolding pathOf trackOf
-  point-longitude i h =
-      rows-in _ _ _ _ (record { tx = transmitter; rlong = receiver .lon; btr = btr-cos _ _ transmitter receiver long }) (gcd-in _ _ transmitter receiver long) i h
+  unfolding pathOf
+  point-longitude i h = rows-in _ _ _ _ tracked (gcd-in _ _ transmitter receiver long) i h
 
   -- so document 01's bound of the clock holds at every control point
   pub point-clock : (gmt : Float) → Hour gmt → (i : ℕ) → i < 5 → OnClock (clockOf gmt (getD (pathOf tlat tlong rlat rlong long pole .points) i nowhere .lon))

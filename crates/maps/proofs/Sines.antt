@@ -24,23 +24,23 @@ use Rattle.base.specs.Elementary.{nearOf, quarterOf, turnsOf, reducedOf, halfPi
 use Rattle.base.proofs.Picks.{cond-true, cond-false}
 use Rattle.base.proofs.Order.{nought, le→cross, le-right, no-nan-finite, trans-le, total-le, neg-le, neg-neg, le→abs, abs→le, le-abs, abs-neg, abs-fin, Between, wider, between-finite}
 use Rattle.base.proofs.Monotone.{rounds-mono, sub-rounds, add-mono, sub-mono, mul-right, mul-mono, abs-mul, abs-narrow, narrow-mono, square-not-below, mul-size}
-use Rattle.base.proofs.Intervals.{every, all, exactly, add-in, sub-in, mul-in, lowOf, highOf, calm, horner-in}
+use Rattle.base.proofs.Intervals.{every, all, exactly, add-in, sub-in, mul-in, mul-about, lowOf, highOf, calm, horner-in}
 use Rattle.base.proofs.Reduction.{factor, big}
 
 -- ---- quarter turns are a whole number: a float from 3 × 2^51 to 3 × 2^51 + 4 is one
-record Whole (n : Float) : Type 0 where
+pub record Whole (n : Float) : Type 0 where
   pub count : ℕ
   pub most : count ≤ 4
   pub is : n ≡ round binary64 false count 1
 
-abbrev top : Float
+abbrev pub top : Float
 top = fin false 1688849860263937 (pos 2)
 
 less-big : (m k : ℕ) → 3 * 2 ^ 51 ≤ m * 2 ^ k → fin false m (pos k) ⊖ big ≡ round binary64 false (m * 2 ^ k * 1 - 3 * 2 ^ 51 * 1) 1
 unfolding neg add sub sum
 less-big m k h = cond-false _ _ (le-ltb (m * 2 ^ k * 1) (3 * 2 ^ 51 * 1) (omega arith))
 
-held : (f : Format) (s : Bool) (m : ℕ) (e : ℤ) → T (fits f (fin s (suc m) e)) → suc m < 2 ^ prec f
+pub held : (f : Format) (s : Bool) (m : ℕ) (e : ℤ) → T (fits f (fin s (suc m) e)) → suc m < 2 ^ prec f
 unfolding fits
 held f s m e h =
     let a = eqb (suc m % 2) 1 in
@@ -48,7 +48,7 @@ held f s m e h =
     let c = leb (down e) (2 ^ low f) in
     ltb→lt (suc m) (2 ^ prec f) (and-r a b (and-l (a && b) c (and-l (a && b && c) (ltb (suc m * up e) (2 ^ suc (emax f) * down e)) h)))
 
-whole : (s : Float) → T (fits binary64 s) → T (finite s) → T (le big s) → T (le s top) → Whole (s ⊖ big)
+pub whole : (s : Float) → T (fits binary64 s) → T (finite s) → T (le big s) → T (le s top) → Whole (s ⊖ big)
 whole nan h p l m = absurd p
 whole (inf t) h p l m = absurd p
 whole (fin true n e) h p l m = absurd (omega (arith, le→cross big (fin true n e) tt tt l, down-pos e))
@@ -60,23 +60,26 @@ whole (fin false (suc n) (pos k)) h p l m =
 whole (fin false (suc n) (negsuc k)) h p l m = absurd (omega (arith, le→cross big (fin false (suc n) (negsuc k)) tt tt l, held binary64 false n (negsuc k) h, pow-pos k, pow-succ' 2 k))
 
 -- ---- and keep order
-turns-is : (v : Float) → turnsOf v ≡ v ⊗ factor ⊕ big ⊖ big
+pub turns-is : (v : Float) → turnsOf v ≡ v ⊗ factor ⊕ big ⊖ big
 unfolding turnsOf nearOf fraction round
 turns-is v = refl
 
 abbrev seven : Float
 seven = fin false 7 (pos 0)
 
-abbrev Turn : Float → Type 0
-Turn v = Between nought seven v
+abbrev minusSeven : Float
+minusSeven = fin true 7 (pos 0)
 
-product-in : (v : Float) → Turn v → Between nought (fin false 5 (pos 0)) (v ⊗ factor)
+abbrev pub Turn : Float → Type 0
+Turn v = Between minusSeven seven v
+
+product-in : (v : Float) → Turn v → Between (fin true 5 (pos 0)) (fin false 5 (pos 0)) (v ⊗ factor)
 unfolding le mul
-product-in v b = mul-in binary64 nought (fin false 5 (pos 0)) tt b (exactly factor tt)
+product-in v b = mul-about binary64 (fin true 5 (pos 0)) (fin false 5 (pos 0)) tt b (exactly factor tt)
 
-shifted-in : (v : Float) → Turn v → Between big (fin false 6755399441055749 (pos 0)) (v ⊗ factor ⊕ big)
+shifted-in : (v : Float) → Turn v → Between (fin false 6755399441055739 (pos 0)) (fin false 6755399441055749 (pos 0)) (v ⊗ factor ⊕ big)
 unfolding le add
-shifted-in v b = add-in binary64 big (fin false 6755399441055749 (pos 0)) tt (product-in v b) (exactly big tt)
+shifted-in v b = add-in binary64 (fin false 6755399441055739 (pos 0)) (fin false 6755399441055749 (pos 0)) tt (product-in v b) (exactly big tt)
 
 turns-mono : (v w : Float) → Turn v → Turn w → T (le v w) → T (le (turnsOf v) (turnsOf w))
 turns-mono v w b c h =
@@ -92,19 +95,19 @@ module _ (v : Float) (b : Turn v) {n : Float} (e : turnsOf v ≡ n) (a : Float) 
   number : (x : Float) → Turn x → T (not (isNan x))
   number x c = no-nan-finite x (between-finite tt tt c)
 
-  right-of : T (every (le nought a ∷ le a seven ∷ not (le n (turnsOf a)) ∷ [])) → T (le a v)
+  pub right-of : T (every (le minusSeven a ∷ le a seven ∷ not (le n (turnsOf a)) ∷ [])) → T (le a v)
   right-of t =
-      let w = all (le nought a ∷ le a seven ∷ not (le n (turnsOf a)) ∷ []) t in
+      let w = all (le minusSeven a ∷ le a seven ∷ not (le n (turnsOf a)) ∷ []) t in
       let c : Turn a = record { low = w .0; high = w .1 .0 } in
       elim (total-le a v (number a c) (number v b)) [ inl h ↦ h | inr h ↦ absurd (T-not (le n (turnsOf a)) (w .1 .1 .0) (rw e at (turns-mono v a b c h))) ]
 
-  left-of : T (every (le nought a ∷ le a seven ∷ not (le (turnsOf a) n) ∷ [])) → T (le v a)
+  pub left-of : T (every (le minusSeven a ∷ le a seven ∷ not (le (turnsOf a) n) ∷ [])) → T (le v a)
   left-of t =
-      let w = all (le nought a ∷ le a seven ∷ not (le (turnsOf a) n) ∷ []) t in
+      let w = all (le minusSeven a ∷ le a seven ∷ not (le (turnsOf a) n) ∷ []) t in
       let c : Turn a = record { low = w .0; high = w .1 .0 } in
       elim (total-le v a (number v b) (number a c)) [ inl h ↦ h | inr h ↦ absurd (T-not (le (turnsOf a) n) (w .1 .1 .0) (rw e at (turns-mono a v c b h))) ]
 
-abbrev turns : ℕ → Float
+abbrev pub turns : ℕ → Float
 turns n = round binary64 false n 1
 
 -- 6.2831845, and 0.000001
@@ -113,6 +116,16 @@ limit = fin false 13176793 (negsuc 20)
 
 abbrev start : Float
 start = fin false 8796093 (negsuc 42)
+
+-- a little more than a turn
+abbrev pub full : Float
+full = fin false 101 (negsuc 3)
+
+pub turns-whole : (v : Float) → Between nought full v → Whole (turnsOf v)
+turns-whole v b = rw (turns-is v) (whole (v ⊗ factor ⊕ big) (add-fits binary64 (v ⊗ factor) big) (between-finite tt tt w) (w .low) (w .high))
+  where
+    w : Between big top (v ⊗ factor ⊕ big)
+    w = unfold le mul add in add-in binary64 big top tt (mul-in binary64 nought (fin false 17 (negsuc 1)) tt b (exactly factor tt)) (exactly big tt)
 
 -- with n quarter turns v is at least .. and at most ..
 abbrev least : ℕ → Float
@@ -132,7 +145,7 @@ most (suc (suc (suc (suc n)))) = limit
 module _ (v : Float) (b : Between start limit v) where
   turn : Turn v
   unfolding le
-  turn = wider nought seven tt tt b
+  turn = wider minusSeven seven tt tt b
 
   near-turns : (n : ℕ) → n ≤ 4 → turnsOf v ≡ turns n → Between (least n) (most n) v
   unfolding turnsOf nearOf fraction round mul neg add sub le
@@ -142,12 +155,6 @@ module _ (v : Float) (b : Between start limit v) where
   near-turns (suc (suc (suc zero))) h e = record { low = right-of v turn e (least 3) tt; high = left-of v turn e (most 3) tt }
   near-turns (suc (suc (suc (suc zero)))) h e = record { low = right-of v turn e (least 4) tt; high = b .high }
   near-turns (suc (suc (suc (suc (suc n))))) h e = absurd (omega arith)
-
-  turns-whole : Whole (turnsOf v)
-  turns-whole = rw (turns-is v) (whole (v ⊗ factor ⊕ big) (add-fits binary64 (v ⊗ factor) big) (between-finite tt tt w) (w .low) (w .high))
-    where
-      w : Between big top (v ⊗ factor ⊕ big)
-      w = unfold le mul add in add-in binary64 big top tt (mul-in binary64 nought (fin false 17 (negsuc 1)) tt b (exactly factor tt)) (exactly big tt)
 
 -- ---- no f32 is half a turn: two quarter turns are 884279719003555 / 2 ^ 48, and 884279719003555 is odd
 abbrev half : Float
@@ -342,7 +349,7 @@ module _ (v : Float) (f : T (fits binary32 v)) where
 
     sine-away : Away faint (sinOf v)
     sine-away =
-        let w = turns-whole v b in
+        let w = turns-whole v (unfold le in wider nought full tt tt b) in
         subst (Away faint) (sym (sin-is ∙ ap (λ (n : Float). sinAt (quarterOf n) (reducedOf v n)) (w .is)))
         (sine-at (w .count) (w .most) (near-turns v b (w .count) (w .most) (w .is)))
 
