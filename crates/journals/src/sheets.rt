@@ -78,7 +78,12 @@ fn with_files(input: [u8; INPUT], r: usize) -> [u8; INPUT]
     skip(fd, 4);
     let with_record = filled(fd, input, FIELD_BYTES, FIELD_BYTES + r);
     skip(fd, RECORD - r);
-    let whole = filled(fd, with_record, FIELD_BYTES + r, FIELD_BYTES + MONTH_FILE + r);
+    let whole = filled(
+        fd,
+        with_record,
+        FIELD_BYTES + r,
+        FIELD_BYTES + MONTH_FILE + r,
+    );
     libc::close(fd);
     whole
 }
