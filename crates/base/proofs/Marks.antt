@@ -6,7 +6,7 @@ use Prim.Native.Nat.{ℕ, _+_, _*_, _/_, _%_, _≤_, _<_}
 use native.Mathlib.Nat.{add-zero}
 use native.Mathlib.Omega.{arith}
 use native.Mathlib.Decide.{decLe, ℕ-discrete}
-use lib.ListN.{length, getD, take}
+use lib.ListN.{length, take}
 use lib.Seq.{length-take-le, getD-take}
 use Rattle.base.specs.declared.refusal.Refusal.the-variants.{Ended, Marker}
 use Rattle.base.specs.declared.refusal.Verdict.the-variants.{Accepted, Refused}
@@ -71,6 +71,35 @@ month-file-good s = (
   λ e. record { whole = accepted-length s e; marks = marks-met s 0 sizes fours refl (omega arith) e },
   λ w. through s 0 sizes [] fours refl (w .marks) (w .whole) ∙ done s monthFileSize,
 )
+
+-- ---- 'a wrong marker .., with its byte place': the first one decides, wherever the file ends after it
+
+-- of the markers of records of the sizes ns from `at` on, the first wrong one is at p
+pub data FirstWrong (s : List ℕ) : ℕ → List ℕ → ℕ → Type 0 where
+  opening : {at n : ℕ} {ns : List ℕ} → (wordAt s at ≡ n → ⊥) → FirstWrong s at (n ∷ ns) at
+  closing : {at n : ℕ} {ns : List ℕ} → wordAt s at ≡ n → (wordAt s (at + n + 4) ≡ n → ⊥) → FirstWrong s at (n ∷ ns) (at + n + 4)
+  beyond :
+      {at n p : ℕ} {ns : List ℕ} → wordAt s at ≡ n → wordAt s (at + n + 4) ≡ n → FirstWrong s (at + n + 8) ns p →
+      FirstWrong s at (n ∷ ns) p
+
+not-before : (s : List ℕ) (at : ℕ) (ns : List ℕ) (p : ℕ) → FirstWrong s at ns p → at ≤ p
+not-before s at (n ∷ ns) p (opening d) = omega arith
+not-before s at (n ∷ ns) p (closing o d) = omega arith
+not-before s at (n ∷ ns) p (beyond o c r) = let h = not-before s (at + n + 8) ns p r in omega arith
+
+wrong-walk :
+    (s : List ℕ) (at : ℕ) (ns : List ℕ) (p : ℕ) → Fours ns → at % 4 ≡ 0 → FirstWrong s at ns p → p + 4 ≤ length s →
+    walk s at (layout ns) ≡ Refused (Marker p)
+wrong-walk s at (n ∷ ns) p f m (opening d) l = bad-open s at n ns m (f .0) (omega arith) l d
+wrong-walk s at (n ∷ ns) p f m (closing o d) l = bad-close s at n ns m (f .0) (omega arith) (omega arith) o (omega arith) d
+wrong-walk s at (n ∷ ns) p f m (beyond o c r) l =
+    let w = f .0 in
+    let h = not-before s (at + n + 8) ns p r in
+    passed s at n ns m w (omega arith) (omega arith) o (omega arith) c ∙ wrong-walk s (at + n + 8) ns p (f .1) (omega arith) r l
+
+pub first-wrong : (s : List ℕ) (p : ℕ) → FirstWrong s 0 sizes p → p + 4 ≤ length s → monthFileCheck s ≡ Refused (Marker p)
+unfolding monthFileCheck
+first-wrong s p r l = wrong-walk s 0 sizes p fours refl r l
 
 -- ---- (a) and (b): a good file cut short is refused at the first four bytes that are not there
 
