@@ -33,6 +33,7 @@ pub mod Ladders
 pub mod Indexing
 pub mod Maps
 pub mod Marks
+pub mod WalkAnswers
 pub mod MadeFiles
 pub mod Points
 pub mod IndexAnswers
