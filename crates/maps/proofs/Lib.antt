@@ -23,3 +23,4 @@ pub mod Alone
 pub mod Ignored
 pub mod Midnight
 pub mod NoSun
+pub mod GoodSheet
