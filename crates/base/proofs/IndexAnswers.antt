@@ -3,7 +3,7 @@
 use mathlib.Core.Path.{_≡_, refl, sym, ap, _∙_, subst}
 use mathlib.Core.Bool.{Bool, true, false, cond}
 use mathlib.Core.List.{List}
-use Prim.Native.Nat.{ℕ, zero, suc, _+_, _-_, _%_, _≤_, _<_}
+use Prim.Native.Nat.{ℕ, zero, suc, _+_, _-_, _≤_, _<_}
 use native.Mathlib.Omega.{arith}
 use native.Mathlib.Numerals.{add-one}
 use native.Mathlib.Decide.{ℕ-discrete}
@@ -15,7 +15,7 @@ use Rattle.base.specs.declared.refusal.Verdict.{Verdict}
 use Rattle.base.specs.declared.refusal.Verdict.the-variants.{Accepted, Refused}
 use Rattle.base.specs.Refusal.{verdictReport}
 use Rattle.base.specs.Index.{ikimAt, indexOf, mapWord, rows, harmonics, climbs, goodMap, lowestBad, indexCheck, Climbs, top, level, up, GoodIndex}
-use Rattle.base.proofs.Picks.{cond-true, cond-false, never}
+use Rattle.base.proofs.Picks.{cond-true, cond-false}
 use Rattle.base.proofs.Records.{refused-accepted}
 use Rattle.base.proofs.Ladders.{and-true, signedWords, same-yes, same-no, exceeds-even, good-rest, good-known, mapWords, same-words, limits, Checked, unchecked, bad-map, next-map, no-map}
 use Rattle.base.proofs.Indexing.{climbs-same, index-word, good-index}

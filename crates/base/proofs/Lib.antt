@@ -36,6 +36,7 @@ pub mod Indexing
 pub mod Maps
 pub mod TableEntries
 pub mod Marks
+pub mod WalkAnswers
 pub mod MadeFiles
 pub mod Points
 pub mod IndexAnswers

@@ -1,16 +1,15 @@
 -- The month file's check without the walk: it accepts exactly the files that have 38,552 bytes and 18 right markers (`month-file-good`); and document 01's
--- known points (a), (b) and (c) over all such files. The walk passes a record, or is refused in it, at once (Walks). Assumes nothing.
+-- known points (b) and (c) over all such files. The walk passes a record, or is refused in it, at once (Walks). Assumes nothing.
 use mathlib.Core.Path.{_≡_, refl, sym, ap, _∙_}
 use mathlib.Core.List.{List, [], _∷_, _++_}
-use Prim.Native.Nat.{ℕ, _+_, _*_, _/_, _%_, _≤_, _<_}
+use Prim.Native.Nat.{ℕ, _+_, _*_, _/_, _%_, _≤_}
 use native.Mathlib.Nat.{add-zero}
 use native.Mathlib.Omega.{arith}
 use native.Mathlib.Decide.{decLe, ℕ-discrete}
-use lib.ListN.{length, getD, take}
-use lib.Seq.{length-take-le, getD-take}
+use lib.ListN.{length, take}
 use Rattle.base.specs.declared.refusal.Refusal.the-variants.{Ended, Marker}
 use Rattle.base.specs.declared.refusal.Verdict.the-variants.{Accepted, Refused}
-use Rattle.base.specs.Words.{wordOf, wordAt}
+use Rattle.base.specs.Words.{wordAt}
 use Rattle.base.specs.MonthFile.{monthFileSize, sizes, layout, walk, monthFileCheck, Marked, WellMarked, MarkedToLast}
 use Rattle.base.proofs.Records.{refused-accepted}
 use Rattle.base.proofs.Walks.{no-open, bad-open, no-close, bad-close, passed, accepted-length}
@@ -21,11 +20,11 @@ lengthOf [] = 0
 lengthOf (n ∷ ns) = n + 8 + lengthOf ns
 
 -- each size is a whole number of words
-abbrev Fours : List ℕ → Type 0
+abbrev pub Fours : List ℕ → Type 0
 Fours [] = Unit
 Fours (n ∷ ns) = (n % 4 ≡ 0) × Fours ns
 
-fours : Fours sizes
+pub fours : Fours sizes
 fours = (refl, (refl, (refl, (refl, (refl, (refl, (refl, (refl, (refl, tt)))))))))
 
 fours-eight : Fours (take 8 sizes)
@@ -61,7 +60,7 @@ marks-met s at (n ∷ ns) f m h e = let w = f .0 in elim (decLe (at + 4) (length
 
 -- ---- 'nine records, each between two u32 markers of its size, in all 38,552 bytes; later bytes are ignored'
 
-done : (s : List ℕ) (at : ℕ) → walk s at (layout []) ≡ Accepted
+pub done : (s : List ℕ) (at : ℕ) → walk s at (layout []) ≡ Accepted
 unfolding walk layout
 done s at = refl
 
@@ -71,43 +70,6 @@ month-file-good s = (
   λ e. record { whole = accepted-length s e; marks = marks-met s 0 sizes fours refl (omega arith) e },
   λ w. through s 0 sizes [] fours refl (w .marks) (w .whole) ∙ done s monthFileSize,
 )
-
--- ---- (a) and (b): a good file cut short is refused at the first four bytes that are not there
-
-module _ (s : List ℕ) (n : ℕ) (l : n ≤ length s) where
-  cut-length : length (take n s) ≡ n
-  cut-length = length-take-le n s l
-
-  cut-word : (at : ℕ) → at + 4 ≤ n → wordAt (take n s) at ≡ wordAt s at
-  unfolding wordAt
-  cut-word at h =
-      let b0 = getD-take n s at 0 (omega arith) in
-      let b1 = getD-take n s (at + 1) 0 (omega arith) in
-      let b2 = getD-take n s (at + 2) 0 (omega arith) in
-      let b3 = getD-take n s (at + 3) 0 (omega arith) in
-      λ i. wordOf (b0 i) (b1 i) (b2 i) (b3 i)
-
-  cut-walk :
-      (at : ℕ) (ns : List ℕ) → Fours ns → at % 4 ≡ 0 → Marked s at ns → at ≤ n → n < at + lengthOf ns →
-      walk (take n s) at (layout ns) ≡ Refused (Ended (n / 4 * 4))
-  cut-walk at [] f m k a b = absurd (omega arith)
-  cut-walk at (x ∷ ns) f m k a b =
-      let c = cut-length in
-      let w = f .0 in
-      let e : Refused (Ended (length (take n s) / 4 * 4)) ≡ Refused (Ended (n / 4 * 4)) = ap (λ (y : ℕ). Refused (Ended (y / 4 * 4))) c in
-      elim (decLe (at + 4) n) [
-        | no q ↦ no-open (take n s) at x ns m w (omega arith) (omega arith) ∙ e
-        | yes q ↦ elim (decLe (at + x + 8) n) [
-          | no r ↦ no-close (take n s) at x ns m w (omega arith) (omega arith) (cut-word at q ∙ k .0) (omega arith) ∙ e
-          | yes r ↦
-              passed (take n s) at x ns m w (omega arith) (omega arith) (cut-word at q ∙ k .0) (omega arith) (cut-word (at + x + 4) (omega arith) ∙ k .1)
-              ∙ cut-walk (at + x + 8) ns (f .1) (omega arith) (k .2) r (omega arith)
-        ]
-      ]
-
-pub cut-anywhere : (s : List ℕ) (n : ℕ) → WellMarked s → n < monthFileSize → monthFileCheck (take n s) ≡ Refused (Ended (n / 4 * 4))
-unfolding monthFileCheck
-cut-anywhere s n w h = let l = w .whole in cut-walk s n (omega arith) 0 sizes fours refl (w .marks) (omega arith) h
 
 -- ---- (b) and (c), of every file whose first 17 markers are right
 

@@ -1,11 +1,11 @@
 -- Document 01, Elementary steps: 'Any NaN gives NaN', of the root and the elementary functions in both formats, and of the four operations with a NaN on
 -- either side. Comparisons with a NaN fail, and what is then worked out is a NaN at its first step. Assumes nothing.
-use mathlib.Core.Path.{_≡_, refl, sym, ap, _∙_}
+use mathlib.Core.Path.{_≡_, refl, ap}
 use mathlib.Core.List.{List, [], _∷_}
 use lib.Ieee.{Float, nan, inf, fin, Format, neg, add, sub, mul, div, lt, le, eq, round}
 use Rattle.base.specs.Double.{fraction}
 use Rattle.base.specs.Number.{negative, absOf, withSign, narrowOf, sqrtOf}
-use Rattle.base.specs.Elementary.{nearOf, powerOf, horner, factorial, upFrom, alternating, atanTerms, expTerms, halfAngle, atanSeries, atanWithin, atanFrom, sinOf, cosOf, atanOf, acosOf, expWithin, expOf, lnOf, sin32Of, cos32Of, atan32Of, acos32Of, exp32Of, ln32Of, elementaryFunctions}
+use Rattle.base.specs.Elementary.{horner, factorial, upFrom, expTerms, halfAngle, atanSeries, atanWithin, atanFrom, sinOf, cosOf, atanOf, acosOf, expWithin, expOf, lnOf, sin32Of, cos32Of, atan32Of, acos32Of, exp32Of, ln32Of, elementaryFunctions}
 
 -- ---- the operations: a NaN on the left, and on the right
 

@@ -93,6 +93,10 @@ module _ (s t : List ℕ) (a : Alike 38552 s t) where
     unfolding shownOf
     later-month-answer = ap (λ (v : Verdict). answerOf v (routeOf x .count)) (month-files f)
 
+    pub later-month-buffer : (out : List Float) → bufferAfter f s x out ≡ bufferAfter f t x out
+    unfolding bufferAfter
+    later-month-buffer out = let c = month-files f in let l = later-month-figures in λ i. writtenOver (c i) (l i) out
+
 -- ---- the record alone, beside any month file
 
 module _ (f g : List ℕ) (b : Alike 7904 f g) (s : List ℕ) where
@@ -117,12 +121,13 @@ module _ (f g : List ℕ) (b : Alike 7904 f g) (s : List ℕ) where
     unfolding shownOf
     later-record-answer = ap (λ (v : Verdict). answerOf v (routeOf x .count)) record-files
 
+    pub later-record-buffer : (out : List Float) → bufferAfter f s x out ≡ bufferAfter g s x out
+    unfolding bufferAfter
+    later-record-buffer out = let c = record-files in let l = later-record-figures in λ i. writtenOver (c i) (l i) out
+
 -- ---- both
 
 module _ (f g s t : List ℕ) (b : Alike 7904 f g) (a : Alike 38552 s t) where
-  files-alike : filesCheck f s ≡ filesCheck g t
-  files-alike = record-files f g b s ∙ month-files s t a g
-
   module _ (x : Inputs) where
     pub later-figures : figuresOf f s x ≡ figuresOf g t x
     later-figures = later-record-figures f g b s x ∙ later-month-figures s t a g x
@@ -131,5 +136,4 @@ module _ (f g s t : List ℕ) (b : Alike 7904 f g) (a : Alike 38552 s t) where
     later-answer = later-record-answer f g b s x ∙ later-month-answer s t a g x
 
     pub later-buffer : (out : List Float) → bufferAfter f s x out ≡ bufferAfter g t x out
-    unfolding bufferAfter
-    later-buffer out = let c = files-alike in let l = later-figures in λ i. writtenOver (c i) (l i) out
+    later-buffer out = later-record-buffer f g b s x out ∙ later-month-buffer s t a g x out

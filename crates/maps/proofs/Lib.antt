@@ -30,3 +30,4 @@ pub mod Legendre
 pub mod FieldSums
 pub mod Midnight
 pub mod NoSun
+pub mod GoodSheet

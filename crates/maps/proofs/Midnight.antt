@@ -2,7 +2,7 @@
 -- computed at 24, at +0 and at -0. Assumes nothing.
 use mathlib.Core.Path.{_≡_, refl, ap, _∙_}
 use mathlib.Core.Bool.{cond}
-use lib.Ieee.{Float, round, neg, add, sub, div, lt, le}
+use lib.Ieee.{Float, round, neg, add, sub, lt, le}
 use Rattle.base.specs.declared.angle.Radians.{Radians}
 use Rattle.base.specs.Single.{_⊕_, _⊖_, _⊘_, decimal, minusDecimal}
 use Rattle.maps.specs.Layers.{clockOf}

@@ -15,12 +15,11 @@ use Rattle.base.specs.declared.angle.Degrees.{Degrees}
 use Rattle.base.specs.Single.{_⊕_, _⊖_, _⊗_, _⊘_, decimal}
 use Rattle.base.specs.Number.{negative, absOf, minOf}
 use Rattle.base.specs.Angle.{radiansOf, degreesOf}
-use Rattle.base.specs.Constants.{D2R}
 use Rattle.base.specs.Elementary.{sin32Of, cos32Of, acos32Of}
 use Rattle.base.proofs.Picks.{cond-true, cond-false}
 use Rattle.base.proofs.Order.{nought}
 use Rattle.base.proofs.MinMax.{lt-asym}
-use Rattle.base.proofs.NoNumbers.{nan-add, nan-mul, add-nan, sub-nan, mul-nan, div-nan, sin32-nan, cos32-nan, acos32-nan}
+use Rattle.base.proofs.NoNumbers.{nan-add, nan-mul, add-nan, mul-nan, div-nan, sin32-nan, acos32-nan}
 use Rattle.maps.specs.declared.geometry.ControlPoint.{ControlPoint}
 use Rattle.maps.specs.declared.magnetic.MagneticVars.{MagneticVars}
 use Rattle.maps.specs.declared.inputs.Factors.{Factors}
@@ -32,6 +31,10 @@ use Rattle.maps.specs.declared.ionosphere.layers.Layer.{Layer}
 use Rattle.maps.specs.declared.ionosphere.layers.Ef1.{Ef1}
 use Rattle.maps.specs.declared.ionosphere.layers.Merged.{Merged}
 use Rattle.maps.specs.declared.ionosphere.layers.LayerParams.{LayerParams}
+use Rattle.maps.specs.declared.inputs.Inputs.{Inputs}
+use Rattle.maps.specs.Magnetic.{magvarOf}
+use Rattle.maps.specs.Ionosphere.{gammasAt}
+use Rattle.maps.specs.Figures.{numbersOf, pointRow, hourFrom, hourOf}
 use Rattle.maps.specs.Noisy.{turnOf, inPlane, columnOf, zzOf, latitudeSum, noisySum, noisyOf}
 use Rattle.maps.specs.Layers.{SUN, sun, sunOf, monthlyOf, sspOf, sslOf, zenithOf, timvarOf, f1Layer, ef1Of, ratOf, eRetardation, belowF2, retardedOf, layersOf}
 
@@ -210,3 +213,14 @@ pub no-sun-layers :
     (month ≡ 0) ⊎ (12 < month) → NoSun (layersOf (monthlyOf file month ssn) ssn gmt psc hmym pt mag g)
 no-sun-layers file month ssn gmt psc hmym pt mag g out =
     no-sun-here (monthlyOf file month ssn) ssn gmt psc hmym pt mag g (unfold monthlyOf in no-sun month out)
+
+-- and so in the row of every point of a sheet: `zenang`, `rat` and yi[2]
+pub no-sun-row :
+    (f2 file : List ℕ) (i : Inputs) (pt : ControlPoint) → (i .month ≡ 0) ⊎ (12 < i .month) →
+    let row = pointRow (hourOf f2 file i) i pt in (getD row 21 nan ≡ nan) × (getD row 18 nan ≡ nan) × (getD row 12 nan ≡ nan)
+unfolding pointRow numbersOf hourOf hourFrom
+no-sun-row f2 file i pt out =
+    let mag = magvarOf (pt .lat) (pt .lon) in
+    let h = hourOf f2 file i in
+    let n = no-sun-layers file (i .month) (i .ssn) (i .gmt) (i .psc) (h .hmym) pt mag (gammasAt (h .ab) (h .index) (pt .lat) (pt .lon) mag) out in
+    (n .zenang, n .rat, n .yi2)
