@@ -22,6 +22,9 @@ pub mod Reduction
 pub mod Turns
 pub mod Bounds
 pub mod Sizes
+pub mod DoubleSizes
+pub mod SineSizes
+pub mod LogSizes
 pub mod Refusals
 pub mod Fills
 pub mod Entries
