@@ -9,6 +9,8 @@ pub mod MapSeries
 pub mod Refills
 pub mod NoisySums
 pub mod Clock
+pub mod FiniteMaps
+pub mod FiniteLayers
 pub mod WholeSums
 pub mod WholeParts
 pub mod Offsets
