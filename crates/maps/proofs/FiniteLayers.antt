@@ -1,15 +1,14 @@
--- Which of the layers' figures are finite, with fields in range and the files' words held between bounds: every step has a bound, by the rules of `Sized`. Only three things can go wrong: the cosine of the zenith angle can come out beyond 1 in size, M(3000)F2 can be next to zero, and so can an F1 frequency above zero. Assumes nothing.
+-- Which of the layers' figures are finite, with fields in range and the files' words held between bounds: every step has a bound, by the rules of `Sized`. What can go wrong is named: the cosine of the zenith angle can come out beyond 1 in size, f2m3 can be next to zero, so can an F1 frequency above zero, and E's can be too high for the exponential. Assumes nothing.
 use mathlib.Core.Path.{_≡_, refl, sym, ap, subst, _∙_}
 use mathlib.Core.Logic.{_⊎_, inl, inr}
 use mathlib.Core.Bool.{Bool, true, false, not, cond}
 use mathlib.Core.List.{List, [], _∷_}
-use Prim.Native.Nat.{ℕ, _+_, _*_, _<_}
+use Prim.Native.Nat.{ℕ, zero, suc, _+_, _*_}
 use native.Mathlib.Omega.{arith}
-use lib.Dec.{T}
+use lib.Dec.{T, lt→ltb}
 use lib.IntN.{pos, negsuc}
 use lib.ListN.{getD}
-use lib.Ieee.{Float, nan, inf, fin, binary32, round, neg, add, sub, mul, div, lt, le, isNan}
-use lib.Ieee.Bits.{is-true}
+use lib.Ieee.{Float, nan, inf, fin, binary32, round, neg, add, sub, mul, div, lt, le, isNan, toUnsigned}
 use lib.Ieee.Fits.{div-fits}
 use lib.Ieee.Scale.{finite}
 use lib.Ieee.Positive.{positive}
@@ -20,21 +19,19 @@ use Rattle.base.specs.Double.{fraction}
 use Rattle.base.specs.Number.{negative, absOf, minOf, maxOf, narrowOf, sqrtOf}
 use Rattle.base.specs.Constants.{D2R, R2D}
 use Rattle.base.specs.Angle.{radiansOf, degreesOf}
-use Rattle.base.specs.Elementary.{sin32Of, cos32Of, acosOf, acos32Of, ln32Of}
+use Rattle.base.specs.Elementary.{nearOf, turnsOf, reducedOf, quarterOf, halfPi, horner, factorial, upFrom, alternating, sinTerms, cosTerms, sinSeries, cosSeries, sinAt, cosAt, sinOf, cosOf, sin32Of, cos32Of, acosOf, acos32Of, lnOf, ln32Of, exp32Of}
 use Rattle.base.specs.Words.{floatAt}
 use Rattle.base.specs.Tables.{placeOf, anew, bnew, achi, bchi, abmap}
-use Rattle.base.specs.Index.{indexOf, indexCheck}
-use Rattle.base.specs.Blend.{cofionOf, hmymOf, fakmapOf}
-use Rattle.base.specs.declared.refusal.Verdict.the-variants.{Accepted}
-use Rattle.base.proofs.Picks.{cond-true, cond-false}
-use Rattle.base.proofs.Order.{nought, Between, wider, trans-le, refl-le, total-le, lt→le, not-lt→le, le-left, le-right, no-nan-finite, finite-between, between-finite, abs-not-below, abs→le, abs→ge, le→abs, le-abs, abs-no-nan}
-use Rattle.base.proofs.Monotone.{sub-mono, abs-finite}
-use Rattle.base.proofs.Intervals.{every, exactly, add-in, sub-in, mul-in, mul-about, div-in, sqrt-in, between-positive}
+use Rattle.base.proofs.Picks.{cond-false}
+use Rattle.base.proofs.Order.{nought, Between, wider, trans-le, refl-le, total-le, lt→le, not-lt→le, le-right, no-nan-finite, finite-between, between-finite, abs-not-below, abs→le, le→abs, le-abs, abs-fin}
+use Rattle.base.proofs.Monotone.{sub-mono, abs-div, div-not-below}
+use Rattle.base.proofs.Intervals.{every, exactly, add-in, sub-in, mul-in, div-in, sqrt-in, between-positive}
 use Rattle.base.proofs.Bounds.{acos32-range}
 use Rattle.base.proofs.Sizes.{Sized, plus-sized, less-sized, times-sized, between-sized, larger, sized-number, sized-finite}
 use Rattle.base.proofs.DoubleSizes.{over-sized, turned-sized, either-sized}
 use Rattle.base.proofs.SineSizes.{nine, cos32-sized}
 use Rattle.base.proofs.LogSizes.{logs, ln32-sized}
+use Rattle.maps.proofs.ExpNumbers.{add-number, exp32-number, exp32-sized}
 use Rattle.maps.specs.declared.geometry.ControlPoint.{ControlPoint}
 use Rattle.maps.specs.declared.magnetic.MagneticVars.{MagneticVars}
 use Rattle.maps.specs.declared.inputs.Factors.{Factors}
@@ -42,12 +39,11 @@ use Rattle.maps.specs.declared.ionosphere.versy.Gammas.{Gammas}
 use Rattle.maps.specs.declared.ionosphere.layers.Monthly.{Monthly}
 use Rattle.maps.specs.declared.ionosphere.layers.Layer.{Layer}
 use Rattle.maps.specs.declared.ionosphere.layers.Merged.{Merged}
-use Rattle.maps.specs.declared.ionosphere.layers.LayerParams.{LayerParams}
 use Rattle.maps.specs.declared.ionosphere.layers.EsParams.{EsParams}
 use Rattle.maps.specs.declared.ionosphere.layers.Ground.{Ground}
-use Rattle.maps.specs.Layers.{termOf, abmapAt, monthlyOf, sspOf, sslOf, zenithOf, timvarOf, gamma6Of, eLayer, f1Layer, ef1Of, ratOf, retardOf, atLeastXf1, halfOver, twilightOf, mergedOf, eRetardation, belowF2, retardedOf, layersOf, esindOf, groundAt, groundOf}
-use Rattle.maps.specs.Noisy.{noisyOf}
-use Rattle.maps.proofs.Clock.{lt-not-le, not-le→lt, Hour, Longitude, OnClock, clock-range, layer-clock}
+use Rattle.maps.specs.Layers.{termOf, abmapAt, monthlyOf, sspOf, sslOf, zenithOf, timvarOf, gamma6Of, eLayer, f1Layer, ef1Of, ratOf, retardOf, atLeastXf1, halfOver, twilightOf, mergedOf, eRetardation, belowF2, retardedOf, layersOf, abiyOf, clockOf, SUN, sunOf, esindOf, groundAt, groundOf}
+use Rattle.maps.specs.Noisy.{inPlane, turnOf, columnOf, zzOf, latitudeSum, noisySum, noisyOf}
+use Rattle.maps.proofs.Clock.{lt-not-le, Hour, Longitude, OnClock, clock-range, layer-clock}
 use Rattle.maps.proofs.FiniteMaps.{word, Bounded, Sunspots, Plane, degrees, noises, gammas, Mapped, noisy-sized}
 
 -- 2 ^ n
@@ -136,11 +132,7 @@ nan-angle : degreesOf (record { 0 = absOf nan }) .0 ≡ nan
 unfolding degreesOf absOf negative mul
 nan-angle = refl
 
--- of a turn's number of degrees and more: 4 radians
-abbrev pub most : Float
-most = decimal 2300 1
-
-angle-in : (q : Float) → Within q → Between (decimal 0 1) most (angleOf q)
+angle-in : (q : Float) → Within q → Between (decimal 0 1) (decimal 2300 1) (angleOf q)
 unfolding degreesOf R2D fraction decimal round mul le neg
 angle-in q h =
     let b = acos32-range q h in
@@ -150,10 +142,14 @@ angle-in q h =
     } in
     mul-in binary32 nought (decimal 2300 1) tt a (exactly R2D tt)
 
-module _ (m : Monthly) (ssn gmt : Float) (psc : Factors) (hmym : List Float) (pt : ControlPoint) (mag : MagneticVars) (g : Gammas) where
-  abbrev layers : LayerParams
-  layers = layersOf m ssn gmt psc hmym pt mag g
+-- It comes out beyond 1: in April, at hour 0, at longitude 0 and 14.83 degrees south, where the sun is straight below.
+pub cosine-beyond :
+    let lat = radiansOf (record { 0 = minusDecimal 1483 2 }) in
+    le (absOf (zenithCosine lat (record { 0 = decimal 0 1 }) (sspOf (sunOf 4) lat) (sslOf (decimal 0 1)))) (fraction 1 1) ≡ false
+unfolding zenithCosine radiansOf D2R sspOf sunOf SUN sslOf sin32Of cos32Of sinOf cosOf nearOf turnsOf reducedOf quarterOf halfPi toUnsigned sinAt cosAt sinSeries cosSeries horner sinTerms cosTerms factorial upFrom alternating narrowOf absOf negative decimal minusDecimal fraction round neg add sub mul lt le
+cosine-beyond = refl
 
+module _ (m : Monthly) (ssn gmt : Float) (psc : Factors) (hmym : List Float) (pt : ControlPoint) (mag : MagneticVars) (g : Gammas) where
   zenang-is : layersOf m ssn gmt psc hmym pt mag g .zenang .0 ≡ angleOf (cosineOf m gmt pt)
   unfolding layersOf ef1Of timvarOf zenithOf zenithCosine
   zenang-is = refl
@@ -162,7 +158,7 @@ module _ (m : Monthly) (ssn gmt : Float) (psc : Factors) (hmym : List Float) (pt
   pub zenang-nan : le (absOf (cosineOf m gmt pt)) (fraction 1 1) ≡ false → layersOf m ssn gmt psc hmym pt mag g .zenang .0 ≡ nan
   zenang-nan e = zenang-is ∙ ap (λ (x : Float). degreesOf (record { 0 = absOf x }) .0) (beyond-nan (cosineOf m gmt pt) e) ∙ nan-angle
 
-  -- and else it is from 0 to 230 degrees
+  -- and else it is from 0 to 230 degrees, 4 radians being more than that of any step
   pub zenang-range : Within (cosineOf m gmt pt) → Between (decimal 0 1) (decimal 2300 1) (layersOf m ssn gmt psc hmym pt mag g .zenang .0)
   zenang-range h = subst (Between (decimal 0 1) (decimal 2300 1)) (sym zenang-is) (angle-in (cosineOf m gmt pt) h)
 
@@ -467,6 +463,11 @@ retard-in b p q c x t u v f s w h =
     ten-finite : T (finite (decimal 10 1))
     ten-finite = unfold decimal round in tt
 
+-- That of an infinity is NaN: so it would be of F1 if its frequency were so near to zero that 0.834 of F2's over it is infinite.
+pub retard-infinite : retardOf (inf false) ≡ nan
+unfolding retardOf ln32Of lnOf narrowOf decimal round neg add sub mul div
+retard-infinite = refl
+
 -- of E: fc is at most 2 ^ 54, and fi[0] at least 1/32
 e-retard : (fc fi0 : Float) → Sized (twoTo 54) fc → T (le (fin false 1 (negsuc 4)) (absOf fi0)) → Sized (twoTo 68) (retardOf (atLeastXf1 fc fi0))
 unfolding atLeastXf1 decimal round neg add sub mul div le
@@ -603,9 +604,6 @@ module _ (z zmax : Float) (f1 : Layer) (some : SomeF1 z zmax f1) (ffec hm rat fc
       where
         low : {y : Float} → Sized (twoTo 125) y → Sized (twoTo 126) (hm ⊖ ym ⊖ dh ⊕ y)
         low k = unfold add le in plus-sized (twoTo 126) tt (less-sized (twoTo 88) tt up-sized dh-sized) k
-
-        wide : {a y : Float} → T (le a (twoTo 126)) → Sized a y → Sized (twoTo 126) y
-        wide t k = larger (twoTo 126) t k
 
         go : (a b : Bool) → Sizes (cond a (cond b (record { rft = halfOver yn (retardOf ffec) ⊗ (decimal 10 1 ⊖ sz); hi = hm ⊖ ym ⊖ dh ⊕ y1; yi = y1 }) (record { rft = halfOver yn (retardOf ffec) ⊗ (decimal 10 1 ⊖ sz); hi = hm ⊖ ym ⊖ dh ⊕ f1 .yi; yi = f1 .yi })) (record { rft = halfOver yn (retardOf ffec) ⊗ (decimal 10 1 ⊖ sz); hi = f1 .hi; yi = f1 .yi }))
         go true true = record { rft = rft-sized; hi = low y1-sized; yi = unfold le in larger (twoTo 126) tt y1-sized }
@@ -757,6 +755,145 @@ retarded-sized z zmax l ret hpf2 rat fc fi2 E M R P C S A O = go (lt (decimal 0 
         let s = layer-sized z zmax l fi2 E S in
         without-f1 ret l R (s .2) (s .1)
 
+-- ---- the absorption index
+
+index-in : (fi0 : Float) → Between (fin false 1 (negsuc 4)) (twoTo 53) fi0 → Sized (twoTo 54) (minusDecimal 2937 3 ⊕ decimal 8445 4 ⊗ fi0)
+unfolding decimal minusDecimal round absOf negative neg add mul le
+index-in fi0 b =
+    let a : Sized (twoTo 2) (minusDecimal 2937 3) = record { size = tt } in
+    let c : Sized (twoTo 0) (decimal 8445 4) = record { size = tt } in
+    plus-sized (twoTo 54) tt a (times-sized (twoTo 53) tt c (between-sized (twoTo 53) tt b))
+
+index-number : (fi0 : Float) → Between (fin false 1 (negsuc 4)) (twoTo 53) fi0 → T (not (isNan (abiyOf fi0)))
+unfolding abiyOf minusDecimal round
+index-number fi0 b = add-number binary32 (minusDecimal 4 2) (exp32Of (minusDecimal 2937 3 ⊕ decimal 8445 4 ⊗ fi0)) tt (exp32-number (minusDecimal 2937 3 ⊕ decimal 8445 4 ⊗ fi0) (sized-number (index-in fi0 b)))
+
+index-short : (fi0 : Float) → Between (fin false 1 (negsuc 4)) (twoTo 53) fi0 → T (le fi0 (decimal 560 1)) → Sized (fin false 3 (pos 4)) (minusDecimal 2937 3 ⊕ decimal 8445 4 ⊗ fi0)
+unfolding decimal minusDecimal round neg add mul le
+index-short fi0 b t =
+    let c : Between (fin false 1 (negsuc 4)) (decimal 560 1) fi0 = record { low = b .low; high = t } in
+    let p : Between nought (fin false 3 (pos 4)) (decimal 8445 4 ⊗ fi0) = mul-in binary32 nought (fin false 3 (pos 4)) tt (exactly (decimal 8445 4) tt) c in
+    let q : Between (neg (twoTo 2)) (fin false 3 (pos 4)) (minusDecimal 2937 3 ⊕ decimal 8445 4 ⊗ fi0) = add-in binary32 (neg (twoTo 2)) (fin false 3 (pos 4)) tt (exactly (minusDecimal 2937 3) tt) p in
+    between-sized (fin false 3 (pos 4)) tt q
+
+index-sized : (fi0 : Float) → Between (fin false 1 (negsuc 4)) (twoTo 53) fi0 → T (le fi0 (decimal 560 1)) → Sized (twoTo 125) (abiyOf fi0)
+unfolding abiyOf decimal minusDecimal round absOf negative neg add le
+index-sized fi0 b t =
+    let a : Sized (twoTo 0) (minusDecimal 4 2) = record { size = tt } in
+    plus-sized (twoTo 125) tt a (exp32-sized (minusDecimal 2937 3 ⊕ decimal 8445 4 ⊗ fi0) (index-short fi0 b t .size))
+
+-- ---- hpf2 next to zero
+
+number-abs : (z : Float) → T (not (isNan (absOf z))) → T (not (isNan z))
+unfolding absOf negative neg isNan
+number-abs nan h = h
+number-abs (inf s) h = tt
+number-abs (fin s m e) h = tt
+
+quotient-number : (y : Float) → T (finite y) → T (not (isNan (decimal 14900 1 ⊘ y)))
+quotient-number nan p = absurd p
+quotient-number (inf s) p = absurd p
+quotient-number (fin s zero d) p = unfold decimal round div isNan in tt
+quotient-number (fin s (suc n) d) p =
+    number-abs (decimal 14900 1 ⊘ fin s (suc n) d)
+    (subst (λ (x : Float). T (not (isNan x))) (sym (abs-div binary32 (decimal 14900 1) (fin s (suc n) d)))
+    (subst (λ (x : Float). T (not (isNan (absOf (decimal 14900 1) ⊘ x)))) (sym (abs-fin s (suc n) d))
+    (le-right nought (absOf (decimal 14900 1) ⊘ fin false (suc n) d) (div-not-below binary32 (absOf (decimal 14900 1)) (fin false (suc n) d) (unfold decimal round absOf negative in tt) (lt→ltb 0 (suc n) (omega arith)) (unfold decimal round absOf negative le in tt)))))
+
+less-number : (x : Float) → T (not (isNan x)) → T (not (isNan (x ⊖ decimal 1760 1)))
+unfolding decimal round isNan
+less-number nan h = absurd h
+less-number (inf true) h = unfold neg add sub in tt
+less-number (inf false) h = unfold neg add sub in tt
+less-number (fin s m e) h = unfold neg sub in add-number binary32 (fin s m e) (neg (decimal 1760 1)) tt tt
+
+height-number : (g5 : Float) → T (finite g5) → T (not (isNan (decimal 14900 1 ⊘ g5 ⊖ decimal 1760 1)))
+height-number g5 p = less-number (decimal 14900 1 ⊘ g5) (quotient-number g5 p)
+
+-- at zero it is infinite, with zero's sign
+pub hpf2-at-zero : (decimal 14900 1 ⊘ fin false 0 (pos 0) ⊖ decimal 1760 1 ≡ inf false) × (decimal 14900 1 ⊘ fin true 0 (pos 0) ⊖ decimal 1760 1 ≡ inf true)
+unfolding decimal round neg add sub div
+hpf2-at-zero = (refl, refl)
+
+-- ---- without a zenith angle there is no height ratio
+
+add-nan : (x : Float) → x ⊕ nan ≡ nan
+unfolding add
+add-nan nan = refl
+add-nan (inf s) = refl
+add-nan (fin s m e) = refl
+
+mul-nan : (x : Float) → x ⊗ nan ≡ nan
+unfolding mul
+mul-nan nan = refl
+mul-nan (inf s) = refl
+mul-nan (fin s m e) = refl
+
+nan-mul : (x : Float) → nan ⊗ x ≡ nan
+unfolding mul
+nan-mul x = refl
+
+nan-add : (x : Float) → nan ⊕ x ≡ nan
+unfolding add
+nan-add x = refl
+
+sin-nan : (sin32Of nan ≡ nan) × (cos32Of nan ≡ nan)
+unfolding sin32Of cos32Of sinOf cosOf narrowOf absOf negative le
+sin-nan = (refl, refl)
+
+turn-nan : (k : ℕ) → turnOf nan nan k .sine ≡ nan
+unfolding turnOf
+turn-nan zero = refl
+turn-nan (suc k) =
+    let v = turnOf nan nan k in
+    ap (λ (x : Float). v .sine ⊗ nan ⊕ x) (mul-nan (v .cosine)) ∙ add-nan (v .sine ⊗ nan)
+
+column-nan : (plane : List Float) (j k : ℕ) → columnOf (λ i. turnOf nan nan i .sine) plane j (suc k) ≡ nan
+unfolding columnOf
+column-nan plane j k =
+    let c = columnOf (λ i. turnOf nan nan i .sine) plane j k in
+    ap (λ (x : Float). c ⊕ x ⊗ inPlane plane k j) (turn-nan k) ∙ ap (λ (x : Float). c ⊕ x) (nan-mul (inPlane plane k j)) ∙ add-nan c
+
+zz-nan : (plane : List Float) (j : ℕ) → zzOf (λ i. turnOf nan nan i .sine) plane 10 j ≡ nan
+unfolding zzOf
+zz-nan plane j = ap (λ (x : Float). x ⊕ inPlane plane 15 j) (column-nan plane j 9) ∙ nan-add (inPlane plane 15 j)
+
+latitude-nan : (sk zz : ℕ → Float) (k : ℕ) → zz k ≡ nan → latitudeSum sk zz (suc k) ≡ nan
+unfolding latitudeSum
+latitude-nan sk zz k e =
+    let l = latitudeSum sk zz k in
+    ap (λ (x : Float). l ⊕ sk k ⊗ x) e ∙ ap (λ (x : Float). l ⊕ x) (mul-nan (sk k)) ∙ add-nan l
+
+noisy-nan : (plane : List Float) (alf bet xla : Float) → noisySum 15 10 plane alf bet xla nan ≡ nan
+unfolding noisySum
+noisy-nan plane alf bet xla =
+    let p = decimal 1745329252 11 ⊗ (xla ⊕ decimal 900 1) in
+    let sk : ℕ → Float = λ k. turnOf (sin32Of p) (cos32Of p) k .sine in
+    let e : sin32Of (decimal 87266466 10 ⊗ nan) ≡ nan = ap sin32Of (mul-nan (decimal 87266466 10)) ∙ sin-nan .0 in
+    let d : cos32Of (decimal 87266466 10 ⊗ nan) ≡ nan = ap cos32Of (mul-nan (decimal 87266466 10)) ∙ sin-nan .1 in
+    (λ t. latitudeSum sk (zzOf (λ k. turnOf (e t) (d t) k .sine) plane 10) 15 ⊕ alf ⊕ bet ⊗ p)
+    ∙ ap (λ (x : Float). x ⊕ alf ⊕ bet ⊗ p) (latitude-nan sk (zzOf (λ k. turnOf nan nan k .sine) plane 10) 14 (zz-nan plane 14))
+    ∙ ap (λ (x : Float). x ⊕ bet ⊗ p) (nan-add alf)
+    ∙ nan-add (bet ⊗ p)
+
+longitude-nan : (c : Bool) → cond c (neg nan) nan ⊕ decimal 1800 1 ≡ nan
+unfolding neg add
+longitude-nan true = refl
+longitude-nan false = refl
+
+least-nan : cond (lt (nan ⊖ decimal 20 1) (decimal 0 1)) (decimal 20 1) nan ≡ nan
+unfolding add sub lt
+least-nan = refl
+
+ratio-nan : (m : Monthly) (hmym : List Float) (gmlat : Radians) (clock : Float) → ratOf m hmym gmlat (record { 0 = nan }) clock ≡ nan
+unfolding ratOf noisyOf
+ratio-nan m hmym gmlat clock =
+    let gm = degreesOf (record { 0 = absOf (gmlat .0) }) .0 ⊖ decimal 450 1 in
+    let n : Float → Float = λ x. noisySum 15 10 hmym (m .«ratio_alf») (m .«ratio_bet») gm x in
+    ap (λ (x : Float). cond (lt (n x ⊖ decimal 20 1) (decimal 0 1)) (decimal 20 1) (n x)) (longitude-nan (lt (clock ⊖ decimal 120 1) (decimal 0 1)))
+    ∙ ap (λ (x : Float). cond (lt (x ⊖ decimal 20 1) (decimal 0 1)) (decimal 20 1) x) (noisy-nan hmym (m .«ratio_alf») (m .«ratio_bet») gm)
+    ∙ least-nan
+
 -- ---- at a point
 
 acos-sized : (q : Float) → Within q → Sized (twoTo 2) (absOf (acos32Of q))
@@ -818,9 +955,6 @@ unfolding div le
 thick-sized rat h k = over-sized (twoTo 126) (twoTo 0) rat tt h k
 
 module _ (m : Monthly) (ssn gmt : Float) (psc : Factors) (hmym : List Float) (pt : ControlPoint) (mag : MagneticVars) (g : Gammas) (F : Fields ssn gmt psc) (K : Months m) (L : Plane hmym) (Q : Placed pt mag) (G : Mapped g) where
-  abbrev the : LayerParams
-  the = layersOf m ssn gmt psc hmym pt mag g
-
   -- fi[0] is at least 1/32, and finite
   pub fi0-range : Between (fin false 1 (negsuc 4)) (fin false 1 (pos 53)) (getD (layersOf m ssn gmt psc hmym pt mag g .fi) 0 nan)
   unfolding layersOf ef1Of eLayer
@@ -903,3 +1037,36 @@ module _ (m : Monthly) (ssn gmt : Float) (psc : Factors) (hmym : List Float) (pt
     pub yi2-sized : Within (cosineOf m gmt pt) → Sized (fin false 1 (pos 126)) (getD (layersOf m ssn gmt psc hmym pt mag g .yi) 2 nan)
     unfolding layersOf ef1Of timvarOf zenithOf zenithCosine
     yi2-sized w = thick-sized _ (tall-sized (hpf2-sized (g .g5) off) (all-ended .rft)) (rat-off _ (rat-finite w))
+
+  -- abiy is a number, and finite where fi[0] is at most 56 MHz
+  pub abiy-number : T (not (isNan (layersOf m ssn gmt psc hmym pt mag g .abiy)))
+  unfolding layersOf ef1Of eLayer
+  abiy-number = index-number _ fi0-range
+
+  pub abiy-sized : T (le (getD (layersOf m ssn gmt psc hmym pt mag g .fi) 0 nan) (decimal 560 1)) → Sized (fin false 1 (pos 125)) (layersOf m ssn gmt psc hmym pt mag g .abiy)
+  unfolding layersOf ef1Of eLayer
+  abiy-sized t = index-sized _ fi0-range t
+
+  -- hpf2 is a number all the same, however near to zero f2m3 is
+  pub hpf2-number : T (not (isNan (layersOf m ssn gmt psc hmym pt mag g .hpf2)))
+  unfolding layersOf
+  hpf2-number = height-number (g .g5) (sized-finite {a = gammas} tt (G .g5))
+
+-- where the cosine comes out beyond 1 in size, the height ratio is NaN too, and with it yi[2]
+module _ (m : Monthly) (ssn gmt : Float) (psc : Factors) (hmym : List Float) (pt : ControlPoint) (mag : MagneticVars) (g : Gammas) (beyond : le (absOf (cosineOf m gmt pt)) (fraction 1 1) ≡ false) where
+  pub rat-nan : layersOf m ssn gmt psc hmym pt mag g .rat ≡ nan
+  unfolding layersOf ef1Of timvarOf zenithOf zenithCosine
+  rat-nan = ap (λ (x : Float). ratOf m hmym (pt .gmlat) (record { 0 = x }) (clockOf gmt (pt .lon))) (angle-nan (cosineOf m gmt pt) beyond) ∙ ratio-nan m hmym (pt .gmlat) (clockOf gmt (pt .lon))
+
+  div-nan : (x : Float) → x ⊘ nan ≡ nan
+  unfolding div
+  div-nan nan = refl
+  div-nan (inf s) = refl
+  div-nan (fin t n d) = refl
+
+  thick-is : getD (layersOf m ssn gmt psc hmym pt mag g .yi) 2 nan ≡ getD (layersOf m ssn gmt psc hmym pt mag g .hi) 2 nan ⊘ layersOf m ssn gmt psc hmym pt mag g .rat
+  unfolding layersOf
+  thick-is = refl
+
+  pub yi2-nan : getD (layersOf m ssn gmt psc hmym pt mag g .yi) 2 nan ≡ nan
+  yi2-nan = thick-is ∙ ap (λ (x : Float). getD (layersOf m ssn gmt psc hmym pt mag g .hi) 2 nan ⊘ x) rat-nan ∙ div-nan (getD (layersOf m ssn gmt psc hmym pt mag g .hi) 2 nan)

@@ -1,35 +1,31 @@
 -- The maps' values: the six of an hour are finite, and at most 2 ^ 50 in size, and so are the two of `noisy`, at most 2 ^ 111, where the files' words are at most 2 ^ 16: a bound of every number on the way, from the words to the waves of the hour, the rows, the geographic functions and the series, with a test for each turn that is computed for all turns. Assumes nothing.
-use mathlib.Core.Path.{_≡_, refl, sym, ap, subst, _∙_}
+use mathlib.Core.Path.{_≡_, sym, subst, _∙_}
 use mathlib.Core.Logic.{inl, inr}
 use mathlib.Core.Bool.{Bool, true, false, cond}
 use mathlib.Core.List.{List, [], _∷_}
 use Prim.Native.Nat.{ℕ, zero, suc, _+_, _-_, _*_, _/_, _%_, _^_, _≤_, _<_}
-use native.Mathlib.Nat.{zero-add, add-suc}
 use native.Mathlib.Omega.{arith}
 use native.Mathlib.Decide.{decLt}
 use lib.Dec.{T, eqb, leb}
 use lib.IntN.{pos, negsuc}
 use lib.ListN.{length, getD, replicate, length-replicate, getD-replicate}
-use lib.Ieee.{Float, nan, fin, binary32, binary64, round, neg, add, sub, mul, div, le, ofInt}
+use lib.Ieee.{Float, nan, fin, binary32, binary64, round, neg, add, mul, div, le, ofInt}
 use lib.Ieee.Scale.{finite}
 use Rattle.base.specs.declared.blend.Weights.{Weights}
-use Rattle.base.specs.declared.angle.Radians.{Radians}
-use Rattle.base.specs.declared.refusal.Verdict.the-variants.{Accepted}
-use Rattle.base.specs.Single.{_⊕_, _⊖_, _⊗_, _⊘_, decimal}
+use Rattle.base.specs.Single.{_⊕_, _⊗_, decimal}
 use Rattle.base.specs.Double.{fraction}
 use Rattle.base.specs.Number.{negative, absOf, narrowOf}
 use Rattle.base.specs.Constants.{D2R}
 use Rattle.base.specs.Angle.{radiansOf}
-use Rattle.base.specs.Elementary.{sinOf, cosOf, sin32Of, cos32Of}
-use Rattle.base.specs.Fill.{fill, run}
+use Rattle.base.specs.Elementary.{sinOf, sin32Of, cos32Of}
+use Rattle.base.specs.Fill.{fill}
 use Rattle.base.specs.Words.{floatAt}
 use Rattle.base.specs.Tables.{placeOf, wordsOf, planeOf, f2Plane, anew, xfm3cf, xesmcf, xpmap, xeslcf, xesucf, xercof, fakmap}
 use Rattle.base.specs.Blend.{blendOf, blendAt, f2Weights, eWeights, heightWeights, eslcofOf, esmcofOf, esucofOf, f2cofOf, fm3cofOf, ercofOf, hmymOf, fakmapOf, cofionMaps, cofionOf, IA, IB, IC}
-use Rattle.base.specs.Index.{mapWord, rows, harmonics, GoodIndex}
-use Rattle.base.proofs.Picks.{cond-true, cond-false}
+use Rattle.base.specs.Index.{mapWord, rows}
 use Rattle.base.proofs.Order.{nought, Between}
 use Rattle.base.proofs.Intervals.{every}
-use Rattle.base.proofs.Sizes.{Sized, plus-sized, less-sized, times-sized, between-sized, larger, sized-finite}
+use Rattle.base.proofs.Sizes.{Sized, plus-sized, less-sized, times-sized, between-sized, larger}
 use Rattle.base.proofs.DoubleSizes.{plus64-sized, times64-sized, over-sized, narrowed-sized, either-sized, upTo, at-each}
 use Rattle.base.proofs.SineSizes.{nine, sin-sized, cos-sized, sin32-sized, cos32-sized}
 use Rattle.base.proofs.Fills.{length-fill, fill-at, fill-other, run-at}
@@ -40,7 +36,7 @@ use Rattle.maps.specs.declared.ionosphere.versy.Gammas.{Gammas}
 use Rattle.maps.specs.Loop.{times, loop}
 use Rattle.maps.specs.Virtim.{GoodTable, timeOf, Wave, waveOf, hourWave, valueOf, rowValue, virtimOf}
 use Rattle.maps.specs.Versy.{powerOf, raised, cxOf, tOf, cosWave, sinWave, harmonicOf, geographicFrom, geographicOf, gammaOf, versyOf, gammasOf}
-use Rattle.maps.specs.Noisy.{inPlane, Turn, turnOf, columnOf, zzOf, latitudeSum, noisySum, noisyOf}
+use Rattle.maps.specs.Noisy.{Turn, turnOf, columnOf, zzOf, latitudeSum, noisySum, noisyOf}
 use Rattle.maps.proofs.Clock.{Hour}
 
 -- ---- the files
