@@ -3,7 +3,7 @@ use mathlib.Core.Path.{_≡_, refl, sym, ap, subst, _∙_}
 use mathlib.Core.Logic.{_⊎_, inl, inr}
 use mathlib.Core.Bool.{Bool, true, false, not, cond}
 use mathlib.Core.List.{List, [], _∷_}
-use Prim.Native.Nat.{ℕ, zero, suc, _+_, _*_}
+use Prim.Native.Nat.{ℕ, zero, suc, _+_, _*_, _≤_}
 use native.Mathlib.Omega.{arith}
 use lib.Dec.{T, lt→ltb}
 use lib.IntN.{pos, negsuc}
@@ -17,7 +17,7 @@ use Rattle.base.specs.declared.angle.Radians.{Radians}
 use Rattle.base.specs.Single.{_⊕_, _⊖_, _⊗_, _⊘_, decimal, minusDecimal}
 use Rattle.base.specs.Double.{fraction}
 use Rattle.base.specs.Number.{negative, absOf, minOf, maxOf, narrowOf, sqrtOf}
-use Rattle.base.specs.Constants.{D2R, R2D}
+use Rattle.base.specs.Constants.{D2R, R2D, PI, PI2}
 use Rattle.base.specs.Angle.{radiansOf, degreesOf}
 use Rattle.base.specs.Elementary.{nearOf, turnsOf, reducedOf, quarterOf, halfPi, horner, factorial, upFrom, alternating, sinTerms, cosTerms, sinSeries, cosSeries, sinAt, cosAt, sinOf, cosOf, sin32Of, cos32Of, acosOf, acos32Of, lnOf, ln32Of, exp32Of}
 use Rattle.base.specs.Words.{floatAt}
@@ -25,11 +25,11 @@ use Rattle.base.specs.Tables.{placeOf, anew, bnew, achi, bchi, abmap}
 use Rattle.base.proofs.Picks.{cond-false}
 use Rattle.base.proofs.Order.{nought, Between, wider, trans-le, refl-le, total-le, lt→le, not-lt→le, le-right, no-nan-finite, finite-between, between-finite, abs-not-below, abs→le, le→abs, le-abs, abs-fin}
 use Rattle.base.proofs.Monotone.{sub-mono, abs-div, div-not-below}
-use Rattle.base.proofs.Intervals.{every, exactly, add-in, sub-in, mul-in, div-in, sqrt-in, between-positive}
+use Rattle.base.proofs.Intervals.{every, all, exactly, add-in, sub-in, mul-in, div-in, sqrt-in, between-positive}
 use Rattle.base.proofs.Bounds.{acos32-range}
 use Rattle.base.proofs.Sizes.{Sized, plus-sized, less-sized, times-sized, between-sized, larger, sized-number, sized-finite}
-use Rattle.base.proofs.DoubleSizes.{over-sized, turned-sized, either-sized}
-use Rattle.base.proofs.SineSizes.{nine, cos32-sized}
+use Rattle.base.proofs.DoubleSizes.{over-sized, turned-sized, either-sized, upTo, at-each}
+use Rattle.base.proofs.SineSizes.{nine, sin32-sized, cos32-sized}
 use Rattle.base.proofs.LogSizes.{logs, ln32-sized}
 use Rattle.maps.proofs.ExpNumbers.{add-number, exp32-number, exp32-sized}
 use Rattle.maps.specs.declared.geometry.ControlPoint.{ControlPoint}
@@ -43,7 +43,7 @@ use Rattle.maps.specs.declared.ionosphere.layers.EsParams.{EsParams}
 use Rattle.maps.specs.declared.ionosphere.layers.Ground.{Ground}
 use Rattle.maps.specs.Layers.{termOf, abmapAt, monthlyOf, sspOf, sslOf, zenithOf, timvarOf, gamma6Of, eLayer, f1Layer, ef1Of, ratOf, retardOf, atLeastXf1, halfOver, twilightOf, mergedOf, eRetardation, belowF2, retardedOf, layersOf, abiyOf, clockOf, SUN, sunOf, esindOf, groundAt, groundOf}
 use Rattle.maps.specs.Noisy.{inPlane, turnOf, columnOf, zzOf, latitudeSum, noisySum, noisyOf}
-use Rattle.maps.proofs.Clock.{lt-not-le, Hour, Longitude, OnClock, clock-range, layer-clock}
+use Rattle.maps.proofs.Clock.{lt-not-le, not-le→lt, farthest, Hour, Longitude, OnClock, clock-range, layer-clock}
 use Rattle.maps.proofs.FiniteMaps.{word, Bounded, Sunspots, Plane, degrees, noises, gammas, Mapped, noisy-sized}
 
 -- 2 ^ n
@@ -1070,3 +1070,89 @@ module _ (m : Monthly) (ssn gmt : Float) (psc : Factors) (hmym : List Float) (pt
 
   pub yi2-nan : getD (layersOf m ssn gmt psc hmym pt mag g .yi) 2 nan ≡ nan
   yi2-nan = thick-is ∙ ap (λ (x : Float). getD (layersOf m ssn gmt psc hmym pt mag g .hi) 2 nan ⊘ x) rat-nan ∙ div-nan (getD (layersOf m ssn gmt psc hmym pt mag g .hi) 2 nan)
+
+-- ---- the cosine itself is a number, in every month, so that the zenith angle is NaN exactly where that is beyond 1 in size
+
+unfoldable sunTest : ℕ → Bool
+sunTest k = every (le (absOf (sunOf (suc k) .0 .0)) (twoTo 5) ∷ le (absOf (sunOf (suc k) .1 .0)) (twoTo 5) ∷ [])
+
+sun-tests : T (upTo sunTest 11)
+unfolding sunTest sunOf SUN decimal minusDecimal round absOf negative neg le
+sun-tests = tt
+
+D2R-sized : Sized (fin false 1 (negsuc 4)) D2R
+unfolding D2R decimal round absOf negative le
+D2R-sized = record { size = tt }
+
+sun-sized : (month : ℕ) → 1 ≤ month → month ≤ 12 → Sized (twoTo 5) (sunOf month .0 .0) × Sized (twoTo 5) (sunOf month .1 .0)
+unfolding sunTest
+sun-sized zero h k = absurd (omega arith)
+sun-sized (suc n) h k =
+    let w = all (le (absOf (sunOf (suc n) .0 .0)) (twoTo 5) ∷ le (absOf (sunOf (suc n) .1 .0)) (twoTo 5) ∷ []) (at-each sunTest 11 sun-tests n (omega arith)) in
+    (record { size = w .0 }, record { size = w .1 .0 })
+
+ssp-sized : (month : ℕ) (lat : Radians) → 1 ≤ month → month ≤ 12 → Sized (twoTo 0) (sspOf (sunOf month) lat)
+unfolding sspOf radiansOf mul le
+ssp-sized month lat h k =
+    let s = sun-sized month h k in
+    either-sized (lt (decimal 0 1) (absOf (lat .0 ⊖ sunOf month .0 .0 ⊗ D2R) ⊖ absOf (lat .0 ⊖ sunOf month .1 .0 ⊗ D2R))) (times-sized (twoTo 0) tt (s .0) D2R-sized) (times-sized (twoTo 0) tt (s .1) D2R-sized)
+
+ssl-sized : (gmt : Float) → Hour gmt → Sized (twoTo 5) (sslOf gmt .0)
+unfolding sslOf radiansOf decimal round absOf negative neg add mul le
+ssl-sized gmt b =
+    let h : Sized (decimal 240 1) gmt = between-sized (decimal 240 1) tt b in
+    let f : Sized (decimal 150 1) (decimal 150 1) = record { size = tt } in
+    let o : Sized (decimal 1800 1) (decimal 1800 1) = record { size = tt } in
+    times-sized (twoTo 5) tt (less-sized (twoTo 10) tt o (times-sized (twoTo 9) tt f h)) D2R-sized
+
+longitude-sized : {x : Float} → Longitude x → Sized (twoTo 2) x
+unfolding farthest PI PI2 decimal round neg add sub le
+longitude-sized b = between-sized (twoTo 2) tt b
+
+cosine-sized : (month : ℕ) (gmt : Float) (lat lon : Radians) → 1 ≤ month → month ≤ 12 → Hour gmt → Sized (twoTo 5) (lat .0) → Longitude (lon .0) → Sized (twoTo 3) (zenithCosine lat lon (sspOf (sunOf month) lat) (sslOf gmt))
+unfolding zenithCosine add mul le
+cosine-sized month gmt lat lon h k b l o =
+    let s = ssp-sized month lat h k in
+    let z : Sized (twoTo 6) (lon .0 ⊖ sslOf gmt .0) = less-sized (twoTo 6) tt (longitude-sized o) (ssl-sized gmt b) in
+    plus-sized (twoTo 3) tt (times-sized (twoTo 1) tt (sin32-sized tt l) (sin32-sized tt s)) (times-sized (twoTo 2) tt (times-sized (twoTo 1) tt (cos32-sized tt l) (cos32-sized tt s)) (cos32-sized tt z))
+
+one-number : T (not (isNan (fraction 1 1))) × T (finite (fraction 1 1))
+unfolding fraction round isNan
+one-number = (tt, tt)
+
+-- beyond 1: not at most 1, of a number
+beyond-is : (q : Float) → Sized (twoTo 3) q → le (absOf q) (fraction 1 1) ≡ false → T (lt (fraction 1 1) (absOf q))
+beyond-is q h e = not-le→lt (fraction 1 1) (absOf q) (one-number .0) (le-right nought (absOf q) (abs-not-below q (sized-number h))) (λ u. subst T e u)
+
+beyond-not : (q : Float) → Sized (twoTo 3) q → T (lt (fraction 1 1) (absOf q)) → le (absOf q) (fraction 1 1) ≡ false
+beyond-not q h t = go (le (absOf q) (fraction 1 1)) refl
+  where
+    go : (c : Bool) → le (absOf q) (fraction 1 1) ≡ c → c ≡ false
+    go false e = refl
+    go true e =
+        let p : T (finite (absOf q)) = finite-between nought (absOf q) (twoTo 3) tt tt (abs-not-below q (sized-number h)) (h .size) in
+        absurd (lt-not-le (fraction 1 1) (absOf q) (one-number .1) p t (subst T (sym e) tt))
+
+nan-below : T (le (decimal 0 1) nan) → ⊥
+unfolding decimal round isNan
+nan-below h = le-right (decimal 0 1) nan h
+
+module _ (file : List ℕ) (month : ℕ) (ssn gmt : Float) (psc : Factors) (hmym : List Float) (pt : ControlPoint) (mag : MagneticVars) (g : Gammas) (first : 1 ≤ month) (last : month ≤ 12) (b : Hour gmt) (Q : Placed pt mag) where
+  abbrev cosine : Float
+  cosine = cosineOf (monthlyOf file month ssn) gmt pt
+
+  known : Sized (twoTo 3) cosine
+  unfolding monthlyOf
+  known = cosine-sized month gmt (pt .lat) (pt .lon) first last b (Q .lat) (Q .lon)
+
+  -- beyond 1 in size, no zenith angle
+  pub beyond-none : T (lt (fraction 1 1) (absOf (cosineOf (monthlyOf file month ssn) gmt pt))) → layersOf (monthlyOf file month ssn) ssn gmt psc hmym pt mag g .zenang .0 ≡ nan
+  beyond-none t = zenang-nan (monthlyOf file month ssn) ssn gmt psc hmym pt mag g (beyond-not cosine known t)
+
+  -- and no zenith angle, beyond 1 in size
+  pub none-beyond : layersOf (monthlyOf file month ssn) ssn gmt psc hmym pt mag g .zenang .0 ≡ nan → T (lt (fraction 1 1) (absOf (cosineOf (monthlyOf file month ssn) gmt pt)))
+  none-beyond e = go (le (absOf cosine) (fraction 1 1)) refl
+    where
+      go : (c : Bool) → le (absOf cosine) (fraction 1 1) ≡ c → T (lt (fraction 1 1) (absOf cosine))
+      go false d = beyond-is cosine known d
+      go true d = absurd (nan-below (subst (λ (x : Float). T (le (decimal 0 1) x)) e (zenang-range (monthlyOf file month ssn) ssn gmt psc hmym pt mag g (subst T (sym d) tt) .low)))
