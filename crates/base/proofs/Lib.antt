@@ -24,6 +24,9 @@ pub mod Bounds
 pub mod Sizes
 pub mod Spans
 pub mod SineSpans
+pub mod DoubleSizes
+pub mod SineSizes
+pub mod LogSizes
 pub mod Refusals
 pub mod Fills
 pub mod Entries

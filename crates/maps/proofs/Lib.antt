@@ -11,6 +11,10 @@ pub mod Report340
 pub mod Refills
 pub mod NoisySums
 pub mod Clock
+pub mod ExpNumbers
+pub mod FiniteMaps
+pub mod FiniteLayers
+pub mod FiniteFigures
 pub mod WholeSums
 pub mod WholeParts
 pub mod Offsets
