@@ -1,6 +1,8 @@
 //! The Rust that the port is compared with, run on document 01's steps: it
 //! makes vectors, compares in bulk and times both sides.
 
+#![forbid(unsafe_code)]
+
 mod bits;
 mod branches;
 mod clock_kinds;
@@ -15,12 +17,6 @@ mod journal_kinds;
 mod month_file;
 #[cfg(linked)]
 mod port;
-#[cfg(linked)]
-mod port_clocks;
-#[cfg(linked)]
-mod port_layers;
-#[cfg(linked)]
-mod port_lists;
 mod ranges;
 mod reference;
 mod reference_clocks;

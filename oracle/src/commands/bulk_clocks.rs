@@ -11,15 +11,16 @@ pub use linked::run;
 
 #[cfg(linked)]
 mod linked {
-    use crate::bits::Answer;
+    use crate::bits::Answer as _;
     use crate::clock_kinds::{any_hour, any_longitude, any_time};
     use crate::commands::compare::{report, Tally};
     use crate::commands::whole;
     use crate::desks::Refusal;
     use crate::generator::Generator;
-    use crate::port_clocks::{self as port, NOTHING};
+    use crate::port::{clocks as port, ACCEPTED};
     use crate::reference_clocks::{cngtim, geotim, geotim_clck, Direction};
     use crate::sheet_kinds::one_of;
+    use jutetrowel::raw::Answer;
     use std::fmt::Debug;
 
     const NAMES: [&str; 4] = [
@@ -61,15 +62,15 @@ mod linked {
 
     /// Two NaNs are alike; what is refused has times of +0.0.
     fn difference<const N: usize>(
-        given: ([f32; N], Refusal),
+        given: ([f32; N], Answer),
         wanted: Result<[f32; N], Refusal>,
         asked: impl Debug,
     ) -> Option<String> {
         let wanted = match wanted {
-            Ok(times) => (times, NOTHING),
-            Err(refusal) => ([0.0; N], refusal),
+            Ok(times) => (times, ACCEPTED),
+            Err(refusal) => ([0.0; N], refusal.into()),
         };
-        let words = |(times, refusal): ([f32; N], Refusal)| (times.map(f32::to_word), refusal);
+        let words = |(times, answer): ([f32; N], Answer)| (times.map(f32::to_word), answer);
         let differs = words(given) != words(wanted);
         differs.then(|| format!("{asked:?}: port {given:?}, wanted {wanted:?}"))
     }

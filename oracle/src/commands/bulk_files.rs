@@ -17,10 +17,10 @@ mod linked {
     use crate::damage::Damage;
     use crate::data_files::{calm, ladders::near_good, wild, Pair};
     use crate::generator::Generator;
-    use crate::port::{self, Answer};
     use crate::reference_files::{blends, put, walk};
     use crate::reference_sheets::{self, FIGURES};
     use crate::voacap::coefficients::F2_RECORD_BYTES;
+    use jutetrowel::raw::{self, Answer};
 
     pub fn run(count: &str, seed: &str) -> Result<(), String> {
         let count = whole(count)?;
@@ -38,17 +38,22 @@ mod linked {
     fn compare(random: &mut Generator, tallies: &mut [Tally; 4], case: u64) {
         let pair = files(random);
         let [form, check, cofion, hmym] = tallies;
-        form.note(case, refusal(port_form(&pair.month), walk(&pair.month)));
+        form.note(
+            case,
+            refusal(raw::month_file_check(&pair.month), walk(&pair.month)),
+        );
         let file = usable(&WHOLE_RECORD, &pair.month);
-        check.note(case, refusal(port_check(&pair.month), file));
+        check.note(case, refusal(raw::file_check(&pair.month), file));
         let ssn = sunspots(random);
         let both = usable(&pair.daw, &pair.month);
         let at = |difference: Option<String>| difference.map(|text| format!("at {ssn:e}, {text}"));
         let wanted = (both == (0, 0)).then(|| blended(&pair, ssn).0);
-        let difference = filled(both, wanted, |out| port_cofion(&pair, ssn, out));
+        let difference = filled(both, wanted, |out| {
+            raw::cofion(&pair.daw, &pair.month, ssn, out)
+        });
         cofion.note(case, at(difference));
         let wanted = (file == (0, 0)).then(|| blended(&pair, ssn).1);
-        let difference = filled(file, wanted, |out| port_hmym(&pair, ssn, out));
+        let difference = filled(file, wanted, |out| raw::hmym(&pair.month, ssn, out));
         hmym.note(case, at(difference));
     }
 
@@ -103,36 +108,5 @@ mod linked {
         let ours = (ours.number, ours.place);
         let text = |(number, place): (u32, u32)| format!("{number} at {place}");
         (ours != wanted).then(|| format!("port {}, wanted {}", text(ours), text(wanted)))
-    }
-
-    fn port_form(file: &[u8]) -> Answer {
-        // SAFETY: start and length of one slice, which is only read.
-        unsafe { port::month_file_check(file.as_ptr(), file.len()) }
-    }
-
-    fn port_check(file: &[u8]) -> Answer {
-        // SAFETY: start and length of one slice, which is only read.
-        unsafe { port::file_check(file.as_ptr(), file.len()) }
-    }
-
-    fn port_cofion(pair: &Pair, ssn: f32, out: &mut [f32; 2604]) -> Answer {
-        let Pair { daw, month } = pair;
-        // SAFETY: start and length of two slices, and `out` lent for writing.
-        unsafe {
-            port::cofion(
-                daw.as_ptr(),
-                daw.len(),
-                month.as_ptr(),
-                month.len(),
-                ssn,
-                out,
-            )
-        }
-    }
-
-    fn port_hmym(pair: &Pair, ssn: f32, out: &mut [f32; 464]) -> Answer {
-        let month = &pair.month;
-        // SAFETY: start and length of a slice, and `out` lent for writing.
-        unsafe { port::hmym(month.as_ptr(), month.len(), ssn, out) }
     }
 }

@@ -16,13 +16,13 @@ mod linked {
     use crate::commands::lent::{self, fields, Buffer, Files};
     use crate::commands::whole;
     use crate::generator::Generator;
-    use crate::port::Answer;
-    use crate::port_layers as port;
+    use crate::port::{layers as port, ACCEPTED};
     use crate::reference_files::read;
     use crate::reference_layers::{hour_maps, layers_at, measured, HourMaps, Place};
     use crate::reference_sheets::{put_all_months, refusal, Sheet, FIGURES};
     use crate::sheet_kinds::one_of;
     use crate::voacap::coefficients::CoefficientSet;
+    use jutetrowel::raw::Answer;
     use std::f64::consts::PI;
 
     /// Sheets for each pair of files, which takes longer to make.
@@ -44,10 +44,6 @@ mod linked {
         "  refused by 11",
     ];
     const HOUR_MAPS: usize = 318;
-    const ACCEPTED: Answer = Answer {
-        number: 0,
-        place: 0,
-    };
 
     pub fn run(count: &str, seed: &str) -> Result<(), String> {
         let count = whole(count)?;

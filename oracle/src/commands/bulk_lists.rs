@@ -10,7 +10,7 @@ pub fn run(_count: &str, _seed: &str) -> Result<(), String> {
 #[cfg(linked)]
 pub fn run(count: &str, seed: &str) -> Result<(), String> {
     use super::whole;
-    let library = crate::port_lists::Library;
+    let library = crate::port::lists::Library;
     compared::run(&library, whole(count)?, whole(seed)?)
 }
 

@@ -18,10 +18,10 @@ mod linked {
     use crate::data_files::Pair;
     use crate::desks::{Refusal, Worksheet};
     use crate::generator::Generator;
-    use crate::port::{self, Showing};
-    use crate::port_layers;
+    use crate::port::sheets::figures_by;
     use crate::reference_sheets::{put_all_months, refusal, showing, Sheet, FIGURES};
     use crate::sheet_kinds::one_of;
+    use jutetrowel::raw::{self, Showing};
 
     /// Sheets for each pair of files, which takes longer to make than a sheet.
     const SHEETS: u64 = 50;
@@ -93,7 +93,7 @@ mod linked {
             let Files { record, file } = &self.files;
             let mut buffer = Buffer::of(random, self.buffer);
             let flag = lent::flag(random, self.sheet.route.long);
-            let answer = port::sheet_by(flag, &self.sheet, record, file, buffer.lent());
+            let answer = figures_by(flag, &self.sheet, record, file, buffer.lent());
             match refusal(record, file, self.buffer) {
                 (0, 0) => (false, self.shown(answer, &buffer)),
                 why => (true, refused(why, answer, &buffer)),
@@ -111,7 +111,7 @@ mod linked {
             }
             let bytes: Vec<u8> = words.into_iter().flat_map(u32::to_le_bytes).collect();
             let mut buffer = Buffer::of(random, self.buffer);
-            let answer = port_layers::sheet(&bytes, record, file, buffer.lent());
+            let answer = raw::sheet(&bytes, record, file, buffer.lent());
             let why = match Worksheet::open(words) {
                 Ok(_) => refusal(record, file, self.buffer),
                 Err(Refusal { number, place }) => (number, place),

@@ -18,9 +18,9 @@ mod linked {
     use crate::data_files::{calm, ladders::near_good, wild, Pair};
     use crate::desks::Refusal;
     use crate::generator::Generator;
-    use crate::port_clocks::{self as port, NOTHING};
     use crate::reference_tables::{Part, Starts, TABLES};
     use crate::voacap::coefficients::F2_RECORD_BYTES;
+    use jutetrowel::raw::{self, Span};
 
     /// Tables for each pair of files, which takes longer to make.
     const ASKED: u64 = 50;
@@ -54,7 +54,7 @@ mod linked {
             0 => Damage::any(random).done_to(&pair.month),
             _ => pair.month.clone(),
         };
-        let given = port::table(number, record, &month);
+        let given = raw::table(number, record, &month);
         let wanted = starts.table(number, record, &month);
         let file = if number == 0 { record } else { &month };
         let tally = &mut tallies[usize::from(wanted.is_err())];
@@ -94,13 +94,23 @@ mod linked {
     /// The bytes there must be those that the Rust has read as the table.
     fn difference(
         number: u32,
-        given: ((usize, usize), Refusal),
+        given: Span,
         wanted: &Result<Part, Refusal>,
         file: &[u8],
     ) -> Option<String> {
         let answer = match wanted {
-            Ok(part) => ((part.start, part.length()), NOTHING),
-            Err(refusal) => ((0, 0), *refusal),
+            Ok(part) => Span {
+                start: part.start,
+                size: part.length(),
+                number: 0,
+                place: 0,
+            },
+            Err(Refusal { number, place }) => Span {
+                start: 0,
+                size: 0,
+                number: *number,
+                place: *place,
+            },
         };
         if given != answer {
             return Some(format!("table {number}: port {given:?}, wanted {answer:?}"));

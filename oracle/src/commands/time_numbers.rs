@@ -12,7 +12,8 @@ pub use linked::run;
 #[cfg(linked)]
 mod linked {
     use crate::generator::Generator;
-    use crate::{port, reference};
+    use crate::port::numbers as port;
+    use crate::reference;
     use std::hint::black_box;
     use std::time::Instant;
 
@@ -20,8 +21,8 @@ mod linked {
     const ROUNDS: usize = 8;
     const REPEATS: usize = 15;
 
-    type One<A, B> = unsafe extern "C" fn(A) -> B;
-    type Two = unsafe extern "C" fn(f32, f32) -> f32;
+    type One<A, B> = extern "C" fn(A) -> B;
+    type Two = extern "C" fn(f32, f32) -> f32;
 
     pub fn run() -> Result<(), String> {
         println!("nanoseconds for a call, best of {REPEATS}; independent calls, then a chain");
@@ -92,8 +93,7 @@ mod linked {
         // pointer is hidden from the compiler, so both are calls.
         let side = |f: One<A, B>| {
             let f = black_box(f);
-            // SAFETY: takes and gives plain numbers.
-            move |a: A| unsafe { f(a) }
+            move |a: A| f(a)
         };
         report(name, side(port), side(rust), arguments);
     }
@@ -104,8 +104,7 @@ mod linked {
         let arguments: Vec<(f32, f32)> = left.iter().copied().zip(right.copied()).collect();
         let side = |f: Two| {
             let f = black_box(f);
-            // SAFETY: takes and gives plain numbers.
-            move |(a, b): (f32, f32)| unsafe { f(a, b) }
+            move |(a, b): (f32, f32)| f(a, b)
         };
         report(name, side(port), side(rust), &arguments);
     }

@@ -52,7 +52,7 @@ fn whole(sheets: &[Sheet], pair: &Pair) -> Column {
     let port = |sheet: &Sheet| {
         let mut out = [0.0; crate::reference_sheets::FIGURES];
         // The record that stands for every month.
-        crate::port::sheet(sheet, &pair.daw, &pair.month, &mut out);
+        crate::port::sheets::figures(sheet, &pair.daw, &pair.month, &mut out);
         black_box(out);
     };
     assert_alike(sheets, pair);
@@ -68,8 +68,8 @@ fn assert_alike(sheets: &[Sheet], pair: &Pair) {
         let mut figures = showing(sheet);
         let wanted = figures.words();
         let values = &mut figures.values;
-        let answer = crate::port::sheet(sheet, &pair.daw, &pair.month, values);
-        let wanted_answer = crate::port::Showing {
+        let answer = crate::port::sheets::figures(sheet, &pair.daw, &pair.month, values);
+        let wanted_answer = jutetrowel::raw::Showing {
             points: figures.points,
             number: 0,
             place: 0,
