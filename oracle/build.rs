@@ -264,7 +264,10 @@ fn noted(place: &Place, line: &str, branches: &mut Vec<String>) -> String {
     let (condition, after) = rest.split_at(length);
     let mut parts = Vec::new();
     for part in condition.split(" && ") {
-        parts.push(format!("crate::branches::note({}, {part})", branches.len()));
+        parts.push(format!(
+            "crate::reference::branches::note({}, {part})",
+            branches.len()
+        ));
         branches.push(format!(
             "Branch {{ file: {file:?}, line: {number}, function: {function:?}, condition: {part:?} }}"
         ));

@@ -3,7 +3,7 @@
 use crate::bits::{Answer, Argument, Kind};
 #[cfg(linked)]
 use crate::port::numbers as port;
-use crate::reference;
+use crate::reference::numbers as reference;
 
 pub struct Function {
     pub number: u64,

@@ -4,43 +4,23 @@
 #![forbid(unsafe_code)]
 
 mod bits;
-mod branches;
-mod clock_kinds;
 mod commands;
-mod damage;
-mod data_files;
-mod desks;
+mod draw;
 mod functions;
-mod generator;
-mod index_check;
-mod journal_kinds;
+mod model;
 mod month_file;
 #[cfg(linked)]
 mod port;
-mod ranges;
 mod reference;
-mod reference_clocks;
-mod reference_files;
-#[cfg(linked)]
-mod reference_layers;
-mod reference_routes;
-mod reference_sheets;
-mod reference_tables;
-mod route_kinds;
-mod sheet_kinds;
-mod specials;
-mod steps;
-mod voacap;
 
 use commands::{
-    bulk_clocks, bulk_files, bulk_numbers, bulk_routes, bulk_sheets, data, files, numbers,
+    answer, bulk_clocks, bulk_files, bulk_journals, bulk_layers, bulk_lists, bulk_numbers,
+    bulk_routes, bulk_sheet, bulk_sheets, bulk_tables, clocks, data, files, journals, numbers,
+    pages, repeat_sheets, routes, self_check, sheet_inputs, sheets, time_layers, time_numbers,
+    time_sheets,
 };
-use commands::{
-    bulk_journals, bulk_lists, bulk_sheet, bulk_tables, clocks, journals, model, pages,
-    sheet_inputs,
-};
-use commands::{bulk_layers, repeat_sheets, time_layers};
-use commands::{routes, self_check, sheets, time_numbers, time_sheets};
+// The compared Rust names its modules from here.
+use reference::voacap;
 use std::env;
 use std::process::ExitCode;
 
@@ -112,9 +92,9 @@ fn command(words: &[&str]) -> Result<(), String> {
         ["bulk-journals", count, seed, program] => bulk_journals::run(count, seed, program),
         ["bulk-lists", count, seed] => bulk_lists::run(count, seed),
         ["bulk-sheet", count, seed, program] => bulk_sheet::run(count, seed, program),
-        ["replay"] => model::replay(),
-        ["sheet"] => model::sheet(),
-        ["page"] => model::page(),
+        ["replay"] => answer::replay(),
+        ["sheet"] => answer::sheet(),
+        ["page"] => answer::page(),
         ["time-sheets"] => time_sheets::run(),
         ["time-layers"] => time_layers::run(),
         ["repeat-sheets", side, kind, count] => repeat_sheets::run(side, kind, count),

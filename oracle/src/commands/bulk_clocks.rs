@@ -12,14 +12,14 @@ pub use linked::run;
 #[cfg(linked)]
 mod linked {
     use crate::bits::Answer as _;
-    use crate::clock_kinds::{any_hour, any_longitude, any_time};
     use crate::commands::compare::{report, Tally};
     use crate::commands::whole;
-    use crate::desks::Refusal;
-    use crate::generator::Generator;
+    use crate::draw::clock_kinds::{any_hour, any_longitude, any_time};
+    use crate::draw::generator::Generator;
+    use crate::draw::sheet_kinds::one_of;
+    use crate::model::desks::Refusal;
     use crate::port::{clocks as port, ACCEPTED};
-    use crate::reference_clocks::{cngtim, geotim, geotim_clck, Direction};
-    use crate::sheet_kinds::one_of;
+    use crate::reference::clocks::{cngtim, geotim, geotim_clck, Direction};
     use jutetrowel::raw::Answer;
     use std::fmt::Debug;
 

@@ -14,12 +14,12 @@ mod linked {
     use crate::bits::Kind;
     use crate::commands::compare::{filled, report, Tally};
     use crate::commands::whole;
-    use crate::damage::Damage;
-    use crate::data_files::{calm, ladders::near_good, wild, Pair};
-    use crate::generator::Generator;
-    use crate::reference_files::{blends, put, walk};
-    use crate::reference_sheets::{self, FIGURES};
-    use crate::voacap::coefficients::F2_RECORD_BYTES;
+    use crate::draw::damage::Damage;
+    use crate::draw::data_files::{calm, ladders::near_good, wild, Pair};
+    use crate::draw::generator::Generator;
+    use crate::reference::files::{blends, put, walk};
+    use crate::reference::sheets::{self, FIGURES};
+    use crate::reference::voacap::coefficients::F2_RECORD_BYTES;
     use jutetrowel::raw::{self, Answer};
 
     pub fn run(count: &str, seed: &str) -> Result<(), String> {
@@ -62,7 +62,7 @@ mod linked {
 
     /// What a sheet refuses both files for, if its buffer has the right length.
     fn usable(record: &[u8], file: &[u8]) -> (u32, u32) {
-        reference_sheets::refusal(record, file, FIGURES)
+        sheets::refusal(record, file, FIGURES)
     }
 
     /// The Rust reads no height map without a whole record.

@@ -15,13 +15,13 @@ mod linked {
     use crate::commands::compare::{report, Tally};
     use crate::commands::lent::{self, fields, Buffer, Files};
     use crate::commands::whole;
-    use crate::generator::Generator;
+    use crate::draw::generator::Generator;
+    use crate::draw::sheet_kinds::one_of;
     use crate::port::{layers as port, ACCEPTED};
-    use crate::reference_files::read;
-    use crate::reference_layers::{hour_maps, layers_at, measured, HourMaps, Place};
-    use crate::reference_sheets::{put_all_months, refusal, Sheet, FIGURES};
-    use crate::sheet_kinds::one_of;
-    use crate::voacap::coefficients::CoefficientSet;
+    use crate::reference::files::read;
+    use crate::reference::layers::{hour_maps, layers_at, measured, HourMaps, Place};
+    use crate::reference::sheets::{put_all_months, refusal, Sheet, FIGURES};
+    use crate::reference::voacap::coefficients::CoefficientSet;
     use jutetrowel::raw::Answer;
     use std::f64::consts::PI;
 

@@ -12,9 +12,9 @@ pub use linked::run;
 #[cfg(linked)]
 mod linked {
     use crate::commands::whole;
+    use crate::draw::generator::Generator;
+    use crate::draw::ranges::inside;
     use crate::functions::{Function, FUNCTIONS};
-    use crate::generator::Generator;
-    use crate::ranges::inside;
 
     pub fn run(count: &str, seed: &str, name: Option<&str>) -> Result<(), String> {
         let count = whole(count)?;

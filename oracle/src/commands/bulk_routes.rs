@@ -1,12 +1,12 @@
 //! `bulk-routes FILE COUNT SEED`: random routes with the Rust's answers, in the
 //! form of `routes`, for the port's replay to read.
 
-use crate::branches;
 use crate::commands::routes::{push_heading, row};
 use crate::commands::whole;
-use crate::generator::Generator;
+use crate::draw::generator::Generator;
+use crate::draw::route_kinds::{any_bits, Draw, KINDS};
 use crate::month_file::push_words;
-use crate::route_kinds::{any_bits, Draw, KINDS};
+use crate::reference::branches;
 use std::fs::File;
 use std::io::{BufWriter, Write};
 

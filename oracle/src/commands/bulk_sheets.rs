@@ -15,12 +15,12 @@ mod linked {
     use crate::commands::compare::{report, Tally};
     use crate::commands::lent::{self, fields, Buffer, Files};
     use crate::commands::whole;
-    use crate::data_files::Pair;
-    use crate::desks::{Refusal, Worksheet};
-    use crate::generator::Generator;
+    use crate::draw::data_files::Pair;
+    use crate::draw::generator::Generator;
+    use crate::draw::sheet_kinds::one_of;
+    use crate::model::desks::{Refusal, Worksheet};
     use crate::port::sheets::figures_by;
-    use crate::reference_sheets::{put_all_months, refusal, showing, Sheet, FIGURES};
-    use crate::sheet_kinds::one_of;
+    use crate::reference::sheets::{put_all_months, refusal, showing, Sheet, FIGURES};
     use jutetrowel::raw::{self, Showing};
 
     /// Sheets for each pair of files, which takes longer to make than a sheet.

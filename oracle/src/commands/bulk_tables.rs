@@ -14,12 +14,12 @@ mod linked {
     use crate::bits::Kind;
     use crate::commands::compare::{report, Tally};
     use crate::commands::whole;
-    use crate::damage::Damage;
-    use crate::data_files::{calm, ladders::near_good, wild, Pair};
-    use crate::desks::Refusal;
-    use crate::generator::Generator;
-    use crate::reference_tables::{Part, Starts, TABLES};
-    use crate::voacap::coefficients::F2_RECORD_BYTES;
+    use crate::draw::damage::Damage;
+    use crate::draw::data_files::{calm, ladders::near_good, wild, Pair};
+    use crate::draw::generator::Generator;
+    use crate::model::desks::Refusal;
+    use crate::reference::tables::{Part, Starts, TABLES};
+    use crate::reference::voacap::coefficients::F2_RECORD_BYTES;
     use jutetrowel::raw::{self, Span};
 
     /// Tables for each pair of files, which takes longer to make.

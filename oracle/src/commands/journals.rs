@@ -6,16 +6,18 @@ mod by_hand;
 mod clauses;
 pub mod counts;
 
-use crate::data_files::{named, Pair};
-use crate::desks::fields::{Inputs, FIELDS};
-use crate::desks::lent::Lent;
-use crate::desks::programs::{replay_text, replay_with, Replayed, CALLS};
-use crate::desks::shorter::check;
-use crate::desks::Worksheet;
-use crate::generator::Generator;
-use crate::journal_kinds::{any_buffers, bad_flags, bad_inputs, bytes, list, with_a_nan, NO_CALLS};
+use crate::draw::data_files::{named, Pair};
+use crate::draw::generator::Generator;
+use crate::draw::journal_kinds::{
+    any_buffers, bad_flags, bad_inputs, bytes, list, with_a_nan, NO_CALLS,
+};
+use crate::draw::sheet_kinds::in_range;
+use crate::model::desks::fields::{Inputs, FIELDS};
+use crate::model::desks::lent::Lent;
+use crate::model::desks::programs::{replay_text, replay_with, Replayed, CALLS};
+use crate::model::desks::shorter::check;
+use crate::model::desks::Worksheet;
 use crate::month_file::push_words;
-use crate::sheet_kinds::in_range;
 use clauses::Clauses;
 use counts::Counts;
 use std::fs;
@@ -230,9 +232,9 @@ fn print_groups(journals: &[Journal]) {
 #[cfg(test)]
 mod tests {
     use super::{by_hand, journals, pair, vectors, MOST};
-    use crate::desks::lent::Lent;
-    use crate::desks::Worksheet;
-    use crate::reference_sheets::FIGURES;
+    use crate::model::desks::lent::Lent;
+    use crate::model::desks::Worksheet;
+    use crate::reference::sheets::FIGURES;
 
     #[test]
     fn journals_show_everything_and_are_the_same_each_time() {

@@ -2,14 +2,14 @@
 //! files that are good or not, and a buffer with words on both sides.
 
 use crate::bits::{Answer, F32};
-use crate::damage::Damage;
-use crate::data_files::ladders::{good, near_good, LONG, SHORT, USUAL};
-use crate::data_files::{calm, wild, Pair};
-use crate::generator::Generator;
-use crate::index_check::IndexTable;
-use crate::reference_sheets::Sheet;
-use crate::sheet_kinds::{any_bits, in_range, one_of, outside};
-use crate::voacap::coefficients::F2_RECORD_BYTES;
+use crate::draw::damage::Damage;
+use crate::draw::data_files::ladders::{good, near_good, LONG, SHORT, USUAL};
+use crate::draw::data_files::{calm, wild, Pair};
+use crate::draw::generator::Generator;
+use crate::draw::sheet_kinds::{any_bits, in_range, one_of, outside};
+use crate::model::index_check::IndexTable;
+use crate::reference::sheets::Sheet;
+use crate::reference::voacap::coefficients::F2_RECORD_BYTES;
 use std::borrow::Cow;
 use std::fmt::{Display, Formatter, Result};
 

@@ -3,11 +3,11 @@
 //! function 0 stands before each function's and holds its name.
 
 use crate::bits::Answer;
+use crate::draw::generator::Generator;
+use crate::draw::ranges::inside;
+use crate::draw::specials::specials;
 use crate::functions::{Function, FUNCTIONS};
-use crate::generator::Generator;
-use crate::ranges::inside;
-use crate::specials::specials;
-use crate::voacap::con::{MagneticPole, D2R, PI, PI2, PIO2, R2D, RZ};
+use crate::reference::voacap::con::{MagneticPole, D2R, PI, PI2, PIO2, R2D, RZ};
 use std::collections::HashSet;
 use std::fs;
 

@@ -3,16 +3,16 @@
 
 mod by_hand;
 
-use crate::data_files::{far_below_zero, named, Pair};
-use crate::desks::fields::Inputs;
-use crate::desks::lent::Lent;
-use crate::desks::page::{page_text, printed};
-use crate::generator::Generator;
-use crate::journal_kinds::bad_inputs;
+use crate::draw::data_files::{far_below_zero, named, Pair};
+use crate::draw::generator::Generator;
+use crate::draw::journal_kinds::bad_inputs;
+use crate::draw::sheet_kinds::in_range;
+use crate::model::desks::fields::Inputs;
+use crate::model::desks::lent::Lent;
+use crate::model::desks::page::{page_text, printed};
 use crate::month_file::push_words;
-use crate::reference_sheets::{FIGURES, ROW};
-use crate::sheet_kinds::in_range;
-use crate::voacap::coefficients::F2_RECORD_BYTES;
+use crate::reference::sheets::{FIGURES, ROW};
+use crate::reference::voacap::coefficients::F2_RECORD_BYTES;
 use std::fs;
 
 /// At most so much; the file is kept.

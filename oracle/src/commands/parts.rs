@@ -2,12 +2,12 @@
 //! before, for the commands that time it or count its instructions.
 
 use super::sides::Sides;
-use crate::data_files::Pair;
+use crate::draw::data_files::Pair;
 use crate::port::{layers as port, ACCEPTED};
-use crate::reference_files::read;
-use crate::reference_layers::{hour_maps, layers_at, measured, HourMaps, Place};
-use crate::reference_sheets::Sheet;
-use crate::voacap::coefficients::{parse_month_file, CoefficientSet};
+use crate::reference::files::read;
+use crate::reference::layers::{hour_maps, layers_at, measured, HourMaps, Place};
+use crate::reference::sheets::Sheet;
+use crate::reference::voacap::coefficients::{parse_month_file, CoefficientSet};
 use jutetrowel::raw;
 use std::hint::black_box;
 

@@ -15,7 +15,7 @@ mod linked {
     use crate::commands::parts::{Part, Parts};
     use crate::commands::sides::{Sides, Wrong};
     use crate::commands::whole;
-    use crate::data_files::named;
+    use crate::draw::data_files::named;
 
     pub fn run(side: &str, kind: &str, count: &str) -> Result<(), String> {
         let count = whole(count)?;

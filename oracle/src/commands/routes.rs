@@ -7,9 +7,9 @@ mod odd;
 mod ordinary;
 mod searched;
 
-use crate::branches::{self, Branch, Counts};
 use crate::month_file::push_words;
-use crate::reference_routes::{counted, plain, Route};
+use crate::reference::branches::{self, Branch, Counts};
+use crate::reference::routes::{counted, plain, Route};
 use std::fs;
 
 const WORDS: usize = 49;
@@ -89,7 +89,7 @@ fn print_groups(groups: &[Group]) {
 #[cfg(test)]
 mod tests {
     use super::{groups, is_counted, vectors, HEADING};
-    use crate::branches::refuse_untaken;
+    use crate::reference::branches::refuse_untaken;
 
     #[test]
     fn vectors_take_every_branch_and_are_the_same_each_time() {

@@ -4,13 +4,13 @@
 mod cases;
 
 use crate::commands::journals::counts::Counts;
-use crate::data_files::{extreme, named, Pair};
-use crate::desks::programs::{sheet, sheet_text, CALLS};
-use crate::generator::Generator;
-use crate::journal_kinds::with_a_nan;
+use crate::draw::data_files::{extreme, named, Pair};
+use crate::draw::generator::Generator;
+use crate::draw::journal_kinds::with_a_nan;
+use crate::draw::sheet_kinds::in_range;
+use crate::model::desks::programs::{sheet, sheet_text, CALLS};
 use crate::month_file::push_words;
-use crate::sheet_kinds::in_range;
-use crate::voacap::coefficients::F2_RECORD_BYTES;
+use crate::reference::voacap::coefficients::F2_RECORD_BYTES;
 use cases::{cases, Case};
 use std::fs;
 use std::path::Path;
@@ -109,7 +109,7 @@ fn vectors() -> (Vec<u8>, Counts) {
 #[cfg(test)]
 mod tests {
     use super::{inputs, pair, vectors, MOST};
-    use crate::desks::programs::{sheet, sheet_text};
+    use crate::model::desks::programs::{sheet, sheet_text};
 
     #[test]
     fn every_refusal_is_there_and_the_bytes_are_the_same_each_time() {

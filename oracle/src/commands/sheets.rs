@@ -9,12 +9,12 @@ mod refused;
 mod searched;
 mod witnesses;
 
-use crate::branches::{self, Branch, Counts, Side, BRANCHES};
-use crate::data_files::{extreme, named, Pair};
+use crate::draw::data_files::{extreme, named, Pair};
 use crate::month_file::push_words;
-use crate::reference_files::read;
-use crate::reference_sheets::{counted, plain, put_all_months, Figures, Sheet};
-use crate::voacap::coefficients::{CoefficientSet, F2_RECORD_BYTES};
+use crate::reference::branches::{self, Branch, Counts, Side, BRANCHES};
+use crate::reference::files::read;
+use crate::reference::sheets::{counted, plain, put_all_months, Figures, Sheet};
+use crate::reference::voacap::coefficients::{CoefficientSet, F2_RECORD_BYTES};
 use std::fs;
 use std::path::Path;
 use witnesses::Witnesses;

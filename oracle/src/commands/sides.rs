@@ -2,10 +2,10 @@
 //! that time it or count its instructions.
 
 use super::timing::{sheets, LENGTHS};
-use crate::data_files::Pair;
+use crate::draw::data_files::Pair;
 use crate::month_file::{push_words, BYTES};
-use crate::reference_files::{read, walk};
-use crate::reference_sheets::{put_all_months, showing, Sheet, FIGURES};
+use crate::reference::files::{read, walk};
+use crate::reference::sheets::{put_all_months, showing, Sheet, FIGURES};
 use jutetrowel::raw::{self, Showing};
 use std::hint::black_box;
 

@@ -18,7 +18,7 @@ mod linked {
     use crate::commands::parts::{Part, Parts};
     use crate::commands::sides::{Sides, Wrong};
     use crate::commands::timing::{best, REPEATS, ROUTES};
-    use crate::data_files::{named, Pair};
+    use crate::draw::data_files::{named, Pair};
 
     const PARTS: &str = "
 Month file: the port checks form and index table; the Rust checks the form and

@@ -11,9 +11,9 @@ pub use linked::run;
 
 #[cfg(linked)]
 mod linked {
-    use crate::generator::Generator;
+    use crate::draw::generator::Generator;
     use crate::port::numbers as port;
-    use crate::reference;
+    use crate::reference::numbers as reference;
     use std::hint::black_box;
     use std::time::Instant;
 

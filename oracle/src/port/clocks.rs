@@ -1,6 +1,6 @@
 //! The port's clocks. A refused answer has zeros before its number and place.
 
-use crate::reference_clocks::Direction;
+use crate::reference::clocks::Direction;
 use jutetrowel::raw::{self, Answer, ClockAnswer, HoursAnswer, LocalAnswer};
 
 pub fn cngtim(time: f32, lon: f32, direction: Direction) -> ([f32; 2], Answer) {

@@ -1,8 +1,8 @@
 //! The parts of the port's sheets by themselves.
 
-use crate::reference_layers::{HourMaps, Place};
-use crate::reference_routes::Route;
-use crate::reference_sheets::Sheet;
+use crate::reference::layers::{HourMaps, Place};
+use crate::reference::routes::Route;
+use crate::reference::sheets::Sheet;
 use jutetrowel::raw::{self, Answer, Layers, Measured};
 
 /// A flag that is not 0 is the long way round; the route's own is not used.

@@ -1,9 +1,9 @@
 //! The port's worksheet calls over 90 lent words.
 
 use crate::commands::bulk_lists::beside::{Desks, Told};
-use crate::data_files::Pair;
-use crate::desks::words::Words;
-use crate::desks::{Call, Edit};
+use crate::draw::data_files::Pair;
+use crate::model::desks::words::Words;
+use crate::model::desks::{Call, Edit};
 use jutetrowel::raw::{self, Answer, Showing};
 
 impl From<Answer> for Told {

@@ -1,4 +1,4 @@
-//! The port's side: the functions of its library, as bindings/rust declares them, over the types of the other rooms.
+//! The port's side: its library's functions, which bindings/rust declares.
 
 pub mod clocks;
 pub mod layers;
@@ -6,7 +6,7 @@ pub mod lists;
 pub mod numbers;
 pub mod sheets;
 
-use crate::desks::Refusal;
+use crate::model::desks::Refusal;
 use jutetrowel::raw::Answer;
 
 /// No number and no place where nothing is refused.

@@ -1,6 +1,6 @@
 //! The port's figures of a sheet from its fields, which nothing judges.
 
-use crate::reference_sheets::Sheet;
+use crate::reference::sheets::Sheet;
 use jutetrowel::raw::{self, Showing};
 
 pub fn figures(sheet: &Sheet, record: &[u8], file: &[u8], out: &mut [f32]) -> Showing {

@@ -2,12 +2,12 @@
 
 use super::drawn::{List, Start};
 use crate::bits::{Answer as _, F32};
-use crate::data_files::Pair;
-use crate::desks::lent::Lent;
-use crate::desks::programs::Replayed;
-use crate::desks::words::{self, Words, WORDS};
-use crate::desks::{Answer, Call, Refusal};
-use crate::generator::Generator;
+use crate::draw::data_files::Pair;
+use crate::draw::generator::Generator;
+use crate::model::desks::lent::Lent;
+use crate::model::desks::programs::Replayed;
+use crate::model::desks::words::{self, Words, WORDS};
+use crate::model::desks::{Answer, Call, Refusal};
 
 /// Words on both sides of a buffer that must stay as they are.
 const GUARD: usize = 8;

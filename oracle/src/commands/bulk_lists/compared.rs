@@ -3,10 +3,10 @@
 use super::beside::{self, Desks};
 use super::drawn::{self, List, Start};
 use crate::commands::journals::counts::Counts;
-use crate::data_files::Pair;
-use crate::desks::lent::Lent;
-use crate::desks::shorter::check;
-use crate::generator::Generator;
+use crate::draw::data_files::Pair;
+use crate::draw::generator::Generator;
+use crate::model::desks::lent::Lent;
+use crate::model::desks::shorter::check;
 
 /// Lists for each pair of files, which takes longer to make than a list.
 const LISTS: u64 = 20;

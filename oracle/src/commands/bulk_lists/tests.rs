@@ -3,11 +3,11 @@
 
 use super::beside::{Desks, Told};
 use super::compared::run;
-use crate::data_files::Pair;
-use crate::desks::lent::Lent;
-use crate::desks::programs::inputs;
-use crate::desks::words::{self, Words};
-use crate::desks::{Answer, Call, Draft, Worksheet};
+use crate::draw::data_files::Pair;
+use crate::model::desks::lent::Lent;
+use crate::model::desks::programs::inputs;
+use crate::model::desks::words::{self, Words};
+use crate::model::desks::{Answer, Call, Draft, Worksheet};
 
 /// Answers as the model does; `slip` may change what is given back.
 struct Model<Slip>(Slip);

@@ -1,13 +1,13 @@
 //! What the program `sheet` is given: fields, and how much of both files, with
 //! one byte of the month file changed, all of it cut.
 
-use crate::data_files::Pair;
-use crate::desks::fields::{self, range, Inputs, Range, FIELDS};
-use crate::desks::programs::{CALLS, HEAD, MONTH};
-use crate::generator::Generator;
+use crate::draw::data_files::Pair;
+use crate::draw::generator::Generator;
+use crate::draw::sheet_kinds::in_range;
+use crate::model::desks::fields::{self, range, Inputs, Range, FIELDS};
+use crate::model::desks::programs::{CALLS, HEAD, MONTH};
 use crate::month_file::{markers, push_words, BYTES};
-use crate::sheet_kinds::in_range;
-use crate::voacap::coefficients::F2_RECORD_BYTES;
+use crate::reference::voacap::coefficients::F2_RECORD_BYTES;
 
 /// Stands for a byte that is not changed.
 const NOWHERE: u32 = BYTES as u32;

@@ -2,10 +2,10 @@
 //! lengths lent, a changed byte of the month file, the buffer's length, and
 //! number and place of the refusal.
 
-use crate::data_files::{named, Pair};
+use crate::draw::data_files::{named, Pair};
 use crate::month_file::{markers, push_words, BYTES};
-use crate::reference_sheets::{refusal, FIGURES};
-use crate::voacap::coefficients::F2_RECORD_BYTES;
+use crate::reference::sheets::{refusal, FIGURES};
+use crate::reference::voacap::coefficients::F2_RECORD_BYTES;
 use std::collections::HashSet;
 
 /// Stands in a row for a byte that is not changed.

@@ -1,8 +1,8 @@
 //! Index tables that pass and ask for more and more of the maps.
 
-use crate::data_files::ladders::USUAL;
-use crate::data_files::Pair;
-use crate::index_check::{IndexTable, HARMONICS, ROWS};
+use crate::draw::data_files::ladders::USUAL;
+use crate::draw::data_files::Pair;
+use crate::model::index_check::{IndexTable, HARMONICS, ROWS};
 use crate::month_file::{push_words, words};
 use std::array::from_fn;
 
@@ -56,10 +56,10 @@ pub fn with_table(mut pair: Pair, table: &IndexTable) -> Pair {
 #[cfg(test)]
 mod tests {
     use super::{sums, tables, with_table};
-    use crate::data_files::ladders::USUAL;
-    use crate::data_files::named;
-    use crate::index_check::answer;
-    use crate::voacap::coefficients::parse_month_file;
+    use crate::draw::data_files::ladders::USUAL;
+    use crate::draw::data_files::named;
+    use crate::model::index_check::answer;
+    use crate::reference::voacap::coefficients::parse_month_file;
 
     #[test]
     fn tables_pass_and_grow() {
