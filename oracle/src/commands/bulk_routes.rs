@@ -16,7 +16,7 @@ pub fn run(file: &str, count: &str, seed: &str) -> Result<(), String> {
     let mut out = BufWriter::new(File::create(file).map_err(failed)?);
     let kinds = kinds();
     for (kind, (name, draw)) in (0..).zip(&kinds) {
-        let mut random = Generator::new(seed.wrapping_mul(1 << 32) ^ kind);
+        let mut random = Generator::of_case(seed, kind);
         let mut bytes = Vec::new();
         push_heading(&mut bytes, name);
         for _ in 0..count / kinds.len() as u64 {

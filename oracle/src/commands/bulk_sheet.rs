@@ -21,8 +21,7 @@ pub fn run(count: &str, seed: &str, program: &str) -> Result<(), String> {
     let mut compared = Compared::new(program);
     let mut counts = Counts::default();
     for case in 0..count.div_ceil(INPUTS) {
-        // A seed of its own, so that a case can be found again.
-        let mut random = Generator::new(seed.wrapping_mul(1 << 32) ^ case);
+        let mut random = Generator::of_case(seed, case);
         let pair = files(&mut random);
         for number in 0..INPUTS.min(count - case * INPUTS) {
             let input = input(&mut random, &pair);

@@ -3,6 +3,7 @@
 //! little-endian u32, arguments first, then the refusal's number and place,
 //! then the times.
 
+use super::put_file;
 use crate::bits::Answer;
 use crate::draw::clock_kinds::{any_hour, any_longitude, any_time, few_longitudes, hours};
 use crate::draw::clock_kinds::{longitudes, other_times, NO_HOURS};
@@ -12,7 +13,6 @@ use crate::month_file::push_words;
 use crate::reference::branches::{self, Branch, Counts};
 use crate::reference::clocks::{cngtim, counted_cngtim, counted_geotim, counted_geotim_clck};
 use crate::reference::clocks::{geotim, geotim_clck, Direction};
-use std::fs;
 
 const SEED: u64 = 0x636c_6f63;
 /// Random rows of each function.
@@ -36,7 +36,7 @@ pub fn run(file: &str) -> Result<(), String> {
     branches::print(&counts, is_clock);
     branches::refuse_untaken(&counts, is_clock, &[])?;
     println!("{} bytes", bytes.len());
-    fs::write(file, bytes).map_err(|e| format!("cannot write {file}: {e}"))
+    put_file(file, &bytes)
 }
 
 fn is_clock(branch: &Branch) -> bool {

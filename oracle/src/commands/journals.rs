@@ -6,6 +6,7 @@ mod by_hand;
 mod clauses;
 pub mod counts;
 
+use super::write_file;
 use crate::draw::data_files::{named, Pair};
 use crate::draw::generator::Generator;
 use crate::draw::journal_kinds::{
@@ -20,7 +21,6 @@ use crate::model::desks::Worksheet;
 use crate::month_file::push_words;
 use clauses::Clauses;
 use counts::Counts;
-use std::fs;
 
 const LISTS: usize = 200;
 const BAD_FLAGS: usize = 50;
@@ -86,9 +86,7 @@ pub fn run(file: &str) -> Result<(), String> {
     if bytes.len() > MOST {
         return Err(format!("{} bytes are too many", bytes.len()));
     }
-    fs::write(file, &bytes).map_err(|e| format!("cannot write {file}: {e}"))?;
-    println!("{file}: {} bytes", bytes.len());
-    Ok(())
+    write_file(file, &bytes)
 }
 
 /// One figure of each point is NaN, the others depend on all fields.

@@ -3,6 +3,7 @@
 
 mod by_hand;
 
+use super::write_file;
 use crate::draw::data_files::{far_below_zero, named, Pair};
 use crate::draw::generator::Generator;
 use crate::draw::journal_kinds::bad_inputs;
@@ -13,7 +14,6 @@ use crate::model::desks::page::{page_text, printed};
 use crate::month_file::push_words;
 use crate::reference::sheets::{FIGURES, ROW};
 use crate::reference::voacap::coefficients::F2_RECORD_BYTES;
-use std::fs;
 
 /// At most so much; the file is kept.
 const MOST: usize = 400_000;
@@ -115,9 +115,7 @@ pub fn run(file: &str) -> Result<(), String> {
     if bytes.len() > MOST {
         return Err(format!("{} bytes are too many", bytes.len()));
     }
-    fs::write(file, &bytes).map_err(|e| format!("cannot write {file}: {e}"))?;
-    println!("{file}: {} bytes", bytes.len());
-    Ok(())
+    write_file(file, &bytes)
 }
 
 /// How many pages show what.

@@ -90,12 +90,8 @@ const fn positive(
     allowed: fn(f64, f64) -> f64,
 ) -> Check {
     Check {
-        name,
-        step,
-        library,
         low: 0.0,
-        high,
-        allowed,
+        ..check(name, step, library, high, allowed)
     }
 }
 

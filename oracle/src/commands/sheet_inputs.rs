@@ -4,6 +4,7 @@
 mod cases;
 
 use crate::commands::journals::counts::Counts;
+use crate::commands::{put, write_file};
 use crate::draw::data_files::{extreme, named, Pair};
 use crate::draw::generator::Generator;
 use crate::draw::journal_kinds::with_a_nan;
@@ -12,8 +13,6 @@ use crate::model::desks::programs::{sheet, sheet_text, CALLS};
 use crate::month_file::push_words;
 use crate::reference::voacap::coefficients::F2_RECORD_BYTES;
 use cases::{cases, Case};
-use std::fs;
-use std::path::Path;
 
 /// Sheets of each further pair of files.
 const FURTHER: usize = 2;
@@ -45,19 +44,10 @@ pub fn files(folder: &str) -> Result<(), String> {
     Ok(())
 }
 
-/// Without a line for each file.
-fn put(folder: &str, name: &str, bytes: &[u8]) -> Result<(), String> {
-    fs::create_dir_all(folder).map_err(|e| format!("cannot make {folder}: {e}"))?;
-    let path = Path::new(folder).join(name);
-    fs::write(&path, bytes).map_err(|e| format!("cannot write {}: {e}", path.display()))
-}
-
 pub fn compact(file: &str) -> Result<(), String> {
     let (bytes, counts) = vectors();
     counts.print();
-    fs::write(file, &bytes).map_err(|e| format!("cannot write {file}: {e}"))?;
-    println!("{file}: {} bytes", bytes.len());
-    Ok(())
+    write_file(file, &bytes)
 }
 
 /// Those of the compact form, then good ones of every pair of files.

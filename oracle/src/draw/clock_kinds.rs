@@ -1,6 +1,5 @@
 //! Hours, times and longitudes at which clocks turn over, and random ones.
 
-use crate::bits::Kind;
 use crate::draw::generator::Generator;
 use crate::draw::sheet_kinds::one_of;
 use std::iter::successors;
@@ -84,7 +83,7 @@ pub fn other_times() -> Vec<f32> {
 pub fn any_longitude(random: &mut Generator) -> f32 {
     match random.below(16) {
         0 => one_of(random, &longitudes()),
-        1 => f32::from_bits(random.any(Kind::F32) as u32),
+        1 => random.any_number(),
         2 => (random.sign() * random.scaled(-30, 7)) as f32,
         3..=6 => beside(random, 15.0, -12, 12),
         7..=8 => random_whole(random, -180, 180),
@@ -95,7 +94,7 @@ pub fn any_longitude(random: &mut Generator) -> f32 {
 pub fn any_time(random: &mut Generator) -> f32 {
     match random.below(16) {
         0 => one_of(random, &other_times()),
-        1 => f32::from_bits(random.any(Kind::F32) as u32),
+        1 => random.any_number(),
         2 => random.scaled(-30, 4) as f32,
         3..=4 => beside(random, 1.0, 0, 24),
         5..=8 => random_whole(random, 0, 24),
@@ -106,7 +105,7 @@ pub fn any_time(random: &mut Generator) -> f32 {
 pub fn any_hour(random: &mut Generator) -> u32 {
     match random.below(16) {
         0 => one_of(random, &NO_HOURS),
-        1 => random.any(Kind::F32) as u32,
+        1 => random.any_word(),
         _ => random.between(0, 24) as u32,
     }
 }

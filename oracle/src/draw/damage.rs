@@ -54,10 +54,15 @@ impl Damage {
     pub fn done_to(self, file: &[u8]) -> Vec<u8> {
         let mut bytes = [file, &EXTRA].concat();
         bytes.truncate(self.length as usize);
-        if let Some(byte) = bytes.get_mut(self.place as usize) {
-            *byte = self.value as u8;
-        }
+        set_byte(&mut bytes, self.place, self.value);
         bytes
+    }
+}
+
+/// A place that is not there changes nothing.
+pub fn set_byte(file: &mut [u8], place: u32, value: u32) {
+    if let Some(byte) = file.get_mut(place as usize) {
+        *byte = value as u8;
     }
 }
 

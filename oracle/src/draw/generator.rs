@@ -12,6 +12,11 @@ impl Generator {
         Self { state: seed }
     }
 
+    /// A seed of its own for each case, so that a case can be found again.
+    pub fn of_case(seed: u64, case: u64) -> Self {
+        Self::new(seed.wrapping_mul(1 << 32) ^ case)
+    }
+
     pub fn next(&mut self) -> u64 {
         self.state = self.state.wrapping_add(0x9e37_79b9_7f4a_7c15);
         let z = self.state;
@@ -65,6 +70,15 @@ impl Generator {
             Kind::F64 | Kind::Pair => self.next(),
             Kind::F32 | Kind::I32 => self.next() >> 32,
         }
+    }
+
+    pub fn any_word(&mut self) -> u32 {
+        self.any(Kind::F32) as u32
+    }
+
+    /// An f32 of any bits.
+    pub fn any_number(&mut self) -> f32 {
+        f32::from_bits(self.any_word())
     }
 
     /// At least 2,000 words over all exponents, each in turn.

@@ -1,8 +1,7 @@
 //! Random lists of calls: most of them find a draft or a closed desk as they
 //! want it, and every refusal comes often.
 
-use crate::bits::Kind;
-use crate::draw::damage::Damage;
+use crate::draw::damage::{set_byte, Damage};
 use crate::draw::data_files::ladders::{good, near_good, LONG, SHORT, USUAL};
 use crate::draw::data_files::{calm, wild, Pair};
 use crate::draw::generator::Generator;
@@ -325,7 +324,7 @@ fn number_near(random: &mut Generator, low: f32, high: f32) -> u32 {
                 &[0x7fc0_0000, 0xffc0_0001, 0x7f80_0001, 0xffff_ffff],
             )
         }
-        _ => return random.any(Kind::F32) as u32,
+        _ => return random.any_word(),
     };
     value.to_bits()
 }
@@ -407,9 +406,7 @@ pub fn with_a_nan(pair: &Pair) -> Pair {
 pub fn damaged(random: &mut Generator, month: &[u8]) -> Vec<u8> {
     let Damage { place, value, .. } = Damage::any(random);
     let mut month = month.to_vec();
-    if let Some(byte) = month.get_mut(place as usize) {
-        *byte = value as u8;
-    }
+    set_byte(&mut month, place, value);
     month
 }
 

@@ -2,7 +2,6 @@
 //! unless said otherwise. Angles are worked with the steps, so that the
 //! routes are the same on every machine.
 
-use crate::bits::Kind;
 use crate::draw::generator::Generator;
 use crate::reference::routes::{end, End, Route};
 use crate::reference::steps::{acos, cos, sin, HALF_PI};
@@ -45,7 +44,7 @@ pub fn any_bits(random: &mut Generator) -> Route {
     let chosen = 1 + random.below(63);
     for (i, number) in route.numbers().into_iter().enumerate() {
         if chosen >> i & 1 == 1 {
-            *number = f32::from_bits(random.any(Kind::F32) as u32);
+            *number = random.any_number();
         }
     }
     route

@@ -1,9 +1,9 @@
 //! Random sheets: fields in document 01's ranges, their ends more often than
 //! chance would have them, and fields outside.
 
-use crate::bits::Kind;
 use crate::draw::generator::Generator;
 use crate::draw::route_kinds::of_any_kind;
+use crate::model::desks::fields::check;
 use crate::reference::sheets::Sheet;
 
 /// What is in no range of document 01, or only just.
@@ -38,24 +38,7 @@ pub fn in_range(random: &mut Generator) -> Sheet {
 
 /// Whether every field is in its range.
 pub fn is_in_range(sheet: &Sheet) -> bool {
-    let ranges = [
-        [0.0, 300.0],
-        [0.0, 24.0],
-        [-90.0, 90.0],
-        [-180.0, 180.0],
-        [-90.0, 90.0],
-        [-180.0, 180.0],
-        [0.125, 8.0],
-        [0.125, 8.0],
-        [0.125, 8.0],
-        [0.125, 8.0],
-        [-90.0, 90.0],
-        [-180.0, 180.0],
-    ];
-    let mut copy = *sheet;
-    let mut numbers = copy.numbers().into_iter().zip(ranges);
-    (1..=12).contains(&sheet.month)
-        && numbers.all(|(number, [low, high])| (low..=high).contains(number))
+    check(1, &sheet.words()).is_ok()
 }
 
 /// Some are those at which a blend takes one plane alone.
@@ -116,10 +99,7 @@ pub fn outside(random: &mut Generator) -> Sheet {
 }
 
 pub fn any_bits(random: &mut Generator) -> Sheet {
-    replaced(
-        random,
-        |random| f32::from_bits(random.any(Kind::F32) as u32),
-    )
+    replaced(random, Generator::any_number)
 }
 
 #[cfg(test)]

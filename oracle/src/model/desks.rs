@@ -21,7 +21,7 @@ pub struct Refusal {
 }
 
 /// Refusals other than those of fields and files have place 0.
-const fn at_no_place(number: u32) -> Refusal {
+pub const fn at_no_place(number: u32) -> Refusal {
     Refusal { number, place: 0 }
 }
 

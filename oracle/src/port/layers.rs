@@ -1,6 +1,6 @@
 //! The parts of the port's sheets by themselves.
 
-use crate::reference::layers::{HourMaps, Place};
+use crate::reference::layers::{in_a_row, HourMaps, Place};
 use crate::reference::routes::Route;
 use crate::reference::sheets::Sheet;
 use jutetrowel::raw::{self, Answer, Layers, Measured};
@@ -40,9 +40,9 @@ pub fn layers_at(sheet: &Sheet, ab: &HourMaps, file: &[u8], place: Place) -> (An
     let Layers {
         number,
         place,
-        fi: [fi_e, fi_f1, fi_f2],
-        yi: [yi_e, yi_f1, yi_f2],
-        hi: [hi_e, hi_f1, hi_f2],
+        fi,
+        yi,
+        hi,
         f2m3,
         hpf2,
         rat,
@@ -65,9 +65,7 @@ pub fn layers_at(sheet: &Sheet, ab: &HourMaps, file: &[u8], place: Place) -> (An
         lat,
         lon,
     );
-    let numbers = [
-        fi_e, fi_f1, fi_f2, yi_e, yi_f1, yi_f2, hi_e, hi_f1, hi_f2, f2m3, hpf2, rat, abiy, clck,
-        zenang, zenmax,
-    ];
+    let others = [f2m3, hpf2, rat, abiy, clck, zenang, zenmax];
+    let numbers = in_a_row([fi, yi, hi], others);
     (Answer { number, place }, numbers)
 }

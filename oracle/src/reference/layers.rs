@@ -3,7 +3,6 @@
 
 use crate::reference::sheets::Sheet;
 use crate::reference::voacap::coefficients::CoefficientSet;
-use crate::reference::voacap::con::MagneticPole;
 use crate::reference::voacap::geometry::PathGeometry;
 use crate::reference::voacap::ionosphere::{
     alatd, cofion, layer_parameters_at, virtim, LayerInputs, LayerParams,
@@ -39,10 +38,7 @@ pub fn hour_maps(set: &CoefficientSet, gmt: f32) -> HourMaps {
 
 /// The 16 numbers of the layers at a place, as a row of figures has them.
 pub fn layers_at(sheet: &Sheet, set: &CoefficientSet, ab: &HourMaps, place: Place) -> [f32; 16] {
-    let pole = MagneticPole {
-        lat_deg: sheet.route.pole.lat,
-        lon_deg: sheet.route.pole.lon,
-    };
+    let pole = sheet.route.magnetic_pole();
     let inputs = LayerInputs {
         set,
         month: sheet.month,
@@ -67,10 +63,15 @@ fn numbers(layers: LayerParams) -> [f32; 16] {
         zenang,
         zenmax,
     } = layers;
+    in_a_row([fi, yi, hi], [f2m3, hpf2, rat, abiy, clck, zenang, zenmax])
+}
+
+/// `fi`, `yi` and `hi`, then the seven others.
+pub fn in_a_row(threes: [[f32; 3]; 3], others: [f32; 7]) -> [f32; 16] {
     let mut numbers = [0.0; 16];
-    for (part, three) in numbers.chunks_mut(3).zip([fi, yi, hi]) {
+    for (part, three) in numbers.chunks_mut(3).zip(threes) {
         part.copy_from_slice(&three);
     }
-    numbers[9..].copy_from_slice(&[f2m3, hpf2, rat, abiy, clck, zenang, zenmax]);
+    numbers[9..].copy_from_slice(&others);
     numbers
 }

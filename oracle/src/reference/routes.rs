@@ -1,7 +1,7 @@
 //! The Rust side of path geometry and magnetic field, from the sources as
 //! they are and from those with their branches counted.
 
-use crate::bits::Answer;
+use crate::bits::words;
 use crate::reference::branches::{self, Side};
 use crate::reference::voacap::con::MagneticPole;
 use crate::reference::voacap::geometry::ControlPoint;
@@ -50,6 +50,14 @@ impl Route {
         Self { pole, ..self }
     }
 
+    /// As the Rust takes it.
+    pub fn magnetic_pole(&self) -> MagneticPole {
+        MagneticPole {
+            lat_deg: self.pole.lat,
+            lon_deg: self.pole.lon,
+        }
+    }
+
     /// All numbers but the flag, in the order of the vector file.
     pub fn numbers(&mut self) -> [&mut f32; 6] {
         let Self { from, to, pole, .. } = self;
@@ -93,7 +101,7 @@ impl Path {
 
     /// Every NaN as one word.
     pub fn words(&self) -> [u32; FIGURES] {
-        self.figures.map(|v| v.to_word() as u32)
+        words(self.figures)
     }
 }
 
@@ -113,11 +121,8 @@ fn path(ends: [f32; 6], rows: Vec<[f32; 7]>) -> Path {
 macro_rules! variant {
     ($name:ident, $geometry:ident, $magnetic:ident) => {
         pub fn $name(route: &Route) -> Path {
-            let Route { from, to, pole, .. } = *route;
-            let pole = MagneticPole {
-                lat_deg: pole.lat,
-                lon_deg: pole.lon,
-            };
+            let Route { from, to, .. } = *route;
+            let pole = route.magnetic_pole();
             let found =
                 $geometry::path_geometry(from.lat, from.lon, to.lat, to.lon, route.long, pole);
             let rows = found.points.iter().map(|point| {

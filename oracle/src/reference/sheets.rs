@@ -2,12 +2,11 @@
 //! sources as they are and from those with their branches counted, and the
 //! refusals in their order.
 
-use crate::bits::Answer;
+use crate::bits::words;
 use crate::model::index_check;
 use crate::reference::files::{read, walk};
 use crate::reference::routes::Route;
 use crate::reference::voacap::coefficients::{parse_month_file, CoefficientSet, F2_RECORD_BYTES};
-use crate::reference::voacap::con::MagneticPole;
 use crate::reference::voacap::data;
 use crate::reference::voacap::geometry::{path_geometry, ControlPoint, PathGeometry};
 use crate::reference::voacap::magnetic::{magvar, MagneticVars};
@@ -56,11 +55,8 @@ impl Sheet {
     }
 
     pub fn path(&self) -> PathGeometry {
-        let Route { from, to, pole, .. } = self.route;
-        let pole = MagneticPole {
-            lat_deg: pole.lat,
-            lon_deg: pole.lon,
-        };
+        let Route { from, to, .. } = self.route;
+        let pole = self.route.magnetic_pole();
         path_geometry(from.lat, from.lon, to.lat, to.lon, self.route.long, pole)
     }
 }
@@ -75,7 +71,7 @@ pub struct Figures {
 impl Figures {
     /// Every NaN as one word.
     pub fn words(&self) -> [u32; FIGURES] {
-        self.values.map(|v| v.to_word() as u32)
+        words(self.values)
     }
 
     /// The numbers of each point that is there.

@@ -1,7 +1,7 @@
 //! The Rust side of `table`: which bytes of a file the Rust reads as each
 //! table, and document 01's refusals before that.
 
-use crate::model::desks::Refusal;
+use crate::model::desks::{at_no_place, Refusal};
 use crate::month_file::{markers, tables, words};
 use crate::reference::files::walk;
 use crate::reference::voacap::coefficients::{f2_planes, parse_month_file, F2_RECORD_BYTES};
@@ -63,10 +63,6 @@ impl Starts {
             (number, place) => Err(Refusal { number, place }),
         }
     }
-}
-
-fn at_no_place(number: u32) -> Refusal {
-    Refusal { number, place: 0 }
 }
 
 fn read(number: u32, record: &[u8], month: &[u8]) -> Vec<u32> {

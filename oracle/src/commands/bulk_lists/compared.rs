@@ -14,8 +14,7 @@ const LISTS: u64 = 20;
 pub fn run(desks: &impl Desks, count: u64, seed: u64) -> Result<(), String> {
     let mut compared = Compared::default();
     for case in 0..count.div_ceil(LISTS) {
-        // A seed of its own, so that a case can be found again.
-        let mut random = Generator::new(seed.wrapping_mul(1 << 32) ^ case);
+        let mut random = Generator::of_case(seed, case);
         let pair = drawn::files(&mut random);
         let lent = Lent::new(&pair.daw, &pair.month);
         for number in 0..LISTS.min(count - case * LISTS) {

@@ -1,6 +1,7 @@
 //! What the program `sheet` is given: fields, and how much of both files, with
 //! one byte of the month file changed, all of it cut.
 
+use crate::draw::damage::set_byte;
 use crate::draw::data_files::Pair;
 use crate::draw::generator::Generator;
 use crate::draw::sheet_kinds::in_range;
@@ -68,9 +69,7 @@ impl Case {
 
     pub fn input(&self, pair: &Pair) -> Vec<u8> {
         let mut month = pair.month.clone();
-        if let Some(byte) = month.get_mut(self.place as usize) {
-            *byte = self.value as u8;
-        }
+        set_byte(&mut month, self.place, self.value);
         month.resize(self.month as usize, FURTHER);
         let mut input = Vec::new();
         push_words(&mut input, &self.fields);

@@ -2,6 +2,7 @@
 //! lengths lent, a changed byte of the month file, the buffer's length, and
 //! number and place of the refusal.
 
+use crate::draw::damage::set_byte;
 use crate::draw::data_files::{named, Pair};
 use crate::month_file::{markers, push_words, BYTES};
 use crate::reference::sheets::{refusal, FIGURES};
@@ -50,9 +51,7 @@ impl Lent {
 
     fn row(self, pair: &Pair) -> [u32; 7] {
         let mut file = pair.month[..self.file as usize].to_vec();
-        if let Some(byte) = file.get_mut(self.place as usize) {
-            *byte = self.value as u8;
-        }
+        set_byte(&mut file, self.place, self.value);
         let record = &pair.daw[..self.record as usize];
         let (number, at) = refusal(record, &file, self.buffer as usize);
         let Self {

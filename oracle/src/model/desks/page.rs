@@ -147,7 +147,6 @@ fn with_point(millionths: u128) -> String {
 #[cfg(test)]
 mod tests {
     use super::{decimals, page_text, AFTER_FLAG, BEFORE_FLAG, PATH, POINT};
-    use crate::bits::Kind;
     use crate::draw::data_files::named;
     use crate::draw::generator::Generator;
     use crate::draw::sheet_kinds::in_range;
@@ -197,7 +196,7 @@ mod tests {
         let mut compared = 0;
         while compared < 20_000 {
             let drawn = match random.below(2) {
-                0 => random.any(Kind::F32) as u32,
+                0 => random.any_word(),
                 _ => (random.scaled(-30, 23) as f32).to_bits(),
             };
             let v = f32::from_bits(drawn);
