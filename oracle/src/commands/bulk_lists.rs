@@ -2,7 +2,7 @@
 //! the model of the desks: every answer, every buffer, and the worksheet's
 //! words after each call.
 
-pub mod beside;
+mod beside;
 mod compared;
 mod drawn;
 #[cfg(test)]

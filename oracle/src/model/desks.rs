@@ -3,6 +3,8 @@
 
 pub mod fields;
 pub mod lent;
+#[cfg(any(linked, test))]
+pub mod library;
 pub mod page;
 pub mod programs;
 pub mod shorter;

@@ -1,7 +1,7 @@
 //! The port's worksheet calls over 90 lent words.
 
-use crate::commands::bulk_lists::beside::{Desks, Told};
 use crate::draw::data_files::Pair;
+use crate::model::desks::library::{Desks, Told};
 use crate::model::desks::words::Words;
 use crate::model::desks::{Call, Edit};
 use jutetrowel::raw::{self, Answer, Showing};

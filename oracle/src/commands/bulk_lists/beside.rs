@@ -6,54 +6,10 @@ use crate::commands::buffer::Buffer;
 use crate::draw::data_files::Pair;
 use crate::draw::generator::Generator;
 use crate::model::desks::lent::Lent;
+use crate::model::desks::library::{Desks, Told};
 use crate::model::desks::programs::Replayed;
 use crate::model::desks::words::{self, Words, WORDS};
-use crate::model::desks::{Answer, Call, Refusal};
-
-/// What a library's call gives back beside worksheet and buffer: 0 and 0, or
-/// number and place of the refusal, and a showing's number of points.
-#[derive(Debug, Clone, Copy, PartialEq, Eq)]
-pub struct Told {
-    pub points: u32,
-    pub number: u32,
-    pub place: u32,
-}
-
-impl Told {
-    pub const ACCEPTED: Self = Self::points(0);
-
-    pub const fn points(points: u32) -> Self {
-        Self {
-            points,
-            number: 0,
-            place: 0,
-        }
-    }
-
-    pub fn refused(refusal: Refusal) -> Self {
-        let Refusal { number, place } = refusal;
-        Self {
-            points: 0,
-            number,
-            place,
-        }
-    }
-
-    fn wanted(answer: &Answer) -> Self {
-        match answer {
-            Answer::Accepted => Self::ACCEPTED,
-            Answer::Refused(refusal) => Self::refused(*refusal),
-            Answer::Points(shown) => Self::points(shown.points),
-        }
-    }
-}
-
-/// The worksheet's calls over 90 lent words.
-pub trait Desks {
-    fn open(&self, inputs: &[u8], sheet: &mut Words) -> Told;
-    /// The buffer is a showing's; to other calls it is empty.
-    fn call(&self, sheet: &mut Words, call: &Call, files: &Pair, out: &mut [f32]) -> Told;
-}
+use crate::model::desks::{Answer, Call};
 
 /// What the model answers, and where the library first differs.
 pub fn run(

@@ -1,11 +1,12 @@
 //! Many lists, each with a library and the model beside it.
 
-use super::beside::{self, Desks};
+use super::beside;
 use super::drawn::{self, List, Start};
 use crate::commands::journals::counts::Counts;
 use crate::draw::data_files::Pair;
 use crate::draw::generator::Generator;
 use crate::model::desks::lent::Lent;
+use crate::model::desks::library::Desks;
 use crate::model::desks::shorter::check;
 
 /// Lists for each pair of files, which takes longer to make than a list.
