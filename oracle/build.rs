@@ -44,7 +44,7 @@ const FORBIDDEN: [&str; 28] = [
 fn main() {
     println!("cargo::rustc-check-cfg=cfg(linked)");
     prepare_sources();
-    link_port();
+    note_port();
 }
 
 fn fail(message: String) -> ! {
@@ -264,7 +264,10 @@ fn noted(place: &Place, line: &str, branches: &mut Vec<String>) -> String {
     let (condition, after) = rest.split_at(length);
     let mut parts = Vec::new();
     for part in condition.split(" && ") {
-        parts.push(format!("crate::branches::note({}, {part})", branches.len()));
+        parts.push(format!(
+            "crate::reference::branches::note({}, {part})",
+            branches.len()
+        ));
         branches.push(format!(
             "Branch {{ file: {file:?}, line: {number}, function: {function:?}, condition: {part:?} }}"
         ));
@@ -293,22 +296,10 @@ fn branch_table(branches: &[String]) -> String {
     )
 }
 
-/// Links the port's static library if its folder is given. Without it the
+/// Whether bindings/rust has linked the port's library, which its build script decides. Without it the
 /// commands that compare say what they miss.
-fn link_port() {
-    println!("cargo::rerun-if-env-changed=JUTETROWEL_LIB");
-    let Some(folder) = env::var_os("JUTETROWEL_LIB") else {
-        return;
-    };
-    let library = Path::new(&folder).join("libjutetrowel.a");
-    if !library.is_file() {
-        fail(format!("JUTETROWEL_LIB: no {}", library.display()));
+fn note_port() {
+    if env::var_os("DEP_JUTETROWEL_LINKED").is_some() {
+        println!("cargo::rustc-cfg=linked");
     }
-    println!("cargo::rerun-if-changed={}", library.display());
-    println!(
-        "cargo::rustc-link-search=native={}",
-        Path::new(&folder).display()
-    );
-    println!("cargo::rustc-link-lib=static=jutetrowel");
-    println!("cargo::rustc-cfg=linked");
 }

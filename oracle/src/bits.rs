@@ -91,6 +91,11 @@ impl Answer for bool {
     }
 }
 
+/// Numbers as the words of an answer, every NaN as one word.
+pub fn words<const N: usize>(numbers: [f32; N]) -> [u32; N] {
+    numbers.map(|number| number.to_word() as u32)
+}
+
 pub fn pair(a: u64, b: u64) -> u64 {
     a | b << 32
 }

@@ -2,8 +2,8 @@
 
 use crate::bits::{Answer, Argument, Kind};
 #[cfg(linked)]
-use crate::port;
-use crate::reference;
+use crate::port::numbers as port;
+use crate::reference::numbers as reference;
 
 pub struct Function {
     pub number: u64,
@@ -37,8 +37,7 @@ macro_rules! exported {
             kind: <$type>::KIND,
             rust: |word| reference::$name(<$type>::from_word(word)).to_word(),
             #[cfg(linked)]
-            // SAFETY: takes and gives plain numbers.
-            port: Some(|word| unsafe { port::$name(<$type>::from_word(word)) }.to_word()),
+            port: Some(|word| port::$name(<$type>::from_word(word)).to_word()),
         }
     };
 }
@@ -56,8 +55,7 @@ macro_rules! exported_pair {
             #[cfg(linked)]
             port: Some(|word| {
                 let (a, b) = <(f32, f32)>::from_word(word);
-                // SAFETY: takes and gives plain numbers.
-                unsafe { port::$name(a, b) }.to_word()
+                port::$name(a, b).to_word()
             }),
         }
     };

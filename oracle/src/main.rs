@@ -1,56 +1,31 @@
 //! The Rust that the port is compared with, run on document 01's steps: it
 //! makes vectors, compares in bulk and times both sides.
 
+#![forbid(unsafe_code)]
+
 mod bits;
-mod branches;
-mod clock_kinds;
 mod commands;
-mod damage;
-mod data_files;
-mod desks;
+mod draw;
 mod functions;
-mod generator;
-mod index_check;
-mod journal_kinds;
+mod model;
 mod month_file;
 #[cfg(linked)]
 mod port;
-#[cfg(linked)]
-mod port_clocks;
-#[cfg(linked)]
-mod port_layers;
-#[cfg(linked)]
-mod port_lists;
-mod ranges;
 mod reference;
-mod reference_clocks;
-mod reference_files;
-#[cfg(linked)]
-mod reference_layers;
-mod reference_routes;
-mod reference_sheets;
-mod reference_tables;
-mod route_kinds;
-mod sheet_kinds;
-mod specials;
-mod steps;
-mod voacap;
 
 use commands::{
-    bulk_clocks, bulk_files, bulk_numbers, bulk_routes, bulk_sheets, data, files, numbers,
+    answer, bulk_journals, bulk_routes, bulk_sheet, clocks, data, files, journals, numbers, pages,
+    routes, self_check, sheet_inputs, sheets, time_sheets,
 };
+#[cfg(linked)]
 use commands::{
-    bulk_journals, bulk_lists, bulk_sheet, bulk_tables, clocks, journals, model, pages,
-    sheet_inputs,
+    bulk_clocks, bulk_files, bulk_layers, bulk_lists, bulk_numbers, bulk_sheets, bulk_tables,
+    repeat_sheets, time_layers, time_numbers,
 };
-use commands::{bulk_layers, repeat_sheets, time_layers};
-use commands::{routes, self_check, sheets, time_numbers, time_sheets};
+// The compared Rust names its modules from here.
+use reference::voacap;
 use std::env;
 use std::process::ExitCode;
-
-#[cfg(not(linked))]
-const NOT_LINKED: &str = "this needs the port: build with JUTETROWEL_LIB set to the folder \
-                          that holds libjutetrowel.a";
 
 const USAGE: &str = "usage:
   oracle numbers FILE                      write the vectors of the arithmetic
@@ -95,34 +70,56 @@ fn main() -> ExitCode {
 fn command(words: &[&str]) -> Result<(), String> {
     match words {
         ["numbers", file] => numbers::run(file),
-        ["bulk-numbers", count, seed] => bulk_numbers::run(count, seed, None),
-        ["bulk-numbers", count, seed, name] => bulk_numbers::run(count, seed, Some(name)),
-        ["time-numbers"] => time_numbers::run(),
         ["data", folder] => data::run(folder),
         ["files", folder] => files::run(folder),
-        ["bulk-files", count, seed] => bulk_files::run(count, seed),
         ["clocks", file] => clocks::run(file),
-        ["bulk-clocks", count, seed] => bulk_clocks::run(count, seed),
-        ["bulk-tables", count, seed] => bulk_tables::run(count, seed),
         ["routes", file] => routes::run(file),
         ["bulk-routes", file, count, seed] => bulk_routes::run(file, count, seed),
         ["sheets", file] => sheets::run(file),
-        ["bulk-sheets", count, seed] => bulk_sheets::run(count, seed),
-        ["bulk-layers", count, seed] => bulk_layers::run(count, seed),
         ["journals", file] => journals::run(file),
         ["sheet-inputs", folder] => sheet_inputs::files(folder),
         ["sheets-in", file] => sheet_inputs::compact(file),
         ["pages", file] => pages::run(file),
         ["bulk-journals", count, seed, program] => bulk_journals::run(count, seed, program),
-        ["bulk-lists", count, seed] => bulk_lists::run(count, seed),
         ["bulk-sheet", count, seed, program] => bulk_sheet::run(count, seed, program),
-        ["replay"] => model::replay(),
-        ["sheet"] => model::sheet(),
-        ["page"] => model::page(),
+        ["replay"] => answer::replay(),
+        ["sheet"] => answer::sheet(),
+        ["page"] => answer::page(),
         ["time-sheets"] => time_sheets::run(),
+        ["self-check"] => self_check::run(),
+        _ => with_port(words),
+    }
+}
+
+/// The commands that call the port's library.
+#[cfg(linked)]
+fn with_port(words: &[&str]) -> Result<(), String> {
+    match words {
+        ["bulk-numbers", count, seed] => bulk_numbers::run(count, seed, None),
+        ["bulk-numbers", count, seed, name] => bulk_numbers::run(count, seed, Some(name)),
+        ["time-numbers"] => time_numbers::run(),
+        ["bulk-files", count, seed] => bulk_files::run(count, seed),
+        ["bulk-clocks", count, seed] => bulk_clocks::run(count, seed),
+        ["bulk-tables", count, seed] => bulk_tables::run(count, seed),
+        ["bulk-sheets", count, seed] => bulk_sheets::run(count, seed),
+        ["bulk-layers", count, seed] => bulk_layers::run(count, seed),
+        ["bulk-lists", count, seed] => bulk_lists::run(count, seed),
         ["time-layers"] => time_layers::run(),
         ["repeat-sheets", side, kind, count] => repeat_sheets::run(side, kind, count),
-        ["self-check"] => self_check::run(),
         _ => Err(String::from(USAGE)),
     }
+}
+
+#[cfg(not(linked))]
+fn with_port(words: &[&str]) -> Result<(), String> {
+    let message = match words {
+        ["bulk-numbers" | "bulk-files" | "bulk-clocks" | "bulk-tables", ..]
+        | ["bulk-sheets" | "bulk-layers" | "bulk-lists", ..]
+        | ["time-numbers" | "time-layers" | "repeat-sheets", ..] => {
+            "this needs the port: build with JUTETROWEL_LIB set to the folder \
+             that holds libjutetrowel.a"
+        }
+        _ => USAGE,
+    };
+    Err(String::from(message))
 }

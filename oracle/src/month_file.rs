@@ -1,7 +1,7 @@
 //! The form of the month file: nine records, each between two markers of
 //! its size. The Rust only reads it.
 
-use crate::voacap::coefficients::RawMonthFile;
+use crate::reference::voacap::coefficients::RawMonthFile;
 
 const RECORDS: [u32; 9] = [240, 11184, 5328, 3528, 3168, 1920, 7128, 4400, 1584];
 /// How many of the 20 tables each record holds.
@@ -99,7 +99,7 @@ pub fn markers() -> Vec<usize> {
 #[cfg(test)]
 mod tests {
     use super::{markers, tables, to_bytes, BYTES};
-    use crate::voacap::coefficients::parse_month_file;
+    use crate::reference::voacap::coefficients::parse_month_file;
     use std::array::from_fn;
 
     /// Each word counts its place, so that a table out of order would show.

@@ -1,11 +1,9 @@
 //! A morning at the desks over a file of the form that the program `sheet` reads, as
 //! `cargo run --example desks ../../crates/sheet/stdin`.
 
+use jutetrowel::raw::{INPUT_BYTES as WORDS, RECORD_BYTES as RECORD};
 use jutetrowel::{Change, Refusal, Worksheet};
 use std::error::Error;
-
-const WORDS: usize = 56;
-const RECORD: usize = 7904;
 
 fn main() -> Result<(), Box<dyn Error>> {
     let path = std::env::args().nth(1).ok_or("usage: desks FILE")?;

@@ -32,12 +32,12 @@ fn shifted(answer: raw::ClockAnswer) -> Result<Shifted, Refusal> {
 
 /// A universal time made local.
 pub fn to_local(time: f32, lon: f32) -> Result<Shifted, Refusal> {
-    shifted(raw::to_local(time, lon))
+    shifted(raw::jt_cngtim_to_local(time, lon))
 }
 
 /// A local time made universal.
 pub fn to_universal(time: f32, lon: f32) -> Result<Shifted, Refusal> {
-    shifted(raw::to_universal(time, lon))
+    shifted(raw::jt_cngtim_to_universal(time, lon))
 }
 
 /// A whole hour at both ends of a path, which is the transmitter's local time or universal time.
@@ -48,7 +48,7 @@ pub fn hour_times(hour: u32, local: bool, tlong: f32, rlong: f32) -> Result<Hour
         gmtr,
         number,
         place,
-    } = raw::hours(hour, local.into(), tlong, rlong);
+    } = raw::jt_geotim(hour, local.into(), tlong, rlong);
     match number {
         0 => Ok(HourTimes { gmt, lmt_tx, gmtr }),
         _ => Err(Refusal { number, place }),
@@ -61,7 +61,7 @@ pub fn local_time(gmt: f32, lon: f32) -> Result<f32, Refusal> {
         time,
         number,
         place,
-    } = raw::local_time(gmt, lon);
+    } = raw::jt_geotim_clck(gmt, lon);
     match number {
         0 => Ok(time),
         _ => Err(Refusal { number, place }),

@@ -2,20 +2,21 @@
 //! files and the clocks.
 //!
 //! What the library's functions give is proved; this wrapper is not, and stays thin for that. An
-//! answer's meaning is document 01's, with its refusals by number and place (docs/REFUSALS.md).
+//! answer's meaning is document 01's, with its refusals by number and place (docs/REFUSALS.md). The
+//! module `raw` has every function as C has it, the arithmetic and the parts of a sheet too.
 
 #![deny(unsafe_code)]
 
 mod clocks;
 #[allow(unsafe_code)]
-mod raw;
+pub mod raw;
 mod worksheet;
 
 pub use clocks::{hour_times, local_time, to_local, to_universal, HourTimes, Shifted};
-pub use worksheet::{Change, Worksheet, WORDS};
+pub use raw::{FIGURES, WORKSHEET_WORDS as WORDS};
+pub use worksheet::{Change, Worksheet};
 
-/// Figures of a sheet: six of the path, then 29 for each of five points.
-pub const FIGURES: usize = 151;
+use raw::INPUT_BYTES;
 
 /// Why a call was refused: document 01's number, and the place that goes with it.
 #[derive(Clone, Copy, Debug, PartialEq, Eq)]
@@ -72,7 +73,7 @@ pub struct Inputs {
 
 impl Inputs {
     /// The fields as 14 little-endian words.
-    pub fn words(&self) -> [u8; 56] {
+    pub fn words(&self) -> [u8; INPUT_BYTES] {
         let Self {
             month,
             sunspots,
@@ -97,7 +98,7 @@ impl Inputs {
             pole.lat.to_bits(),
             pole.lon.to_bits(),
         ];
-        let mut bytes = [0; 56];
+        let mut bytes = [0; INPUT_BYTES];
         for (place, word) in bytes.chunks_exact_mut(4).zip(words) {
             place.copy_from_slice(&word.to_le_bytes());
         }

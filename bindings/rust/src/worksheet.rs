@@ -1,9 +1,6 @@
 //! The worksheet of four desks, its value in the 90 words of bindings/c/jutetrowel.h.
 
-use crate::{answered, raw, shown, Factors, Inputs, Path, Pole, Refusal, Sheet};
-
-/// 32-bit words of a worksheet.
-pub const WORDS: usize = 90;
+use crate::{answered, raw, shown, Factors, Inputs, Path, Pole, Refusal, Sheet, WORDS};
 
 /// A change of a draft, with all its numbers.
 #[derive(Clone, Copy, Debug, PartialEq)]
@@ -42,32 +39,32 @@ impl Worksheet {
     }
 
     pub fn begin(&mut self, desk: u32) -> Result<(), Refusal> {
-        answered(raw::begin(&mut self.0, desk))
+        answered(raw::jt_begin(&mut self.0, desk))
     }
 
     pub fn change(&mut self, desk: u32, change: Change) -> Result<(), Refusal> {
         let sheet = &mut self.0;
         answered(match change {
-            Change::Sunspots(x) => raw::change_sunspot(sheet, desk, x),
-            Change::Hour(x) => raw::change_hour(sheet, desk, x),
+            Change::Sunspots(x) => raw::jt_change_sunspot(sheet, desk, x),
+            Change::Hour(x) => raw::jt_change_hour(sheet, desk, x),
             Change::Path(p) => {
-                raw::change_path(sheet, desk, p.tlat, p.tlong, p.rlat, p.rlong, p.long.into())
+                raw::jt_change_path(sheet, desk, p.tlat, p.tlong, p.rlat, p.rlong, p.long.into())
             }
-            Change::Factors(p) => raw::change_factors(sheet, desk, p.e, p.f1, p.f2, p.es),
-            Change::Pole(p) => raw::change_pole(sheet, desk, p.lat, p.lon),
+            Change::Factors(p) => raw::jt_change_factors(sheet, desk, p.e, p.f1, p.f2, p.es),
+            Change::Pole(p) => raw::jt_change_pole(sheet, desk, p.lat, p.lon),
         })
     }
 
     pub fn commit(&mut self, desk: u32) -> Result<(), Refusal> {
-        answered(raw::commit(&mut self.0, desk))
+        answered(raw::jt_commit(&mut self.0, desk))
     }
 
     pub fn cancel(&mut self, desk: u32) -> Result<(), Refusal> {
-        answered(raw::cancel(&mut self.0, desk))
+        answered(raw::jt_cancel(&mut self.0, desk))
     }
 
     pub fn take_back(&mut self) -> Result<(), Refusal> {
-        answered(raw::take_back(&mut self.0))
+        answered(raw::jt_take_back(&mut self.0))
     }
 
     /// The figures of a desk's draft, or of the worksheet for desk 0.

@@ -5,13 +5,13 @@ use crate::commands::journals::counts::Counts;
 use crate::commands::journals::hold_to_demand_3;
 use crate::commands::program::Compared;
 use crate::commands::whole;
-use crate::desks::lent::Lent;
-use crate::desks::programs::{replay_text, replay_with, CALLS};
-use crate::desks::Worksheet;
-use crate::generator::Generator;
-use crate::journal_kinds::{any_field, bad_inputs, bytes, damaged, files, list, NO_CALLS};
+use crate::draw::generator::Generator;
+use crate::draw::journal_kinds::{any_field, bad_inputs, bytes, damaged, files, list, NO_CALLS};
+use crate::draw::sheet_kinds::{in_range, one_of};
+use crate::model::desks::lent::Lent;
+use crate::model::desks::programs::{replay_text, replay_with, CALLS};
+use crate::model::desks::Worksheet;
 use crate::month_file::push_words;
-use crate::sheet_kinds::{in_range, one_of};
 
 /// Journals for each pair of files.
 const JOURNALS: u64 = 10;
@@ -21,8 +21,7 @@ pub fn run(count: &str, seed: &str, program: &str) -> Result<(), String> {
     let mut compared = Compared::new(program);
     let mut counts = Counts::default();
     for case in 0..count.div_ceil(JOURNALS) {
-        // A seed of its own, so that a case can be found again.
-        let mut random = Generator::new(seed.wrapping_mul(1 << 32) ^ case);
+        let mut random = Generator::of_case(seed, case);
         let pair = files(&mut random);
         let month = match random.below(8) {
             0 => damaged(&mut random, &pair.month),

@@ -2,23 +2,15 @@
 //! the model of the desks: every answer, every buffer, and the worksheet's
 //! words after each call.
 
-#[cfg(not(linked))]
-pub fn run(_count: &str, _seed: &str) -> Result<(), String> {
-    Err(String::from(crate::NOT_LINKED))
-}
+mod beside;
+mod compared;
+mod drawn;
+#[cfg(test)]
+mod tests;
 
 #[cfg(linked)]
 pub fn run(count: &str, seed: &str) -> Result<(), String> {
     use super::whole;
-    let library = crate::port_lists::Library;
+    let library = crate::port::lists::Library;
     compared::run(&library, whole(count)?, whole(seed)?)
 }
-
-#[cfg(any(linked, test))]
-pub mod beside;
-#[cfg(any(linked, test))]
-mod compared;
-#[cfg(any(linked, test))]
-mod drawn;
-#[cfg(test)]
-mod tests;

@@ -1,70 +1,59 @@
 //! `bulk-numbers COUNT SEED [NAME]`: the port's exported functions beside
 //! the Rust's over random arguments.
 
-#[cfg(not(linked))]
-pub fn run(_count: &str, _seed: &str, _name: Option<&str>) -> Result<(), String> {
-    Err(String::from(crate::NOT_LINKED))
+use crate::commands::whole;
+use crate::draw::generator::Generator;
+use crate::draw::ranges::inside;
+use crate::functions::{Function, FUNCTIONS};
+
+pub fn run(count: &str, seed: &str, name: Option<&str>) -> Result<(), String> {
+    let count = whole(count)?;
+    let seed = whole(seed)?;
+    let mut run = 0;
+    let mut differing = 0;
+    for function in &FUNCTIONS {
+        let Some(port) = function.port else { continue };
+        if name.is_none_or(|name| name == function.name) {
+            run += 1;
+            differing += compare(function, port, count, seed);
+        }
+    }
+    match (run, differing) {
+        (0, _) => Err(format!("no exported function {}", name.unwrap_or(""))),
+        (_, 0) => Ok(()),
+        _ => Err(format!("{differing} answers differ")),
+    }
 }
 
-#[cfg(linked)]
-pub use linked::run;
-
-#[cfg(linked)]
-mod linked {
-    use crate::commands::whole;
-    use crate::functions::{Function, FUNCTIONS};
-    use crate::generator::Generator;
-    use crate::ranges::inside;
-
-    pub fn run(count: &str, seed: &str, name: Option<&str>) -> Result<(), String> {
-        let count = whole(count)?;
-        let seed = whole(seed)?;
-        let mut run = 0;
-        let mut differing = 0;
-        for function in &FUNCTIONS {
-            let Some(port) = function.port else { continue };
-            if name.is_none_or(|name| name == function.name) {
-                run += 1;
-                differing += compare(function, port, count, seed);
-            }
-        }
-        match (run, differing) {
-            (0, _) => Err(format!("no exported function {}", name.unwrap_or(""))),
-            (_, 0) => Ok(()),
-            _ => Err(format!("{differing} answers differ")),
+/// Prints one line and gives the number of answers that differ. NaNs are
+/// one word on both sides.
+fn compare(function: &Function, port: fn(u64) -> u64, count: u64, seed: u64) -> u64 {
+    let mut random = Generator::new(seed.wrapping_mul(1 << 8) ^ function.number);
+    let mut differing = 0;
+    let mut first = None;
+    for i in 0..count {
+        let word = argument(function, &mut random, i);
+        let (ours, theirs) = (port(word), (function.rust)(word));
+        if ours != theirs {
+            differing += 1;
+            first = first.or(Some((word, ours, theirs)));
         }
     }
-
-    /// Prints one line and gives the number of answers that differ. NaNs are
-    /// one word on both sides.
-    fn compare(function: &Function, port: fn(u64) -> u64, count: u64, seed: u64) -> u64 {
-        let mut random = Generator::new(seed.wrapping_mul(1 << 8) ^ function.number);
-        let mut differing = 0;
-        let mut first = None;
-        for i in 0..count {
-            let word = argument(function, &mut random, i);
-            let (ours, theirs) = (port(word), (function.rust)(word));
-            if ours != theirs {
-                differing += 1;
-                first = first.or(Some((word, ours, theirs)));
-            }
-        }
-        println!(
-            "{:<9} {count:>12} compared {differing:>12} differ",
-            function.name
-        );
-        if let Some((word, ours, theirs)) = first {
-            println!("    first at {word:#018x}: port {ours:#018x}, Rust {theirs:#018x}");
-        }
-        differing
+    println!(
+        "{:<9} {count:>12} compared {differing:>12} differ",
+        function.name
+    );
+    if let Some((word, ours, theirs)) = first {
+        println!("    first at {word:#018x}: port {ours:#018x}, Rust {theirs:#018x}");
     }
+    differing
+}
 
-    /// Any bits and bits inside the function's range in turn.
-    fn argument(function: &Function, random: &mut Generator, i: u64) -> u64 {
-        if i.is_multiple_of(2) {
-            random.any(function.kind)
-        } else {
-            inside(function, random)
-        }
+/// Any bits and bits inside the function's range in turn.
+fn argument(function: &Function, random: &mut Generator, i: u64) -> u64 {
+    if i.is_multiple_of(2) {
+        random.any(function.kind)
+    } else {
+        inside(function, random)
     }
 }

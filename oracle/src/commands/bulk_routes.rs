@@ -1,12 +1,12 @@
 //! `bulk-routes FILE COUNT SEED`: random routes with the Rust's answers, in the
 //! form of `routes`, for the port's replay to read.
 
-use crate::branches;
 use crate::commands::routes::{push_heading, row};
 use crate::commands::whole;
-use crate::generator::Generator;
+use crate::draw::generator::Generator;
+use crate::draw::route_kinds::{any_bits, Draw, KINDS};
 use crate::month_file::push_words;
-use crate::route_kinds::{any_bits, Draw, KINDS};
+use crate::reference::branches;
 use std::fs::File;
 use std::io::{BufWriter, Write};
 
@@ -16,7 +16,7 @@ pub fn run(file: &str, count: &str, seed: &str) -> Result<(), String> {
     let mut out = BufWriter::new(File::create(file).map_err(failed)?);
     let kinds = kinds();
     for (kind, (name, draw)) in (0..).zip(&kinds) {
-        let mut random = Generator::new(seed.wrapping_mul(1 << 32) ^ kind);
+        let mut random = Generator::of_case(seed, kind);
         let mut bytes = Vec::new();
         push_heading(&mut bytes, name);
         for _ in 0..count / kinds.len() as u64 {

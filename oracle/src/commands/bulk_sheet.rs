@@ -4,14 +4,14 @@
 use crate::commands::journals::counts::Counts;
 use crate::commands::program::Compared;
 use crate::commands::whole;
-use crate::damage::Damage;
-use crate::data_files::Pair;
-use crate::desks::programs::{sheet, sheet_text, CALLS};
-use crate::generator::Generator;
-use crate::journal_kinds::{any_field, bad_inputs, files};
+use crate::draw::damage::Damage;
+use crate::draw::data_files::Pair;
+use crate::draw::generator::Generator;
+use crate::draw::journal_kinds::{any_field, bad_inputs, files};
+use crate::draw::sheet_kinds::in_range;
+use crate::model::desks::programs::{sheet, sheet_text, CALLS};
 use crate::month_file::push_words;
-use crate::sheet_kinds::in_range;
-use crate::voacap::coefficients::F2_RECORD_BYTES;
+use crate::reference::voacap::coefficients::F2_RECORD_BYTES;
 
 /// Inputs for each pair of files.
 const INPUTS: u64 = 20;
@@ -21,8 +21,7 @@ pub fn run(count: &str, seed: &str, program: &str) -> Result<(), String> {
     let mut compared = Compared::new(program);
     let mut counts = Counts::default();
     for case in 0..count.div_ceil(INPUTS) {
-        // A seed of its own, so that a case can be found again.
-        let mut random = Generator::new(seed.wrapping_mul(1 << 32) ^ case);
+        let mut random = Generator::of_case(seed, case);
         let pair = files(&mut random);
         for number in 0..INPUTS.min(count - case * INPUTS) {
             let input = input(&mut random, &pair);

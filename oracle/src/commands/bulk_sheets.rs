@@ -2,160 +2,149 @@
 //! sheets, files and buffers, refused ones included; by fields, which nothing
 //! judges, and by the words of a whole sheet, which are judged.
 
-#[cfg(not(linked))]
-pub fn run(_count: &str, _seed: &str) -> Result<(), String> {
-    Err(String::from(crate::NOT_LINKED))
+use crate::commands::buffer::Buffer;
+use crate::commands::compare::{report, Tally};
+use crate::commands::lent::{self, fields, Files};
+use crate::commands::whole;
+use crate::draw::data_files::Pair;
+use crate::draw::generator::Generator;
+use crate::draw::sheet_kinds::one_of;
+use crate::model::desks::{Refusal, Worksheet};
+use crate::port::sheets::figures_by;
+use crate::reference::sheets::{put_all_months, refusal, showing, Sheet, FIGURES};
+use jutetrowel::raw::{self, Showing};
+
+/// Sheets for each pair of files, which takes longer to make than a sheet.
+const SHEETS: u64 = 50;
+
+pub fn run(count: &str, seed: &str) -> Result<(), String> {
+    let count = whole(count)?;
+    let seed = whole(seed)?;
+    let mut tallies = ["shown", "refused", "by words"].map(Tally::new);
+    for case in 0..count.div_ceil(SHEETS) {
+        let mut random = Generator::of_case(seed, case);
+        compare(&mut random, &mut tallies, case);
+    }
+    report(&tallies)
 }
 
-#[cfg(linked)]
-pub use linked::run;
-
-#[cfg(linked)]
-mod linked {
-    use crate::commands::compare::{report, Tally};
-    use crate::commands::lent::{self, fields, Buffer, Files};
-    use crate::commands::whole;
-    use crate::data_files::Pair;
-    use crate::desks::{Refusal, Worksheet};
-    use crate::generator::Generator;
-    use crate::port::{self, Showing};
-    use crate::port_layers;
-    use crate::reference_sheets::{put_all_months, refusal, showing, Sheet, FIGURES};
-    use crate::sheet_kinds::one_of;
-
-    /// Sheets for each pair of files, which takes longer to make than a sheet.
-    const SHEETS: u64 = 50;
-
-    pub fn run(count: &str, seed: &str) -> Result<(), String> {
-        let count = whole(count)?;
-        let seed = whole(seed)?;
-        let mut tallies = ["shown", "refused", "by words"].map(Tally::new);
-        for case in 0..count.div_ceil(SHEETS) {
-            // A seed of its own, so that a case can be found again.
-            let mut random = Generator::new(seed.wrapping_mul(1 << 32) ^ case);
-            compare(&mut random, &mut tallies, case);
-        }
-        report(&tallies)
-    }
-
-    fn compare(random: &mut Generator, tallies: &mut [Tally; 3], case: u64) {
-        let pair = lent::files(random);
-        put_all_months(&pair.daw, &pair.month);
-        for number in 0..SHEETS {
-            let lent = Lent::of(random, &pair);
-            let (refused, difference) = lent.difference(random);
-            let text = |text| format!("sheet {number}, {text}\n    {lent:?}");
-            tallies[usize::from(refused)].note(case, difference.map(text));
-            tallies[2].note(case, lent.difference_by_words(random).map(text));
-            if lent.files.is_damaged() {
-                put_all_months(&pair.daw, &pair.month);
-            }
+fn compare(random: &mut Generator, tallies: &mut [Tally; 3], case: u64) {
+    let pair = lent::files(random);
+    put_all_months(&pair.daw, &pair.month);
+    for number in 0..SHEETS {
+        let lent = Lent::of(random, &pair);
+        let (refused, difference) = lent.difference(random);
+        let text = |text| format!("sheet {number}, {text}\n    {lent:?}");
+        tallies[usize::from(refused)].note(case, difference.map(text));
+        tallies[2].note(case, lent.difference_by_words(random).map(text));
+        if lent.files.is_damaged() {
+            put_all_months(&pair.daw, &pair.month);
         }
     }
+}
 
-    /// What one showing is lent.
-    struct Lent<'a> {
-        sheet: Sheet,
-        files: Files<'a>,
-        buffer: usize,
+/// What one showing is lent.
+struct Lent<'a> {
+    sheet: Sheet,
+    files: Files<'a>,
+    buffer: usize,
+}
+
+impl std::fmt::Debug for Lent<'_> {
+    fn fmt(&self, f: &mut std::fmt::Formatter) -> std::fmt::Result {
+        let Self {
+            sheet,
+            files,
+            buffer,
+        } = self;
+        write!(f, "{files}, buffer {buffer}, fields {}", fields(sheet))
     }
+}
 
-    impl std::fmt::Debug for Lent<'_> {
-        fn fmt(&self, f: &mut std::fmt::Formatter) -> std::fmt::Result {
-            let Self {
-                sheet,
-                files,
-                buffer,
-            } = self;
-            write!(f, "{files}, buffer {buffer}, fields {}", fields(sheet))
-        }
-    }
-
-    impl<'a> Lent<'a> {
-        /// Mostly such that there is nothing to refuse.
-        fn of(random: &mut Generator, pair: &'a Pair) -> Self {
-            let sheet = lent::sheet(random);
-            let files = Files::of(random, pair);
-            let buffer = match random.below(32) {
-                0 => random.below(400) as usize,
-                1 => one_of(random, &[0, 1, FIGURES - 1, FIGURES + 1]),
-                _ => FIGURES,
-            };
-            Self {
-                sheet,
-                files,
-                buffer,
-            }
-        }
-
-        /// Whether the showing must be refused, and how the port differs.
-        fn difference(&self, random: &mut Generator) -> (bool, Option<String>) {
-            let Files { record, file } = &self.files;
-            let mut buffer = Buffer::of(random, self.buffer);
-            let flag = lent::flag(random, self.sheet.route.long);
-            let answer = port::sheet_by(flag, &self.sheet, record, file, buffer.lent());
-            match refusal(record, file, self.buffer) {
-                (0, 0) => (false, self.shown(answer, &buffer)),
-                why => (true, refused(why, answer, &buffer)),
-            }
-        }
-
-        /// A bad field is refused before buffer and files.
-        fn difference_by_words(&self, random: &mut Generator) -> Option<String> {
-            let Files { record, file } = &self.files;
-            let mut words = self.sheet.words();
-            match random.below(32) {
-                0 => words[0] = one_of(random, &[0, 13, u32::MAX]),
-                1 => words[7] = one_of(random, &[2, 256, u32::MAX]),
-                _ => {}
-            }
-            let bytes: Vec<u8> = words.into_iter().flat_map(u32::to_le_bytes).collect();
-            let mut buffer = Buffer::of(random, self.buffer);
-            let answer = port_layers::sheet(&bytes, record, file, buffer.lent());
-            let why = match Worksheet::open(words) {
-                Ok(_) => refusal(record, file, self.buffer),
-                Err(Refusal { number, place }) => (number, place),
-            };
-            match why {
-                (0, 0) => self.shown(answer, &buffer),
-                _ => refused(why, answer, &buffer),
-            }
-        }
-
-        fn shown(&self, answer: Showing, buffer: &Buffer) -> Option<String> {
-            if self.files.is_damaged() {
-                put_all_months(self.files.record, &self.files.file);
-            }
-            let figures = showing(&self.sheet);
-            let points = Showing {
-                points: figures.points,
-                number: 0,
-                place: 0,
-            };
-            differing_answer(answer, points).or_else(|| buffer.differs_from(&figures.words()))
-        }
-    }
-
-    /// A refusal leaves the buffer as it was.
-    fn refused(why: (u32, u32), answer: Showing, buffer: &Buffer) -> Option<String> {
-        let (number, place) = why;
-        let wanted = Showing {
-            points: 0,
-            number,
-            place,
+impl<'a> Lent<'a> {
+    /// Mostly such that there is nothing to refuse.
+    fn of(random: &mut Generator, pair: &'a Pair) -> Self {
+        let sheet = lent::sheet(random);
+        let files = Files::of(random, pair);
+        let buffer = match random.below(32) {
+            0 => random.below(400) as usize,
+            1 => one_of(random, &[0, 1, FIGURES - 1, FIGURES + 1]),
+            _ => FIGURES,
         };
-        differing_answer(answer, wanted).or_else(|| buffer.changes())
+        Self {
+            sheet,
+            files,
+            buffer,
+        }
     }
 
-    fn differing_answer(ours: Showing, wanted: Showing) -> Option<String> {
-        let text = |answer: Showing| match answer {
-            Showing {
-                points,
-                number: 0,
-                place: 0,
-            } => format!("{points} points"),
-            Showing { number, place, .. } => format!("refused {number} {place}"),
-        };
-        (ours != wanted).then(|| format!("port: {}, wanted: {}", text(ours), text(wanted)))
+    /// Whether the showing must be refused, and how the port differs.
+    fn difference(&self, random: &mut Generator) -> (bool, Option<String>) {
+        let Files { record, file } = &self.files;
+        let mut buffer = lent::buffer(random, self.buffer);
+        let flag = lent::flag(random, self.sheet.route.long);
+        let answer = figures_by(flag, &self.sheet, record, file, buffer.lent());
+        match refusal(record, file, self.buffer) {
+            (0, 0) => (false, self.shown(answer, &buffer)),
+            why => (true, refused(why, answer, &buffer)),
+        }
     }
+
+    /// A bad field is refused before buffer and files.
+    fn difference_by_words(&self, random: &mut Generator) -> Option<String> {
+        let Files { record, file } = &self.files;
+        let mut words = self.sheet.words();
+        match random.below(32) {
+            0 => words[0] = one_of(random, &[0, 13, u32::MAX]),
+            1 => words[7] = one_of(random, &[2, 256, u32::MAX]),
+            _ => {}
+        }
+        let bytes: Vec<u8> = words.into_iter().flat_map(u32::to_le_bytes).collect();
+        let mut buffer = lent::buffer(random, self.buffer);
+        let answer = raw::sheet(&bytes, record, file, buffer.lent());
+        let why = match Worksheet::open(words) {
+            Ok(_) => refusal(record, file, self.buffer),
+            Err(Refusal { number, place }) => (number, place),
+        };
+        match why {
+            (0, 0) => self.shown(answer, &buffer),
+            _ => refused(why, answer, &buffer),
+        }
+    }
+
+    fn shown(&self, answer: Showing, buffer: &Buffer) -> Option<String> {
+        if self.files.is_damaged() {
+            put_all_months(self.files.record, &self.files.file);
+        }
+        let figures = showing(&self.sheet);
+        let points = Showing {
+            points: figures.points,
+            number: 0,
+            place: 0,
+        };
+        differing_answer(answer, points).or_else(|| buffer.differs_from(&figures.words()))
+    }
+}
+
+/// A refusal leaves the buffer as it was.
+fn refused(why: (u32, u32), answer: Showing, buffer: &Buffer) -> Option<String> {
+    let (number, place) = why;
+    let wanted = Showing {
+        points: 0,
+        number,
+        place,
+    };
+    differing_answer(answer, wanted).or_else(|| buffer.changes())
+}
+
+fn differing_answer(ours: Showing, wanted: Showing) -> Option<String> {
+    let text = |answer: Showing| match answer {
+        Showing {
+            points,
+            number: 0,
+            place: 0,
+        } => format!("{points} points"),
+        Showing { number, place, .. } => format!("refused {number} {place}"),
+    };
+    (ours != wanted).then(|| format!("port: {}, wanted: {}", text(ours), text(wanted)))
 }

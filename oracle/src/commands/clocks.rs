@@ -3,16 +3,16 @@
 //! little-endian u32, arguments first, then the refusal's number and place,
 //! then the times.
 
+use super::put_file;
 use crate::bits::Answer;
-use crate::branches::{self, Branch, Counts};
-use crate::clock_kinds::{any_hour, any_longitude, any_time, few_longitudes, hours};
-use crate::clock_kinds::{longitudes, other_times, NO_HOURS};
-use crate::desks::Refusal;
-use crate::generator::Generator;
+use crate::draw::clock_kinds::{any_hour, any_longitude, any_time, few_longitudes, hours};
+use crate::draw::clock_kinds::{longitudes, other_times, NO_HOURS};
+use crate::draw::generator::Generator;
+use crate::model::desks::Refusal;
 use crate::month_file::push_words;
-use crate::reference_clocks::{cngtim, counted_cngtim, counted_geotim, counted_geotim_clck};
-use crate::reference_clocks::{geotim, geotim_clck, Direction};
-use std::fs;
+use crate::reference::branches::{self, Branch, Counts};
+use crate::reference::clocks::{cngtim, counted_cngtim, counted_geotim, counted_geotim_clck};
+use crate::reference::clocks::{geotim, geotim_clck, Direction};
 
 const SEED: u64 = 0x636c_6f63;
 /// Random rows of each function.
@@ -36,7 +36,7 @@ pub fn run(file: &str) -> Result<(), String> {
     branches::print(&counts, is_clock);
     branches::refuse_untaken(&counts, is_clock, &[])?;
     println!("{} bytes", bytes.len());
-    fs::write(file, bytes).map_err(|e| format!("cannot write {file}: {e}"))
+    put_file(file, &bytes)
 }
 
 fn is_clock(branch: &Branch) -> bool {
@@ -174,8 +174,8 @@ fn hours_and_pairs() -> Vec<Asked> {
 #[cfg(test)]
 mod tests {
     use super::{is_clock, sections, STRIDE};
-    use crate::branches::refuse_untaken;
-    use crate::clock_kinds::longitudes;
+    use crate::draw::clock_kinds::longitudes;
+    use crate::reference::branches::refuse_untaken;
 
     #[test]
     fn vectors_take_every_branch_and_are_the_same_each_time() {

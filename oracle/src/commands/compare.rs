@@ -2,7 +2,7 @@
 //! Rust's.
 
 use crate::bits::Answer;
-use crate::port;
+use jutetrowel::raw;
 
 /// What an untouched buffer holds: no NaN, and no likely answer.
 const UNTOUCHED: u32 = 0x5a5a_5a5a;
@@ -59,7 +59,7 @@ pub fn report(tallies: &[Tally]) -> Result<(), String> {
 pub fn filled<const N: usize>(
     answer: (u32, u32),
     wanted: Option<Vec<f32>>,
-    port: impl FnOnce(&mut [f32; N]) -> port::Answer,
+    port: impl FnOnce(&mut [f32; N]) -> raw::Answer,
 ) -> Option<String> {
     let mut out = [f32::from_bits(UNTOUCHED); N];
     let given = port(&mut out);

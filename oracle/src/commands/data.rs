@@ -2,8 +2,8 @@
 //! plausible ones.
 
 use super::write;
-use crate::data_files::sizes::sizes;
-use crate::data_files::{named, Pair};
+use crate::draw::data_files::sizes::sizes;
+use crate::draw::data_files::{named, Pair};
 
 pub fn run(folder: &str) -> Result<(), String> {
     for (name, pair) in named() {

@@ -8,10 +8,10 @@ mod walks;
 
 use super::write;
 use crate::bits::Answer;
-use crate::data_files::{named, Pair};
+use crate::draw::data_files::{named, Pair};
 use crate::month_file::push_words;
-use crate::reference_files::{blends, put, table_words};
-use crate::voacap::coefficients::F2_RECORD_BYTES;
+use crate::reference::files::{blends, put, table_words};
+use crate::reference::voacap::coefficients::F2_RECORD_BYTES;
 use std::collections::HashSet;
 use std::hash::Hash;
 

@@ -6,19 +6,21 @@ mod by_hand;
 mod clauses;
 pub mod counts;
 
-use crate::data_files::{named, Pair};
-use crate::desks::fields::{Inputs, FIELDS};
-use crate::desks::lent::Lent;
-use crate::desks::programs::{replay_text, replay_with, Replayed, CALLS};
-use crate::desks::shorter::check;
-use crate::desks::Worksheet;
-use crate::generator::Generator;
-use crate::journal_kinds::{any_buffers, bad_flags, bad_inputs, bytes, list, with_a_nan, NO_CALLS};
+use super::write_file;
+use crate::draw::data_files::{named, Pair};
+use crate::draw::generator::Generator;
+use crate::draw::journal_kinds::{
+    any_buffers, bad_flags, bad_inputs, bytes, list, with_a_nan, NO_CALLS,
+};
+use crate::draw::sheet_kinds::in_range;
+use crate::model::desks::fields::{Inputs, FIELDS};
+use crate::model::desks::lent::Lent;
+use crate::model::desks::programs::{replay_text, replay_with, Replayed, CALLS};
+use crate::model::desks::shorter::check;
+use crate::model::desks::Worksheet;
 use crate::month_file::push_words;
-use crate::sheet_kinds::in_range;
 use clauses::Clauses;
 use counts::Counts;
-use std::fs;
 
 const LISTS: usize = 200;
 const BAD_FLAGS: usize = 50;
@@ -84,9 +86,7 @@ pub fn run(file: &str) -> Result<(), String> {
     if bytes.len() > MOST {
         return Err(format!("{} bytes are too many", bytes.len()));
     }
-    fs::write(file, &bytes).map_err(|e| format!("cannot write {file}: {e}"))?;
-    println!("{file}: {} bytes", bytes.len());
-    Ok(())
+    write_file(file, &bytes)
 }
 
 /// One figure of each point is NaN, the others depend on all fields.
@@ -230,9 +230,9 @@ fn print_groups(journals: &[Journal]) {
 #[cfg(test)]
 mod tests {
     use super::{by_hand, journals, pair, vectors, MOST};
-    use crate::desks::lent::Lent;
-    use crate::desks::Worksheet;
-    use crate::reference_sheets::FIGURES;
+    use crate::model::desks::lent::Lent;
+    use crate::model::desks::Worksheet;
+    use crate::reference::sheets::FIGURES;
 
     #[test]
     fn journals_show_everything_and_are_the_same_each_time() {

@@ -1,22 +1,18 @@
 //! What the commands lend to the port that compare sheets or their parts:
-//! files that are good or not, and a buffer with words on both sides.
+//! files that are good or not, and buffers.
 
-use crate::bits::{Answer, F32};
-use crate::damage::Damage;
-use crate::data_files::ladders::{good, near_good, LONG, SHORT, USUAL};
-use crate::data_files::{calm, wild, Pair};
-use crate::generator::Generator;
-use crate::index_check::IndexTable;
-use crate::reference_sheets::Sheet;
-use crate::sheet_kinds::{any_bits, in_range, one_of, outside};
-use crate::voacap::coefficients::F2_RECORD_BYTES;
+use super::buffer::Buffer;
+use crate::bits::F32;
+use crate::draw::damage::Damage;
+use crate::draw::data_files::ladders::{good, near_good, LONG, SHORT, USUAL};
+use crate::draw::data_files::{calm, wild, Pair};
+use crate::draw::generator::Generator;
+use crate::draw::sheet_kinds::{any_bits, in_range, one_of, outside};
+use crate::model::index_check::IndexTable;
+use crate::reference::sheets::Sheet;
+use crate::reference::voacap::coefficients::F2_RECORD_BYTES;
 use std::borrow::Cow;
 use std::fmt::{Display, Formatter, Result};
-
-/// Words on both sides of the buffer that must stay as they are.
-const GUARD: usize = 8;
-/// How many of the figures that differ are named.
-const NAMED: usize = 4;
 
 /// Mostly with every field in its range.
 pub fn sheet(random: &mut Generator) -> Sheet {
@@ -103,43 +99,9 @@ pub fn fields(sheet: &Sheet) -> String {
     sheet.words().map(|word| format!("{word:08x}")).join(" ")
 }
 
-/// A buffer and the words beside it, with what they held before.
-pub struct Buffer {
-    before: Vec<u32>,
-    held: Vec<f32>,
-}
-
-impl Buffer {
-    pub fn of(random: &mut Generator, length: usize) -> Self {
-        let before = words(random, length + 2 * GUARD);
-        let held = before.iter().map(|word| f32::from_bits(*word)).collect();
-        Self { before, held }
-    }
-
-    /// The part that is lent.
-    pub fn lent(&mut self) -> &mut [f32] {
-        let end = self.held.len() - GUARD;
-        &mut self.held[GUARD..end]
-    }
-
-    /// How it differs from what a refusal leaves: every bit as it was, those
-    /// of NaNs included.
-    pub fn changes(&self) -> Option<String> {
-        let held: Vec<u32> = self.held.iter().map(|v| v.to_bits()).collect();
-        differing_words(&held, &self.before, "lent")
-    }
-
-    /// How it differs from the words of an answer, every NaN as one word. The
-    /// words beside it must be as they were.
-    pub fn differs_from(&self, answer: &[u32]) -> Option<String> {
-        let mut wanted = self.before.clone();
-        let mut held: Vec<u32> = self.held.iter().map(|v| v.to_bits()).collect();
-        for (i, word) in (GUARD..).zip(answer) {
-            wanted[i] = *word;
-            held[i] = self.held[i].to_word() as u32;
-        }
-        differing_words(&held, &wanted, "Rust")
-    }
+/// A buffer for so many numbers.
+pub fn buffer(random: &mut Generator, length: usize) -> Buffer {
+    Buffer::holding(length, |count| words(random, count))
 }
 
 /// What a buffer may hold before: every second word is a NaN of any bits.
@@ -152,21 +114,4 @@ fn words(random: &mut Generator, count: usize) -> Vec<u32> {
         }
     };
     (0..count).map(|_| word(random)).collect()
-}
-
-/// The first figures that differ; those before and after the buffer have
-/// numbers below 0 and beyond its end.
-fn differing_words(ours: &[u32], wanted: &[u32], whose: &str) -> Option<String> {
-    let mut places: Vec<usize> = (0..ours.len()).collect();
-    places.retain(|i| ours[*i] != wanted[*i]);
-    let named = places.iter().take(NAMED).map(|i| {
-        let number = *i as i64 - GUARD as i64;
-        format!(
-            "figure {number} port {:08x} {whose} {:08x}",
-            ours[*i], wanted[*i]
-        )
-    });
-    let named: Vec<String> = named.collect();
-    let count = places.len();
-    (count > 0).then(|| format!("{count} figures differ: {}", named.join(", ")))
 }

@@ -2,14 +2,16 @@
 //! number, argument and answer, three little-endian u64 each. A row of
 //! function 0 stands before each function's and holds its name.
 
+use super::put_file;
 use crate::bits::Answer;
+use crate::draw::generator::Generator;
+use crate::draw::ranges::inside;
+use crate::draw::specials::specials;
 use crate::functions::{Function, FUNCTIONS};
-use crate::generator::Generator;
-use crate::ranges::inside;
-use crate::specials::specials;
-use crate::voacap::con::{MagneticPole, D2R, DCL, GAMA, PI, PI2, PIO2, R2D, RZ, VOFL};
+use crate::reference::voacap::con::{
+    MagneticPole, D2R, DCL, GAMA, PI, PI2, PIO2, R2D, RZ, VOFL,
+};
 use std::collections::HashSet;
-use std::fs;
 
 const SEED: u64 = 0x6a75_7465;
 const CONSTANT: u64 = 40;
@@ -36,7 +38,7 @@ pub fn run(file: &str) -> Result<(), String> {
         push_row(&mut bytes, [CONSTANT, index, constant.to_word()]);
     }
     println!("{} rows, {} bytes", bytes.len() / 24, bytes.len());
-    fs::write(file, bytes).map_err(|e| format!("cannot write {file}: {e}"))
+    put_file(file, &bytes)
 }
 
 fn push_row(bytes: &mut Vec<u8>, row: [u64; 3]) {

@@ -3,17 +3,17 @@
 
 mod by_hand;
 
-use crate::data_files::{far_below_zero, named, Pair};
-use crate::desks::fields::Inputs;
-use crate::desks::lent::Lent;
-use crate::desks::page::{page_text, printed};
-use crate::generator::Generator;
-use crate::journal_kinds::bad_inputs;
+use super::write_file;
+use crate::draw::data_files::{far_below_zero, named, Pair};
+use crate::draw::generator::Generator;
+use crate::draw::journal_kinds::bad_inputs;
+use crate::draw::sheet_kinds::in_range;
+use crate::model::desks::fields::Inputs;
+use crate::model::desks::lent::Lent;
+use crate::model::desks::page::{page_text, printed};
 use crate::month_file::push_words;
-use crate::reference_sheets::{FIGURES, ROW};
-use crate::sheet_kinds::in_range;
-use crate::voacap::coefficients::F2_RECORD_BYTES;
-use std::fs;
+use crate::reference::sheets::{FIGURES, ROW};
+use crate::reference::voacap::coefficients::F2_RECORD_BYTES;
 
 /// At most so much; the file is kept.
 const MOST: usize = 400_000;
@@ -115,9 +115,7 @@ pub fn run(file: &str) -> Result<(), String> {
     if bytes.len() > MOST {
         return Err(format!("{} bytes are too many", bytes.len()));
     }
-    fs::write(file, &bytes).map_err(|e| format!("cannot write {file}: {e}"))?;
-    println!("{file}: {} bytes", bytes.len());
-    Ok(())
+    write_file(file, &bytes)
 }
 
 /// How many pages show what.

@@ -2,19 +2,14 @@
 //! before, for the commands that time it or count its instructions.
 
 use super::sides::Sides;
-use crate::data_files::Pair;
-use crate::port::Answer;
-use crate::port_layers as port;
-use crate::reference_files::read;
-use crate::reference_layers::{hour_maps, layers_at, measured, HourMaps, Place};
-use crate::reference_sheets::Sheet;
-use crate::voacap::coefficients::{parse_month_file, CoefficientSet};
+use crate::draw::data_files::Pair;
+use crate::port::{layers as port, ACCEPTED};
+use crate::reference::files::read;
+use crate::reference::layers::{hour_maps, layers_at, measured, HourMaps, Place};
+use crate::reference::sheets::Sheet;
+use crate::reference::voacap::coefficients::{parse_month_file, CoefficientSet};
+use jutetrowel::raw;
 use std::hint::black_box;
-
-const ACCEPTED: Answer = Answer {
-    number: 0,
-    place: 0,
-};
 
 #[derive(Clone, Copy)]
 pub enum Part {
@@ -78,11 +73,11 @@ impl Parts {
         let Pair { daw, month } = &self.pair;
         let Prepared { sheet, .. } = case;
         match part {
-            Part::MonthFile => assert_eq!(port::file_check(black_box(month)), ACCEPTED),
+            Part::MonthFile => assert_eq!(raw::file_check(black_box(month)), ACCEPTED),
             Part::Blends => {
                 let (mut cof, mut hmym) = ([0.0; 2604], [0.0; 464]);
-                assert_eq!(port::cofion(daw, month, sheet.ssn, &mut cof), ACCEPTED);
-                assert_eq!(port::hmym(month, sheet.ssn, &mut hmym), ACCEPTED);
+                assert_eq!(raw::cofion(daw, month, sheet.ssn, &mut cof), ACCEPTED);
+                assert_eq!(raw::hmym(month, sheet.ssn, &mut hmym), ACCEPTED);
                 black_box((cof, hmym));
             }
             Part::HourMaps => {

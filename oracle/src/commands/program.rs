@@ -1,6 +1,6 @@
 //! A program of the port, run on an input that is compared with the model.
 
-use std::fs;
+use super::put_file;
 use std::io::{ErrorKind, Write};
 use std::process::{ChildStdin, Command, Output, Stdio};
 use std::thread;
@@ -38,7 +38,7 @@ impl<'a> Compared<'a> {
         }
         println!("{name} differs, {status}: {}", difference(&stdout, wanted));
         for (file, bytes) in FIRST.iter().zip([input, wanted.as_bytes(), &stdout]) {
-            fs::write(file, bytes).map_err(|e| format!("cannot write {file}: {e}"))?;
+            put_file(file, bytes)?;
         }
         println!("written: {}", FIRST.join(", "));
         Ok(())

@@ -2,60 +2,49 @@
 //! as many, by one side, and nothing else that depends on COUNT, for a tool
 //! that counts instructions.
 
-#[cfg(not(linked))]
-pub fn run(_side: &str, _kind: &str, _count: &str) -> Result<(), String> {
-    Err(String::from(crate::NOT_LINKED))
+use crate::commands::parts::{Part, Parts};
+use crate::commands::sides::{Sides, Wrong};
+use crate::commands::whole;
+use crate::draw::data_files::named;
+
+pub fn run(side: &str, kind: &str, count: &str) -> Result<(), String> {
+    let count = whole(count)?;
+    let port = match side {
+        "port" => true,
+        "rust" => false,
+        _ => return Err(format!("{side} is no side: port or rust")),
+    };
+    if let Some(part) = Part::named(kind) {
+        let [(_, pair), ..] = named();
+        let parts = Parts::of(pair);
+        repeat(&parts.cases, count, |case| match port {
+            true => parts.port(part, case),
+            false => parts.rust(part, case),
+        });
+        return Ok(());
+    }
+    let sides = sides(kind)?;
+    sides.assert_alike();
+    repeat(&sides.cases, count, |case| match port {
+        true => sides.port(case),
+        false => sides.rust(case),
+    });
+    Ok(())
 }
 
-#[cfg(linked)]
-pub use linked::run;
+fn sides(kind: &str) -> Result<Sides, String> {
+    let [(_, pair), ..] = named();
+    let sides = match kind {
+        "marker" => Sides::refused(pair, Wrong::Marker),
+        "half" => Sides::refused(pair, Wrong::Half),
+        points => Sides::whole(pair, whole(points)? as u32),
+    };
+    sides.ok_or_else(|| format!("{kind} is no kind: 1, 3, 5, marker, half or a part's name"))
+}
 
-#[cfg(linked)]
-mod linked {
-    use crate::commands::parts::{Part, Parts};
-    use crate::commands::sides::{Sides, Wrong};
-    use crate::commands::whole;
-    use crate::data_files::named;
-
-    pub fn run(side: &str, kind: &str, count: &str) -> Result<(), String> {
-        let count = whole(count)?;
-        let port = match side {
-            "port" => true,
-            "rust" => false,
-            _ => return Err(format!("{side} is no side: port or rust")),
-        };
-        if let Some(part) = Part::named(kind) {
-            let [(_, pair), ..] = named();
-            let parts = Parts::of(pair);
-            repeat(&parts.cases, count, |case| match port {
-                true => parts.port(part, case),
-                false => parts.rust(part, case),
-            });
-            return Ok(());
-        }
-        let sides = sides(kind)?;
-        sides.assert_alike();
-        repeat(&sides.cases, count, |case| match port {
-            true => sides.port(case),
-            false => sides.rust(case),
-        });
-        Ok(())
-    }
-
-    fn sides(kind: &str) -> Result<Sides, String> {
-        let [(_, pair), ..] = named();
-        let sides = match kind {
-            "marker" => Sides::refused(pair, Wrong::Marker),
-            "half" => Sides::refused(pair, Wrong::Half),
-            points => Sides::whole(pair, whole(points)? as u32),
-        };
-        sides.ok_or_else(|| format!("{kind} is no kind: 1, 3, 5, marker, half or a part's name"))
-    }
-
-    /// The same cases again and again, in their order.
-    fn repeat<T>(cases: &[T], count: u64, one: impl Fn(&T)) {
-        for case in cases.iter().cycle().take(count as usize) {
-            one(case);
-        }
+/// The same cases again and again, in their order.
+fn repeat<T>(cases: &[T], count: u64, one: impl Fn(&T)) {
+    for case in cases.iter().cycle().take(count as usize) {
+        one(case);
     }
 }

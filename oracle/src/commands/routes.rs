@@ -7,10 +7,10 @@ mod odd;
 mod ordinary;
 mod searched;
 
-use crate::branches::{self, Branch, Counts};
+use super::put_file;
 use crate::month_file::push_words;
-use crate::reference_routes::{counted, plain, Route};
-use std::fs;
+use crate::reference::branches::{self, Branch, Counts};
+use crate::reference::routes::{counted, plain, Route};
 
 const WORDS: usize = 49;
 /// The first word of a heading: a NaN with which no route starts.
@@ -31,7 +31,7 @@ pub fn run(file: &str) -> Result<(), String> {
     branches::print(&counts, is_counted);
     branches::refuse_untaken(&counts, is_counted, &[])?;
     println!("{} rows, {} bytes", bytes.len() / 4 / WORDS, bytes.len());
-    fs::write(file, bytes).map_err(|e| format!("cannot write {file}: {e}"))
+    put_file(file, &bytes)
 }
 
 fn groups() -> Vec<Group> {
@@ -89,7 +89,7 @@ fn print_groups(groups: &[Group]) {
 #[cfg(test)]
 mod tests {
     use super::{groups, is_counted, vectors, HEADING};
-    use crate::branches::refuse_untaken;
+    use crate::reference::branches::refuse_untaken;
 
     #[test]
     fn vectors_take_every_branch_and_are_the_same_each_time() {

@@ -1,8 +1,8 @@
 //! `self-check`: the steps beside the library's functions, so that a slip
 //! in writing them down shows. The library is near, never equal.
 
-use crate::generator::Generator;
-use crate::steps::{acos, atan, cos, exp, ln, power_of_two, sin, Step, HALF_PI, LN_2};
+use crate::draw::generator::Generator;
+use crate::reference::steps::{acos, atan, cos, exp, ln, power_of_two, sin, Step, HALF_PI, LN_2};
 
 const COUNT: usize = 200_000;
 /// A little over half a unit in the last place of 1.
@@ -90,12 +90,8 @@ const fn positive(
     allowed: fn(f64, f64) -> f64,
 ) -> Check {
     Check {
-        name,
-        step,
-        library,
         low: 0.0,
-        high,
-        allowed,
+        ..check(name, step, library, high, allowed)
     }
 }
 

@@ -4,16 +4,15 @@
 mod cases;
 
 use crate::commands::journals::counts::Counts;
-use crate::data_files::{extreme, named, Pair};
-use crate::desks::programs::{sheet, sheet_text, CALLS};
-use crate::generator::Generator;
-use crate::journal_kinds::with_a_nan;
+use crate::commands::{put, write_file};
+use crate::draw::data_files::{extreme, named, Pair};
+use crate::draw::generator::Generator;
+use crate::draw::journal_kinds::with_a_nan;
+use crate::draw::sheet_kinds::in_range;
+use crate::model::desks::programs::{sheet, sheet_text, CALLS};
 use crate::month_file::push_words;
-use crate::sheet_kinds::in_range;
-use crate::voacap::coefficients::F2_RECORD_BYTES;
+use crate::reference::voacap::coefficients::F2_RECORD_BYTES;
 use cases::{cases, Case};
-use std::fs;
-use std::path::Path;
 
 /// Sheets of each further pair of files.
 const FURTHER: usize = 2;
@@ -45,19 +44,10 @@ pub fn files(folder: &str) -> Result<(), String> {
     Ok(())
 }
 
-/// Without a line for each file.
-fn put(folder: &str, name: &str, bytes: &[u8]) -> Result<(), String> {
-    fs::create_dir_all(folder).map_err(|e| format!("cannot make {folder}: {e}"))?;
-    let path = Path::new(folder).join(name);
-    fs::write(&path, bytes).map_err(|e| format!("cannot write {}: {e}", path.display()))
-}
-
 pub fn compact(file: &str) -> Result<(), String> {
     let (bytes, counts) = vectors();
     counts.print();
-    fs::write(file, &bytes).map_err(|e| format!("cannot write {file}: {e}"))?;
-    println!("{file}: {} bytes", bytes.len());
-    Ok(())
+    write_file(file, &bytes)
 }
 
 /// Those of the compact form, then good ones of every pair of files.
@@ -109,7 +99,7 @@ fn vectors() -> (Vec<u8>, Counts) {
 #[cfg(test)]
 mod tests {
     use super::{inputs, pair, vectors, MOST};
-    use crate::desks::programs::{sheet, sheet_text};
+    use crate::model::desks::programs::{sheet, sheet_text};
 
     #[test]
     fn every_refusal_is_there_and_the_bytes_are_the_same_each_time() {

@@ -9,13 +9,13 @@ mod refused;
 mod searched;
 mod witnesses;
 
-use crate::branches::{self, Branch, Counts, Side, BRANCHES};
-use crate::data_files::{extreme, named, Pair};
+use crate::commands::write_file;
+use crate::draw::data_files::{extreme, named, Pair};
 use crate::month_file::push_words;
-use crate::reference_files::read;
-use crate::reference_sheets::{counted, plain, put_all_months, Figures, Sheet};
-use crate::voacap::coefficients::{CoefficientSet, F2_RECORD_BYTES};
-use std::fs;
+use crate::reference::branches::{self, Branch, Counts, Side, BRANCHES};
+use crate::reference::files::read;
+use crate::reference::sheets::{counted, plain, put_all_months, Figures, Sheet};
+use crate::reference::voacap::coefficients::{CoefficientSet, F2_RECORD_BYTES};
 use std::path::Path;
 use witnesses::Witnesses;
 
@@ -66,8 +66,8 @@ pub fn run(file: &str) -> Result<(), String> {
     print_sections(&sections);
     seen.print();
     seen.check()?;
-    write(Path::new(file), &bytes)?;
-    write(&Path::new(file).with_file_name(REFUSED), &refused::bytes())
+    write_file(file, &bytes)?;
+    write_file(Path::new(file).with_file_name(REFUSED), &refused::bytes())
 }
 
 impl Seen {
@@ -105,13 +105,6 @@ impl Seen {
         }
         self.witnesses.refuse_unseen()
     }
-}
-
-fn write(path: &Path, bytes: &[u8]) -> Result<(), String> {
-    let name = path.display();
-    fs::write(path, bytes).map_err(|e| format!("cannot write {name}: {e}"))?;
-    println!("{name}: {} bytes", bytes.len());
-    Ok(())
 }
 
 /// The groups of a section depend on the files of that section only, so that a

@@ -2,18 +2,25 @@
 //! that time it or count its instructions.
 
 use super::timing::{sheets, LENGTHS};
-use crate::data_files::Pair;
-use crate::month_file::BYTES;
-use crate::port::Showing;
-use crate::port_layers as port;
-use crate::reference_files::{read, walk};
-use crate::reference_sheets::{put_all_months, showing, Sheet, FIGURES};
+use crate::draw::data_files::Pair;
+use crate::month_file::{push_words, BYTES};
+use crate::reference::files::{read, walk};
+use crate::reference::sheets::{put_all_months, showing, Sheet, FIGURES};
+use jutetrowel::raw::{self, Showing};
 use std::hint::black_box;
 
 /// A sheet, and its 14 words as the port takes them.
 pub struct Case {
     pub sheet: Sheet,
-    words: [u8; 56],
+    words: Vec<u8>,
+}
+
+impl Case {
+    fn of(sheet: Sheet) -> Self {
+        let mut words = Vec::new();
+        push_words(&mut words, &sheet.words());
+        Self { sheet, words }
+    }
 }
 
 /// Usual sheets of one number of points on one pair of files.
@@ -36,13 +43,9 @@ impl Sides {
     /// The Rust finds the files that were put last: one of these at a time.
     pub fn whole(pair: Pair, points: u32) -> Option<Self> {
         let length = LENGTHS.into_iter().find(|length| length.0 == points)?;
-        let case = |sheet| Case {
-            words: port::bytes_of(&sheet),
-            sheet,
-        };
         put_all_months(&pair.daw, &pair.month);
         Some(Self {
-            cases: sheets(length).into_iter().map(case).collect(),
+            cases: sheets(length).into_iter().map(Case::of).collect(),
             pair,
             refused: false,
         })
@@ -68,7 +71,7 @@ impl Sides {
     }
 
     fn port_showing(&self, case: &Case, out: &mut [f32; FIGURES]) -> Showing {
-        port::sheet(&case.words, &self.pair.daw, &self.pair.month, out)
+        raw::sheet(&case.words, &self.pair.daw, &self.pair.month, out)
     }
 
     pub fn rust(&self, case: &Case) {

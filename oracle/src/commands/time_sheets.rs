@@ -2,14 +2,16 @@
 //! of both files on, and where the Rust's time goes.
 
 use super::timing::{best, sheets, Column, Work, LENGTHS, REPEATS, ROUTES};
-use crate::data_files::{named, Pair};
-use crate::reference_files::read;
-use crate::reference_sheets::{fields, put_all_months, showing, Sheet};
-use crate::voacap::coefficients::{f2_planes, parse_month_file, CoefficientSet};
-use crate::voacap::data;
-use crate::voacap::geometry::PathGeometry;
-use crate::voacap::ionosphere::{cofion, esind, ground_constants, layer_parameters, virtim};
-use crate::voacap::magnetic::MagneticVars;
+use crate::draw::data_files::{named, Pair};
+use crate::reference::files::read;
+use crate::reference::sheets::{fields, put_all_months, showing, Sheet};
+use crate::reference::voacap::coefficients::{f2_planes, parse_month_file, CoefficientSet};
+use crate::reference::voacap::data;
+use crate::reference::voacap::geometry::PathGeometry;
+use crate::reference::voacap::ionosphere::{
+    cofion, esind, ground_constants, layer_parameters, virtim,
+};
+use crate::reference::voacap::magnetic::MagneticVars;
 use std::hint::black_box;
 use std::path::Path;
 
@@ -50,9 +52,9 @@ fn whole(sheets: &[Sheet], _pair: &Pair) -> Column {
 #[cfg(linked)]
 fn whole(sheets: &[Sheet], pair: &Pair) -> Column {
     let port = |sheet: &Sheet| {
-        let mut out = [0.0; crate::reference_sheets::FIGURES];
+        let mut out = [0.0; crate::reference::sheets::FIGURES];
         // The record that stands for every month.
-        crate::port::sheet(sheet, &pair.daw, &pair.month, &mut out);
+        crate::port::sheets::figures(sheet, &pair.daw, &pair.month, &mut out);
         black_box(out);
     };
     assert_alike(sheets, pair);
@@ -68,8 +70,8 @@ fn assert_alike(sheets: &[Sheet], pair: &Pair) {
         let mut figures = showing(sheet);
         let wanted = figures.words();
         let values = &mut figures.values;
-        let answer = crate::port::sheet(sheet, &pair.daw, &pair.month, values);
-        let wanted_answer = crate::port::Showing {
+        let answer = crate::port::sheets::figures(sheet, &pair.daw, &pair.month, values);
+        let wanted_answer = jutetrowel::raw::Showing {
             points: figures.points,
             number: 0,
             place: 0,

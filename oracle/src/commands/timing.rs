@@ -1,9 +1,9 @@
 //! What the commands share that time sheets: usual sheets, and the best of
 //! many runs in which the sides take turns.
 
-use crate::generator::Generator;
-use crate::reference_sheets::Sheet;
-use crate::route_kinds::between;
+use crate::draw::generator::Generator;
+use crate::draw::route_kinds::between;
+use crate::reference::sheets::Sheet;
 use std::hint::black_box;
 use std::time::Instant;
 

@@ -1,10 +1,9 @@
 //! The repository's data, and files read piece by piece.
 
+pub use jutetrowel::raw::{
+    INPUT_BYTES as WORDS, MONTH_FILE_BYTES as MONTH_FILE, RECORD_BYTES as RECORD,
+};
 use std::path::Path;
-
-pub const WORDS: usize = 56;
-pub const RECORD: usize = 7904;
-pub const MONTH_FILE: usize = 38552;
 
 /// A file of the repository.
 pub fn data(path: &str) -> Vec<u8> {

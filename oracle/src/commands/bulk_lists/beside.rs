@@ -1,61 +1,15 @@
 //! One list of calls, run by a library and by the model beside it.
 
 use super::drawn::{List, Start};
-use crate::bits::{Answer as _, F32};
-use crate::data_files::Pair;
-use crate::desks::lent::Lent;
-use crate::desks::programs::Replayed;
-use crate::desks::words::{self, Words, WORDS};
-use crate::desks::{Answer, Call, Refusal};
-use crate::generator::Generator;
-
-/// Words on both sides of a buffer that must stay as they are.
-const GUARD: usize = 8;
-
-/// What a library's call gives back beside worksheet and buffer: 0 and 0, or
-/// number and place of the refusal, and a showing's number of points.
-#[derive(Debug, Clone, Copy, PartialEq, Eq)]
-pub struct Told {
-    pub points: u32,
-    pub number: u32,
-    pub place: u32,
-}
-
-impl Told {
-    pub const ACCEPTED: Self = Self::points(0);
-
-    pub const fn points(points: u32) -> Self {
-        Self {
-            points,
-            number: 0,
-            place: 0,
-        }
-    }
-
-    pub fn refused(refusal: Refusal) -> Self {
-        let Refusal { number, place } = refusal;
-        Self {
-            points: 0,
-            number,
-            place,
-        }
-    }
-
-    fn wanted(answer: &Answer) -> Self {
-        match answer {
-            Answer::Accepted => Self::ACCEPTED,
-            Answer::Refused(refusal) => Self::refused(*refusal),
-            Answer::Points(shown) => Self::points(shown.points),
-        }
-    }
-}
-
-/// The worksheet's calls over 90 lent words.
-pub trait Desks {
-    fn open(&self, inputs: &[u8], sheet: &mut Words) -> Told;
-    /// The buffer is a showing's; to other calls it is empty.
-    fn call(&self, sheet: &mut Words, call: &Call, files: &Pair, out: &mut [f32]) -> Told;
-}
+use crate::bits::F32;
+use crate::commands::buffer::Buffer;
+use crate::draw::data_files::Pair;
+use crate::draw::generator::Generator;
+use crate::model::desks::lent::Lent;
+use crate::model::desks::library::{Desks, Told};
+use crate::model::desks::programs::Replayed;
+use crate::model::desks::words::{self, Words, WORDS};
+use crate::model::desks::{Answer, Call};
 
 /// What the model answers, and where the library first differs.
 pub fn run(
@@ -119,24 +73,16 @@ fn one_call(
         let told = desks.call(sheet, call, files, &mut []);
         return differing(told, Told::wanted(answer));
     };
-    let lent = buffer(random, length + 2 * GUARD);
-    let mut out: Vec<f32> = lent.iter().map(|word| f32::from_bits(*word)).collect();
-    let end = GUARD + length;
-    let told = desks.call(sheet, call, files, &mut out[GUARD..end]);
-    let mut wanted = lent;
-    let mut given: Vec<u32> = out.iter().map(|v| v.to_bits()).collect();
-    if let Answer::Points(shown) = answer {
-        wanted[GUARD..end].copy_from_slice(&shown.words);
-        // Two NaNs are alike.
-        for (word, v) in given[GUARD..end].iter_mut().zip(&out[GUARD..end]) {
-            *word = v.to_word() as u32;
-        }
-    }
-    differing(told, Told::wanted(answer)).or_else(|| differing_buffer(&given, &wanted))
+    let mut buffer = Buffer::holding(*length, |count| words_before(random, count));
+    let told = desks.call(sheet, call, files, buffer.lent());
+    differing(told, Told::wanted(answer)).or_else(|| match answer {
+        Answer::Points(shown) => buffer.differs_from(&shown.words),
+        _ => buffer.changes(),
+    })
 }
 
 /// What a buffer may hold before: every second word is a NaN of any bits.
-fn buffer(random: &mut Generator, count: usize) -> Vec<u32> {
+fn words_before(random: &mut Generator, count: usize) -> Vec<u32> {
     let word = |_| match random.next() {
         word if word >> 63 == 0 => word as u32,
         word => word as u32 | F32.infinity() as u32 | 1,
@@ -153,15 +99,5 @@ fn differing_words(given: &Words, wanted: &Words) -> Option<String> {
     let [given, wanted] = [given[at], wanted[at]];
     Some(format!(
         "word {at} of the worksheet is {given:08x}, wanted {wanted:08x}"
-    ))
-}
-
-/// Figures before and after the buffer have numbers below 0 and beyond its end.
-fn differing_buffer(given: &[u32], wanted: &[u32]) -> Option<String> {
-    let at = (0..given.len()).find(|i| given[*i] != wanted[*i])?;
-    let number = at as i64 - GUARD as i64;
-    let [given, wanted] = [given[at], wanted[at]];
-    Some(format!(
-        "figure {number} is {given:08x}, wanted {wanted:08x}"
     ))
 }

@@ -1,12 +1,13 @@
 //! Many lists, each with a library and the model beside it.
 
-use super::beside::{self, Desks};
+use super::beside;
 use super::drawn::{self, List, Start};
 use crate::commands::journals::counts::Counts;
-use crate::data_files::Pair;
-use crate::desks::lent::Lent;
-use crate::desks::shorter::check;
-use crate::generator::Generator;
+use crate::draw::data_files::Pair;
+use crate::draw::generator::Generator;
+use crate::model::desks::lent::Lent;
+use crate::model::desks::library::Desks;
+use crate::model::desks::shorter::check;
 
 /// Lists for each pair of files, which takes longer to make than a list.
 const LISTS: u64 = 20;
@@ -14,8 +15,7 @@ const LISTS: u64 = 20;
 pub fn run(desks: &impl Desks, count: u64, seed: u64) -> Result<(), String> {
     let mut compared = Compared::default();
     for case in 0..count.div_ceil(LISTS) {
-        // A seed of its own, so that a case can be found again.
-        let mut random = Generator::new(seed.wrapping_mul(1 << 32) ^ case);
+        let mut random = Generator::of_case(seed, case);
         let pair = drawn::files(&mut random);
         let lent = Lent::new(&pair.daw, &pair.month);
         for number in 0..LISTS.min(count - case * LISTS) {

@@ -1,16 +1,16 @@
 //! Random lists of calls and the files that are lent to them.
 
 use crate::bits::Answer;
-use crate::damage::Damage;
-use crate::data_files::Pair;
-use crate::desks::fields::{range, Inputs, Range, FIELDS};
-use crate::desks::programs::{inputs, HEAD};
-use crate::desks::{Call, Draft, Refusal, Worksheet};
-use crate::generator::Generator;
-use crate::journal_kinds::{any_buffers, any_field, bad_inputs, bad_word, list as calls};
+use crate::draw::damage::Damage;
+use crate::draw::data_files::Pair;
+use crate::draw::generator::Generator;
+use crate::draw::journal_kinds::{any_buffers, any_field, bad_inputs, bad_word, list as calls};
+use crate::draw::sheet_kinds::in_range;
+use crate::model::desks::fields::{range, Inputs, Range, FIELDS};
+use crate::model::desks::programs::{inputs, HEAD};
+use crate::model::desks::{Call, Draft, Refusal, Worksheet};
 use crate::month_file::push_words;
-use crate::sheet_kinds::in_range;
-use crate::voacap::coefficients::F2_RECORD_BYTES;
+use crate::reference::voacap::coefficients::F2_RECORD_BYTES;
 
 pub enum Start {
     /// The bytes of an open; some of the 14 words are missing, or others
@@ -94,7 +94,7 @@ fn odd_inputs(random: &mut Generator) -> Inputs {
 /// Calm or wild; the month file of one pair in six is damaged, and the record
 /// of one in sixteen too short.
 pub fn files(random: &mut Generator) -> Pair {
-    let mut pair = crate::journal_kinds::files(random);
+    let mut pair = crate::draw::journal_kinds::files(random);
     if random.below(6) == 0 {
         pair.month = Damage::any(random).done_to(&pair.month);
     }

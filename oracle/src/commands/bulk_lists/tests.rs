@@ -1,13 +1,13 @@
 //! The comparison finds out a library that slips: the model stands for the
 //! library, with one slip at a time.
 
-use super::beside::{Desks, Told};
 use super::compared::run;
-use crate::data_files::Pair;
-use crate::desks::lent::Lent;
-use crate::desks::programs::inputs;
-use crate::desks::words::{self, Words};
-use crate::desks::{Answer, Call, Draft, Worksheet};
+use crate::draw::data_files::Pair;
+use crate::model::desks::lent::Lent;
+use crate::model::desks::library::{Desks, Told};
+use crate::model::desks::programs::inputs;
+use crate::model::desks::words::{self, Words};
+use crate::model::desks::{Answer, Call, Draft, Worksheet};
 
 /// Answers as the model does; `slip` may change what is given back.
 struct Model<Slip>(Slip);
@@ -60,16 +60,12 @@ impl<Slip: Fn(Given)> Desks for Model<Slip> {
         let held = held(sheet);
         let answer = held.answer(call, &Lent::new(&files.daw, &files.month));
         *sheet = words::of(&held.after(call));
-        let mut told = match &answer {
-            Answer::Accepted => Told::ACCEPTED,
-            Answer::Refused(refusal) => Told::refused(*refusal),
-            Answer::Points(shown) => {
-                for (v, word) in out.iter_mut().zip(shown.words) {
-                    *v = f32::from_bits(word);
-                }
-                Told::points(shown.points)
+        if let Answer::Points(shown) = &answer {
+            for (v, word) in out.iter_mut().zip(shown.words) {
+                *v = f32::from_bits(word);
             }
-        };
+        }
+        let mut told = Told::wanted(&answer);
         (self.0)((call, &answer, sheet, out, &mut told));
         told
     }

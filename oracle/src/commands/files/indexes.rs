@@ -2,9 +2,9 @@
 //! number and place of the refusal.
 
 use super::distinct;
-use crate::data_files::ladders::{near_good, LONG, SHORT, USUAL};
-use crate::generator::Generator;
-use crate::index_check::{answer, IndexTable, HARMONICS, ROWS};
+use crate::draw::data_files::ladders::{near_good, LONG, SHORT, USUAL};
+use crate::draw::generator::Generator;
+use crate::model::index_check::{answer, IndexTable, HARMONICS, ROWS};
 use crate::month_file::{push_words, words};
 
 type Map = [i32; 10];
@@ -137,10 +137,10 @@ fn two_maps() -> Vec<IndexTable> {
 #[cfg(test)]
 mod tests {
     use super::cases;
-    use crate::data_files::ladders::good;
-    use crate::generator::Generator;
-    use crate::index_check::{answer, IndexTable};
-    use crate::voacap::ionosphere::{versy, virtim};
+    use crate::draw::data_files::ladders::good;
+    use crate::draw::generator::Generator;
+    use crate::model::index_check::{answer, IndexTable};
+    use crate::reference::voacap::ionosphere::{versy, virtim};
     use std::panic::catch_unwind;
 
     /// What the check is for: no index of the Rust leaves its array.

@@ -1,10 +1,10 @@
 //! Month records of a cut F2 file with the Rust's answer: rows of length,
 //! month, number and place of the refusal, start of the record.
 
-use crate::data_files::{Pair, YEAR};
+use crate::draw::data_files::{Pair, YEAR};
 use crate::month_file::push_words;
-use crate::reference_files::{put, record};
-use crate::voacap::coefficients::F2_RECORD_BYTES;
+use crate::reference::files::{put, record};
+use crate::reference::voacap::coefficients::F2_RECORD_BYTES;
 
 pub fn rows(pair: &Pair) -> Vec<u8> {
     // The Rust reads the month file after the record, whatever the month.

@@ -4,12 +4,12 @@
 //! part in its file and its first word among those of `words.bin`.
 
 use super::distinct;
-use crate::damage::{Damage, EXTRA, LONGEST};
-use crate::data_files::Pair;
-use crate::desks::Refusal;
+use crate::draw::damage::{Damage, EXTRA, LONGEST};
+use crate::draw::data_files::Pair;
+use crate::model::desks::Refusal;
 use crate::month_file::{markers, push_words, BYTES};
-use crate::reference_tables::{Starts, TABLES};
-use crate::voacap::coefficients::F2_RECORD_BYTES;
+use crate::reference::tables::{Starts, TABLES};
+use crate::reference::voacap::coefficients::F2_RECORD_BYTES;
 
 /// Bytes after the record, which are ignored.
 const LONGEST_RECORD: usize = F2_RECORD_BYTES + EXTRA.len();
@@ -94,9 +94,9 @@ fn cases(month: &[u8]) -> Vec<Case> {
 #[cfg(test)]
 mod tests {
     use super::first;
-    use crate::data_files::named;
-    use crate::reference_files::table_words;
-    use crate::reference_tables::{Starts, TABLES};
+    use crate::draw::data_files::named;
+    use crate::reference::files::table_words;
+    use crate::reference::tables::{Starts, TABLES};
 
     /// What stands in `words.bin` from a table's first word on is the table.
     #[test]

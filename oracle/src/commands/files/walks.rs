@@ -2,10 +2,10 @@
 //! value of the changed byte, number and place of the refusal.
 
 use super::distinct;
-use crate::damage::{Damage, LONGEST};
-use crate::generator::Generator;
+use crate::draw::damage::{Damage, LONGEST};
+use crate::draw::generator::Generator;
 use crate::month_file::{markers, push_words, BYTES};
-use crate::reference_files::walk;
+use crate::reference::files::walk;
 
 pub fn rows(file: &[u8]) -> Vec<u8> {
     let mut bytes = Vec::new();
@@ -85,9 +85,9 @@ fn change_elsewhere(random: &mut Generator) -> Damage {
 #[cfg(test)]
 mod tests {
     use super::{cases, in_marker};
-    use crate::data_files::named;
+    use crate::draw::data_files::named;
     use crate::month_file::BYTES;
-    use crate::reference_files::walk;
+    use crate::reference::files::walk;
 
     #[test]
     fn changes_outside_markers_are_not_refused() {

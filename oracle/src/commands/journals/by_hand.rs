@@ -1,8 +1,8 @@
 //! Lists that tell one rule each.
 
-use crate::desks::fields::{self, Inputs};
-use crate::desks::{Call, Edit};
-use crate::reference_sheets::FIGURES;
+use crate::model::desks::fields::{self, Inputs};
+use crate::model::desks::{Call, Edit};
+use crate::reference::sheets::FIGURES;
 use Call::{Begin, Cancel, Commit, TakeBack};
 
 const SHOW: Call = show(0);

@@ -1,9 +1,9 @@
 //! What the journals must show of the call rules and of each clause of demand
 //! 3's shorter list.
 
-use crate::desks::programs::Replayed;
-use crate::desks::shorter::Answered;
-use crate::desks::{Answer, Call, Draft, Edit, Worksheet};
+use crate::model::desks::programs::Replayed;
+use crate::model::desks::shorter::Answered;
+use crate::model::desks::{Answer, Call, Draft, Edit, Worksheet};
 
 /// One call of a replayed journal.
 struct Seen<'a> {

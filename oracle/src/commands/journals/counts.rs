@@ -1,8 +1,8 @@
 //! How often each call has got each answer.
 
-use crate::desks::lent::Shown;
-use crate::desks::programs::Replayed;
-use crate::desks::{Answer, Call, Edit, Refusal};
+use crate::model::desks::lent::Shown;
+use crate::model::desks::programs::Replayed;
+use crate::model::desks::{Answer, Call, Edit, Refusal};
 use std::collections::BTreeMap;
 use std::rc::Rc;
 

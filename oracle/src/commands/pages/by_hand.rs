@@ -1,6 +1,6 @@
 //! Sheets whose fields are printed in every way that a field can be.
 
-use crate::desks::fields::{self, Inputs};
+use crate::model::desks::fields::{self, Inputs};
 
 /// Routes of one, three and five points.
 const ONE: [f32; 4] = [52.0, 4.0, 62.0, -7.0];
@@ -125,7 +125,7 @@ pub fn inputs() -> Vec<Inputs> {
 #[cfg(test)]
 mod tests {
     use super::inputs;
-    use crate::desks::Worksheet;
+    use crate::model::desks::Worksheet;
 
     #[test]
     fn all_are_in_range() {

@@ -2,8 +2,8 @@
 //! turns to another branch, and their neighbours.
 
 use super::Group;
-use crate::reference_routes::{end, End, Route};
-use crate::route_kinds::opposite;
+use crate::draw::route_kinds::opposite;
+use crate::reference::routes::{end, End, Route};
 
 pub fn groups() -> Vec<Group> {
     vec![

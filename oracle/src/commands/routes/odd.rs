@@ -3,9 +3,9 @@
 //! agree.
 
 use super::Group;
-use crate::generator::Generator;
-use crate::reference_routes::{end, Route};
-use crate::route_kinds;
+use crate::draw::generator::Generator;
+use crate::draw::route_kinds;
+use crate::reference::routes::{end, Route};
 
 pub fn groups() -> Vec<Group> {
     vec![

@@ -1,9 +1,9 @@
 //! Random routes over the world.
 
 use super::Group;
-use crate::generator::Generator;
-use crate::reference_routes::Route;
-use crate::route_kinds::{between, of_kind, ONE_POINT, THREE_POINTS};
+use crate::draw::generator::Generator;
+use crate::draw::route_kinds::{between, of_kind, ONE_POINT, THREE_POINTS};
+use crate::reference::routes::Route;
 
 const SEED: u64 = 0x726f_7574;
 const HALF_ROUND: f64 = 20_000.0;

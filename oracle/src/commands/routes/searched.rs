@@ -2,12 +2,12 @@
 //! not show, and those that take a branch which others seldom take.
 
 use super::Group;
-use crate::branches::Side;
-use crate::generator::Generator;
-use crate::reference_routes::{end, plain, trail, End, Path, Route};
-use crate::route_kinds::{between, of_any_kind, opposite, ONE_POINT, THREE_POINTS};
-use crate::voacap::con::{PI, PIO2, R2D, RZ};
-use crate::voacap::magnetic::RD;
+use crate::draw::generator::Generator;
+use crate::draw::route_kinds::{between, of_any_kind, opposite, ONE_POINT, THREE_POINTS};
+use crate::reference::branches::Side;
+use crate::reference::routes::{end, plain, trail, End, Path, Route};
+use crate::reference::voacap::con::{PI, PIO2, R2D, RZ};
+use crate::reference::voacap::magnetic::RD;
 use std::collections::{HashMap, HashSet};
 
 const SEED: u64 = 0x6e65_6172;
@@ -203,9 +203,9 @@ fn helps(tally: &mut HashMap<(Side, Side), usize>, route: &Route) -> bool {
 #[cfg(test)]
 mod tests {
     use super::{around_distance, ONE_POINT, THREE_POINTS};
-    use crate::reference_routes::plain;
-    use crate::steps::Step;
-    use crate::voacap::con::RZ;
+    use crate::reference::routes::plain;
+    use crate::reference::steps::Step;
+    use crate::reference::voacap::con::RZ;
 
     /// Above 0.75 lie all cosines of distances up to 4600 km, and acos falls.
     #[test]

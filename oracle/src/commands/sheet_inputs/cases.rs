@@ -1,13 +1,14 @@
 //! What the program `sheet` is given: fields, and how much of both files, with
 //! one byte of the month file changed, all of it cut.
 
-use crate::data_files::Pair;
-use crate::desks::fields::{self, range, Inputs, Range, FIELDS};
-use crate::desks::programs::{CALLS, HEAD, MONTH};
-use crate::generator::Generator;
+use crate::draw::damage::set_byte;
+use crate::draw::data_files::Pair;
+use crate::draw::generator::Generator;
+use crate::draw::sheet_kinds::in_range;
+use crate::model::desks::fields::{self, range, Inputs, Range, FIELDS};
+use crate::model::desks::programs::{CALLS, HEAD, MONTH};
 use crate::month_file::{markers, push_words, BYTES};
-use crate::sheet_kinds::in_range;
-use crate::voacap::coefficients::F2_RECORD_BYTES;
+use crate::reference::voacap::coefficients::F2_RECORD_BYTES;
 
 /// Stands for a byte that is not changed.
 const NOWHERE: u32 = BYTES as u32;
@@ -68,9 +69,7 @@ impl Case {
 
     pub fn input(&self, pair: &Pair) -> Vec<u8> {
         let mut month = pair.month.clone();
-        if let Some(byte) = month.get_mut(self.place as usize) {
-            *byte = self.value as u8;
-        }
+        set_byte(&mut month, self.place, self.value);
         month.resize(self.month as usize, FURTHER);
         let mut input = Vec::new();
         push_words(&mut input, &self.fields);

@@ -2,8 +2,8 @@
 //! fields that are no numbers.
 
 use super::Group;
-use crate::reference_routes::{end, End, Route};
-use crate::reference_sheets::Sheet;
+use crate::reference::routes::{end, End, Route};
+use crate::reference::sheets::Sheet;
 
 pub fn groups() -> Vec<Group> {
     vec![

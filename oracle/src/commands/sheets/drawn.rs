@@ -1,11 +1,11 @@
 //! Random sheets of every section.
 
 use super::Group;
-use crate::generator::Generator;
-use crate::reference_routes::Route;
-use crate::reference_sheets::Sheet;
-use crate::route_kinds::{between, ONE_POINT, THREE_POINTS};
-use crate::sheet_kinds::{any_bits, in_range, outside};
+use crate::draw::generator::Generator;
+use crate::draw::route_kinds::{between, ONE_POINT, THREE_POINTS};
+use crate::draw::sheet_kinds::{any_bits, in_range, outside};
+use crate::reference::routes::Route;
+use crate::reference::sheets::Sheet;
 
 const SEED: u64 = 0x7368_6565;
 const HALF_ROUND: f64 = 20_000.0;

@@ -4,14 +4,14 @@
 use super::by_hand::with;
 use super::drawn::along;
 use super::{set_of, trail, Group};
-use crate::branches::{Side, BRANCHES};
-use crate::generator::Generator;
-use crate::reference_routes::end;
-use crate::reference_sheets::{showing, Sheet};
-use crate::route_kinds::between;
-use crate::steps::Step;
-use crate::voacap::con::D2R;
-use crate::voacap::ionosphere::{cofion, versy, virtim, DELZ, SUN};
+use crate::draw::generator::Generator;
+use crate::draw::route_kinds::between;
+use crate::reference::branches::{Side, BRANCHES};
+use crate::reference::routes::end;
+use crate::reference::sheets::{showing, Sheet};
+use crate::reference::steps::Step;
+use crate::reference::voacap::con::D2R;
+use crate::reference::voacap::ionosphere::{cofion, versy, virtim, DELZ, SUN};
 
 const SEED: u64 = 0x6c69_6d69;
 const TRIES: usize = 400;
@@ -286,11 +286,11 @@ fn turn([mut low, mut high]: [u32; 2], key: &impl Fn(u32) -> f32) -> Option<u32>
 
 #[cfg(test)]
 mod tests {
-    use crate::generator::Generator;
-    use crate::reference_routes::plain;
-    use crate::route_kinds::of_any_kind;
-    use crate::voacap::con::D2R;
-    use crate::voacap::ionosphere::SUN;
+    use crate::draw::generator::Generator;
+    use crate::draw::route_kinds::of_any_kind;
+    use crate::reference::routes::plain;
+    use crate::reference::voacap::con::D2R;
+    use crate::reference::voacap::ionosphere::SUN;
 
     /// Latitudes of the tropics are multiples of 2^-23, and the sum of both ends
     /// of the sun is none of 2^-22. Both differences from a latitude are exact.

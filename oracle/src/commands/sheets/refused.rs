@@ -2,10 +2,11 @@
 //! lengths lent, a changed byte of the month file, the buffer's length, and
 //! number and place of the refusal.
 
-use crate::data_files::{named, Pair};
+use crate::draw::damage::set_byte;
+use crate::draw::data_files::{named, Pair};
 use crate::month_file::{markers, push_words, BYTES};
-use crate::reference_sheets::{refusal, FIGURES};
-use crate::voacap::coefficients::F2_RECORD_BYTES;
+use crate::reference::sheets::{refusal, FIGURES};
+use crate::reference::voacap::coefficients::F2_RECORD_BYTES;
 use std::collections::HashSet;
 
 /// Stands in a row for a byte that is not changed.
@@ -50,9 +51,7 @@ impl Lent {
 
     fn row(self, pair: &Pair) -> [u32; 7] {
         let mut file = pair.month[..self.file as usize].to_vec();
-        if let Some(byte) = file.get_mut(self.place as usize) {
-            *byte = self.value as u8;
-        }
+        set_byte(&mut file, self.place, self.value);
         let record = &pair.daw[..self.record as usize];
         let (number, at) = refusal(record, &file, self.buffer as usize);
         let Self {

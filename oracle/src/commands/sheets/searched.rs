@@ -1,10 +1,10 @@
 //! Sheets for what too few of the others do.
 
 use super::{set_of, trail, Section};
-use crate::branches::{Side, BRANCHES};
-use crate::generator::Generator;
-use crate::reference_sheets::Sheet;
-use crate::sheet_kinds::in_range;
+use crate::draw::generator::Generator;
+use crate::draw::sheet_kinds::in_range;
+use crate::reference::branches::{Side, BRANCHES};
+use crate::reference::sheets::Sheet;
 use std::collections::{HashMap, HashSet};
 
 const SEED: u64 = 0x7261_7265;

@@ -1,11 +1,11 @@
 //! What the vectors must show beside the branches: limits met exactly, NaNs
 //! that stop or go on, both operands of a `min` or `max`.
 
-use crate::reference_sheets::{Figures, Sheet};
-use crate::sheet_kinds::is_in_range;
-use crate::voacap::coefficients::CoefficientSet;
-use crate::voacap::con::R2D;
-use crate::voacap::ionosphere::{noisy, DELZ};
+use crate::draw::sheet_kinds::is_in_range;
+use crate::reference::sheets::{Figures, Sheet};
+use crate::reference::voacap::coefficients::CoefficientSet;
+use crate::reference::voacap::con::R2D;
+use crate::reference::voacap::ionosphere::{noisy, DELZ};
 
 /// One point of a sheet.
 struct Point<'a> {

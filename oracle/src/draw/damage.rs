@@ -1,0 +1,76 @@
+//! One damage of a month file: a cut, a changed byte or both.
+
+use crate::draw::generator::Generator;
+use crate::month_file::{markers, BYTES};
+
+/// Stands in a row for a byte that is not changed.
+pub const NOWHERE: u32 = u32::MAX;
+/// Bytes after the last marker, which a reader ignores.
+pub const EXTRA: [u8; 64] = [0xaa; 64];
+pub const LONGEST: usize = BYTES + EXTRA.len();
+
+#[derive(Clone, Copy, PartialEq, Eq, Hash)]
+pub struct Damage {
+    pub length: u32,
+    pub place: u32,
+    pub value: u32,
+}
+
+impl Damage {
+    pub fn cut(length: usize) -> Self {
+        Self {
+            length: length as u32,
+            place: NOWHERE,
+            value: 0,
+        }
+    }
+
+    pub fn change(length: usize, place: usize, value: u8) -> Self {
+        Self {
+            length: length as u32,
+            place: place as u32,
+            value: value.into(),
+        }
+    }
+
+    /// A cut anywhere or near a marker, a change anywhere or in a marker.
+    pub fn any(random: &mut Generator) -> Self {
+        let length = match random.below(4) {
+            0 => BYTES,
+            1 => LONGEST,
+            2 => anywhere(random),
+            _ => (marker(random) + random.below(16) as usize).saturating_sub(6),
+        };
+        let place = match random.below(8) {
+            0 => return Self::cut(anywhere(random)),
+            1..=3 => anywhere(random),
+            _ => marker(random) + random.below(4) as usize,
+        };
+        Self::change(length, place, random.below(256) as u8)
+    }
+
+    /// The file with the extra bytes behind it, cut, and one byte changed. A
+    /// place that was cut off changes nothing.
+    pub fn done_to(self, file: &[u8]) -> Vec<u8> {
+        let mut bytes = [file, &EXTRA].concat();
+        bytes.truncate(self.length as usize);
+        set_byte(&mut bytes, self.place, self.value);
+        bytes
+    }
+}
+
+/// A place that is not there changes nothing.
+pub fn set_byte(file: &mut [u8], place: u32, value: u32) {
+    if let Some(byte) = file.get_mut(place as usize) {
+        *byte = value as u8;
+    }
+}
+
+fn anywhere(random: &mut Generator) -> usize {
+    random.below(LONGEST as u64 + 1) as usize
+}
+
+fn marker(random: &mut Generator) -> usize {
+    let markers = markers();
+    markers[random.below(markers.len() as u64) as usize]
+}
