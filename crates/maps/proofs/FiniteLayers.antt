@@ -1156,3 +1156,13 @@ module _ (file : List ℕ) (month : ℕ) (ssn gmt : Float) (psc : Factors) (hmym
       go : (c : Bool) → le (absOf cosine) (fraction 1 1) ≡ c → T (lt (fraction 1 1) (absOf cosine))
       go false d = beyond-is cosine known d
       go true d = absurd (nan-below (subst (λ (x : Float). T (le (decimal 0 1) x)) e (zenang-range (monthlyOf file month ssn) ssn gmt psc hmym pt mag g (subst T (sym d) tt) .low)))
+
+-- So there is none, whatever the files are, in April at hour 0 at longitude 0 and 14.83 degrees south.
+pub zenang-example :
+    (file : List ℕ) (ssn : Float) (psc : Factors) (hmym : List Float) (pt : ControlPoint) (mag : MagneticVars) (g : Gammas) →
+    pt .lat ≡ radiansOf (record { 0 = minusDecimal 1483 2 }) → pt .lon ≡ record { 0 = decimal 0 1 } →
+    layersOf (monthlyOf file 4 ssn) ssn (decimal 0 1) psc hmym pt mag g .zenang .0 ≡ nan
+unfolding monthlyOf
+zenang-example file ssn psc hmym pt mag g e d =
+    zenang-nan (monthlyOf file 4 ssn) ssn (decimal 0 1) psc hmym pt mag g
+    ((λ t. le (absOf (zenithCosine (e t) (d t) (sspOf (sunOf 4) (e t)) (sslOf (decimal 0 1)))) (fraction 1 1)) ∙ cosine-beyond)

@@ -4,6 +4,7 @@ use mathlib.Core.Logic.{inl, inr}
 use mathlib.Core.Bool.{Bool, true, false, cond}
 use mathlib.Core.List.{List, [], _∷_}
 use Prim.Native.Nat.{ℕ, zero, suc, _+_, _-_, _*_, _/_, _%_, _^_, _≤_, _<_}
+use native.Mathlib.Nat.{zero-add}
 use native.Mathlib.Omega.{arith}
 use native.Mathlib.Decide.{decLt}
 use lib.Dec.{T, eqb, leb}
@@ -41,7 +42,7 @@ use Rattle.maps.proofs.Clock.{Hour}
 
 -- ---- the files
 
--- what a word of the files is held to: 65,536 in size, where those of the engine's own files are below 10,000
+-- what a word of the files is held to here: 65,536 in size, a generous bound for coefficients of MHz, of km and of ratios
 abbrev pub word : Float
 word = fin false 1 (pos 16)
 
@@ -51,7 +52,7 @@ isRead table = cond (eqb table xfm3cf) true (leb anew table)
 
 -- every f32 word that figures are made of, of an F2 record and a month file, is a number of at most 65,536 in size
 pub record Bounded (f2 month : List ℕ) : Type 0 where
-  pub inF2 : (i : ℕ) → i < 2 * f2Plane → Sized word (floatAt f2 (0 + 4 * i))
+  pub inF2 : (i : ℕ) → i < 2 * f2Plane → Sized word (floatAt f2 (4 * i))
   pub inMonth : (table i : ℕ) → T (isRead table) → i < wordsOf table → Sized word (floatAt month (placeOf table + 4 * i))
 
 -- 'sunspot number 0 to 300'
@@ -111,9 +112,12 @@ module _ (f2 month : List ℕ) (held : Bounded f2 month) where
   table-sized table w t k i h =
       blend-sized w _ _ k (held .inMonth table i t (omega arith)) (held .inMonth table (planeOf table + i) t (omega arith))
 
+  f2-word : (i : ℕ) → i < 2 * f2Plane → Sized word (floatAt f2 (0 + 4 * i))
+  f2-word i h = subst (λ (p : ℕ). Sized word (floatAt f2 p)) (sym (zero-add (4 * i))) (held .inF2 i h)
+
   f2-sized : (w : Weights) → Weighed w → (i : ℕ) → i < f2Plane → Sized blended (blendAt f2 0 f2Plane w i)
   unfolding blendAt
-  f2-sized w k i h = blend-sized w _ _ k (held .inF2 i (omega arith)) (held .inF2 (f2Plane + i) (omega arith))
+  f2-sized w k i h = blend-sized w _ _ k (f2-word i (omega arith)) (f2-word (f2Plane + i) (omega arith))
 
 -- every coefficient of the six maps, by the map and its place there
 abbrev pub Coefficients : List Float → Type 0
