@@ -21,7 +21,7 @@ use Rattle.base.specs.Angle.{radiansOf}
 use Rattle.base.specs.Elementary.{sinOf, sin32Of, cos32Of}
 use Rattle.base.specs.Fill.{fill}
 use Rattle.base.specs.Words.{floatAt}
-use Rattle.base.specs.Tables.{placeOf, wordsOf, planeOf, f2Plane, anew, xfm3cf, xesmcf, xpmap, xeslcf, xesucf, xercof, fakmap}
+use Rattle.base.specs.Tables.{placeOf, wordsOf, planeOf, xf2cof, anew, xfm3cf, xesmcf, xpmap, xeslcf, xesucf, xercof, fakmap}
 use Rattle.base.specs.Blend.{blendOf, blendAt, f2Weights, eWeights, heightWeights, eslcofOf, esmcofOf, esucofOf, f2cofOf, fm3cofOf, ercofOf, hmymOf, fakmapOf, cofionMaps, cofionOf, IA, IB, IC}
 use Rattle.base.specs.Index.{mapWord, rows}
 use Rattle.base.proofs.Order.{nought, Between}
@@ -52,7 +52,7 @@ isRead table = cond (eqb table xfm3cf) true (leb anew table)
 
 -- every f32 word that figures are made of, of an F2 record and a month file, is a number of at most 65,536 in size
 pub record Bounded (f2 month : List ℕ) : Type 0 where
-  pub inF2 : (i : ℕ) → i < 2 * f2Plane → Sized word (floatAt f2 (4 * i))
+  pub inF2 : (i : ℕ) → i < 2 * planeOf xf2cof → Sized word (floatAt f2 (4 * i))
   pub inMonth : (table i : ℕ) → T (isRead table) → i < wordsOf table → Sized word (floatAt month (placeOf table + 4 * i))
 
 -- 'sunspot number 0 to 300'
@@ -112,12 +112,12 @@ module _ (f2 month : List ℕ) (held : Bounded f2 month) where
   table-sized table w t k i h =
       blend-sized w _ _ k (held .inMonth table i t (omega arith)) (held .inMonth table (planeOf table + i) t (omega arith))
 
-  f2-word : (i : ℕ) → i < 2 * f2Plane → Sized word (floatAt f2 (0 + 4 * i))
+  f2-word : (i : ℕ) → i < 2 * planeOf xf2cof → Sized word (floatAt f2 (0 + 4 * i))
   f2-word i h = subst (λ (p : ℕ). Sized word (floatAt f2 p)) (sym (zero-add (4 * i))) (held .inF2 i h)
 
-  f2-sized : (w : Weights) → Weighed w → (i : ℕ) → i < f2Plane → Sized blended (blendAt f2 0 f2Plane w i)
+  f2-sized : (w : Weights) → Weighed w → (i : ℕ) → i < planeOf xf2cof → Sized blended (blendAt f2 (placeOf xf2cof) (planeOf xf2cof) w i)
   unfolding blendAt
-  f2-sized w k i h = blend-sized w _ _ k (f2-word i (omega arith)) (f2-word (f2Plane + i) (omega arith))
+  f2-sized w k i h = blend-sized w _ _ k (f2-word i (omega arith)) (f2-word (planeOf xf2cof + i) (omega arith))
 
 -- every coefficient of the six maps, by the map and its place there
 abbrev pub Coefficients : List Float → Type 0
