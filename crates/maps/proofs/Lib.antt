@@ -18,6 +18,8 @@ pub mod Sines
 pub mod Longitudes
 pub mod FinitePath
 pub mod FieldSpans
+pub mod FiniteField
+pub mod FieldNotZero
 pub mod Checks
 pub mod Written
 pub mod Typed
