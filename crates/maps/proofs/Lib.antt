@@ -20,6 +20,7 @@ pub mod FinitePath
 pub mod FieldSpans
 pub mod FiniteField
 pub mod FieldNotZero
+pub mod MagneticFinite
 pub mod Checks
 pub mod Written
 pub mod Typed
