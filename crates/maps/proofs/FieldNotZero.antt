@@ -83,7 +83,7 @@ module _ (lat eastLon : Radians) (n : Float) (l : T (le (absOf (clampedOf lat ea
         | inr u ↦ seen-not-zero b c c' m v' C C' M V'' (and-r (seen n a c c' v m) (seen n b c c' m v') s) h (record { low = u; high = k .high })
       ]
 
--- ---- the boxes: 133, for longitudes from `from` n to `upTo` n that are nearest to n quarter turns
+-- ---- the boxes, 133 of them: one set of cuts for the longitudes that are nearest to n quarter turns, which are from `from` n to `upTo` n, and one computation for each set
 abbrev from : ℕ → Float
 from zero = fin false 0 (pos 0)
 from (suc zero) = fin false 25735 (negsuc 14)

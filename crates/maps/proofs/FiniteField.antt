@@ -83,6 +83,11 @@ below (fin false (suc n) (negsuc k)) h p l m = absurd (omega (arith, le→cross 
 abbrev Pinned : Float → Type 0
 Pinned v = Between (neg RD) RD v
 
+-- from -RD to -3/4, from -13/16 to 13/16, from 3/4 to RD
+sines-inside : T (inside minusEdge edge (sin32In minusTurn (span (neg RD) (fin true 3 (negsuc 1))))) × T (inside minusEdge edge (sin32In (turns 0) (span (fin true 13 (negsuc 3)) (fin false 13 (negsuc 3))))) × T (inside minusEdge edge (sin32In (turns 1) (span (fin false 3 (negsuc 1)) RD)))
+unfolding RD inside sin32In sinAtIn reducedIn sinSeriesIn cosSeriesIn hornerIn narrowed times hull lesser greater plus minus negated made point quarterOf toUnsigned absOf negative nearOf turnsOf halfPi fraction sinTerms cosTerms upFrom alternating factorial narrowOf decimal round mul neg add sub le
+sines-inside = (tt, tt, tt)
+
 module _ (v : Float) (b : Pinned v) where
   turn : Turn v
   unfolding RD decimal round neg le
@@ -101,16 +106,16 @@ module _ (v : Float) (b : Pinned v) where
 
   -- to the south, near the equator, to the north
   south : turnsOf v ≡ minusTurn → Between minusEdge edge (sin32Of v)
-  unfolding RD inside sin32In sinAtIn reducedIn sinSeriesIn cosSeriesIn hornerIn narrowed times hull lesser greater plus minus negated made point quarterOf toUnsigned absOf negative nearOf turnsOf halfPi fraction sinTerms cosTerms upFrom alternating factorial narrowOf decimal round mul neg add sub le
-  south e = sine-by minusTurn (neg RD) (fin true 3 (negsuc 1)) e tt tt (record { low = b .low; high = left-of v turn e (fin true 3 (negsuc 1)) tt }) tt
+  unfolding RD turnsOf nearOf fraction decimal round mul neg add sub le
+  south e = sine-by minusTurn (neg RD) (fin true 3 (negsuc 1)) e tt tt (record { low = b .low; high = left-of v turn e (fin true 3 (negsuc 1)) tt }) (sines-inside .0)
 
   middle : turnsOf v ≡ turns 0 → Between minusEdge edge (sin32Of v)
-  unfolding RD inside sin32In sinAtIn reducedIn sinSeriesIn cosSeriesIn hornerIn narrowed times hull lesser greater plus minus negated made point quarterOf toUnsigned absOf negative nearOf turnsOf halfPi fraction sinTerms cosTerms upFrom alternating factorial narrowOf decimal round mul neg add sub le
-  middle e = sine-by (turns 0) (fin true 13 (negsuc 3)) (fin false 13 (negsuc 3)) e tt tt (record { low = right-of v turn e (fin true 13 (negsuc 3)) tt; high = left-of v turn e (fin false 13 (negsuc 3)) tt }) tt
+  unfolding turnsOf nearOf fraction round mul neg add sub le
+  middle e = sine-by (turns 0) (fin true 13 (negsuc 3)) (fin false 13 (negsuc 3)) e tt tt (record { low = right-of v turn e (fin true 13 (negsuc 3)) tt; high = left-of v turn e (fin false 13 (negsuc 3)) tt }) (sines-inside .1)
 
   north : turnsOf v ≡ turns 1 → Between minusEdge edge (sin32Of v)
-  unfolding RD inside sin32In sinAtIn reducedIn sinSeriesIn cosSeriesIn hornerIn narrowed times hull lesser greater plus minus negated made point quarterOf toUnsigned absOf negative nearOf turnsOf halfPi fraction sinTerms cosTerms upFrom alternating factorial narrowOf decimal round mul neg add sub le
-  north e = sine-by (turns 1) (fin false 3 (negsuc 1)) RD e tt tt (record { low = right-of v turn e (fin false 3 (negsuc 1)) tt; high = b .high }) tt
+  unfolding RD turnsOf nearOf fraction decimal round mul neg add sub le
+  north e = sine-by (turns 1) (fin false 3 (negsuc 1)) RD e tt tt (record { low = right-of v turn e (fin false 3 (negsuc 1)) tt; high = b .high }) (sines-inside .2)
 
   -- no more: 2 is beyond
   beyond : (n : Float) → turnsOf v ≡ n → T (every (le (fin true 7 (pos 0)) two ∷ le two (fin false 7 (pos 0)) ∷ not (le n (turnsOf two)) ∷ [])) → ⊥
