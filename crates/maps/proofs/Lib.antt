@@ -24,6 +24,9 @@ pub mod Sines
 pub mod Longitudes
 pub mod FinitePath
 pub mod FieldSpans
+pub mod FiniteField
+pub mod FieldNotZero
+pub mod MagneticFinite
 pub mod Checks
 pub mod Written
 pub mod Typed
