@@ -41,6 +41,7 @@ use Rattle.maps.specs.Magnetic.{o, RD, HC, CT, G, H, clampedOf, powerOf,
 use Rattle.maps.proofs.Clock.{farthest, Longitude}
 use Rattle.maps.proofs.Sines.{Turn, turns, turns-is, whole, top, right-of, left-of, held, full, above-away}
 use Rattle.maps.proofs.Longitudes.{two, four, sixteen, angle, sines, lon-sized, quotient-number, neg-sized}
+use Rattle.maps.proofs.FieldSums.{magfin-arrays}
 use Rattle.maps.proofs.FieldSpans.{PlaceIn, HasPlace, Work, HasExpansion, multipleIn, multiplesIn, elementIn, orderIn, ordersIn, degreeIn, expansionIn, placeIn, place-in, expansion-at}
 
 -- ---- the sine of a latitude up to 89.9 degrees
@@ -192,10 +193,10 @@ east-in lon b = go (lt (lon .0) o) refl
 -- ---- the field
 -- what the sums are at most
 abbrev pub large : Float
-large = fin false 1 (pos 40)
+large = fin false 1 (pos 20)
 
 abbrev minusLarge : Float
-minusLarge = fin true 1 (pos 40)
+minusLarge = fin true 1 (pos 20)
 
 -- s is from 2 ^ -10 to 2
 abbrev pub least : Float
@@ -215,7 +216,7 @@ sums-in = tt
 
 -- what the part to the east is at most
 abbrev pub huge : Float
-huge = fin false 1 (pos 50)
+huge = fin false 1 (pos 30)
 
 pub record SizedUne (u : Une) : Type 0 where
   pub up : Sized large (u .up)
@@ -245,7 +246,6 @@ module _ (lat eastLon : Radians) (n : T (not (isNan (lat .0)))) (b : Between nou
   s-in = inside-between least two (everywhere .s) s-off (place-in lat eastLon sine-held (held-two _ (waves .0)) (held-two _ (waves .1)) .s)
 
   pub une-sized : SizedUne (magfinOf lat eastLon (decimal 3000000 1))
-  unfolding magfinOf
   une-sized =
       let w = expansion-at lat eastLon sine-held (held-two _ (waves .0)) (held-two _ (waves .1)) in
       let i = inside minusLarge large (expansionIn everywhere .r) in
@@ -253,11 +253,12 @@ module _ (lat eastLon : Radians) (n : T (not (isNan (lat .0)))) (b : Between nou
       let k = inside minusLarge large (expansionIn everywhere .f) in
       let t = and-l (i && j) k sums-in in
       let f = large-sized (inside-between minusLarge large (expansionIn everywhere .f) (and-r (i && j) k sums-in) (w .bphi)) in
-      record {
+      subst SizedUne (sym (magfin-arrays lat eastLon (decimal 3000000 1)))
+      (record {
         up = neg-sized _ (large-sized (inside-between minusLarge large (expansionIn everywhere .r) (and-l i j t) (w .bv)));
         north = large-sized (inside-between minusLarge large (expansionIn everywhere .t) (and-r i j t) (w .bn));
         east = quotient-sized _ _ (neg-sized _ f) s-in;
-      }
+      })
 
 -- ---- gyz
 pub square-in : (a : Float) {x : Float} → T (finite a) → Sized a x → Between nought (a ⊗ a) (x ⊗ x)
@@ -271,23 +272,27 @@ factor-sized : Sized four (decimal 28 1)
 unfolding decimal round absOf negative le
 factor-sized = record { size = tt }
 
-times-finite : (x : Float) → Between nought (fin false 1 (pos 52)) x → T (finite (decimal 28 1 ⊗ x))
+-- what the gyrofrequency is at most
+abbrev pub gyration : Float
+gyration = fin false 1 (pos 40)
+
+factor-times : (x : Float) → Between nought (fin false 1 (pos 32)) x → Sized gyration (decimal 28 1 ⊗ x)
 unfolding neg mul le
-times-finite x b = sized-finite {a = fin false 1 (pos 60)} tt (times-sized (fin false 1 (pos 60)) tt factor-sized (between-sized {lo = nought} {hi = fin false 1 (pos 52)} (fin false 1 (pos 52)) tt b))
+factor-times x b = times-sized gyration tt factor-sized (between-sized {lo = nought} {hi = fin false 1 (pos 32)} (fin false 1 (pos 32)) tt b)
 
 module _ (u : Une) (h : SizedUne u) where
-  horizontal-in : Between nought (fin false 1 (pos 101)) (horizontal u)
+  horizontal-in : Between nought (fin false 1 (pos 61)) (horizontal u)
   unfolding mul add le
-  horizontal-in = add-in binary32 nought (fin false 1 (pos 101)) tt (square-in large tt (h .north)) (square-in huge tt (h .east))
+  horizontal-in = add-in binary32 nought (fin false 1 (pos 61)) tt (square-in large tt (h .north)) (square-in huge tt (h .east))
 
-  pub gyz-finite : T (finite (decimal 28 1 ⊗ sqrtOf binary32 (u .up ⊗ u .up ⊕ u .north ⊗ u .north ⊕ u .east ⊗ u .east)))
-  gyz-finite = times-finite _ root-in
+  gyz-sized : Sized gyration (decimal 28 1 ⊗ sqrtOf binary32 (u .up ⊗ u .up ⊕ u .north ⊗ u .north ⊕ u .east ⊗ u .east))
+  gyz-sized = factor-times _ root-in
     where
-      sum-in : Between nought (fin false 1 (pos 102)) (u .up ⊗ u .up ⊕ u .north ⊗ u .north ⊕ u .east ⊗ u .east)
-      sum-in = unfold mul add le in add-in binary32 nought (fin false 1 (pos 102)) tt (add-in binary32 nought (fin false 1 (pos 101)) tt (square-in large tt (h .up)) (square-in large tt (h .north))) (square-in huge tt (h .east))
+      sum-in : Between nought (fin false 1 (pos 62)) (u .up ⊗ u .up ⊕ u .north ⊗ u .north ⊕ u .east ⊗ u .east)
+      sum-in = unfold mul add le in add-in binary32 nought (fin false 1 (pos 62)) tt (add-in binary32 nought (fin false 1 (pos 61)) tt (square-in large tt (h .up)) (square-in large tt (h .north))) (square-in huge tt (h .east))
 
-      root-in : Between nought (fin false 1 (pos 52)) (sqrtOf binary32 (u .up ⊗ u .up ⊕ u .north ⊗ u .north ⊕ u .east ⊗ u .east))
-      root-in = unfold round sqrtOf le in sqrt-in nought (fin false 1 (pos 52)) binary32 tt sum-in
+      root-in : Between nought (fin false 1 (pos 32)) (sqrtOf binary32 (u .up ⊗ u .up ⊕ u .north ⊗ u .north ⊕ u .east ⊗ u .east))
+      root-in = unfold round sqrtOf le in sqrt-in nought (fin false 1 (pos 32)) binary32 tt sum-in
 
 -- ---- gmdip: a quotient is a number unless zero is divided by zero
 lt-positive : (x : Float) → T (finite x) → T (lt nought x) → T (positive x)
@@ -345,9 +350,6 @@ gob-root : (lat : Radians) → Sized angle (lat .0) → Between least two (sqrtO
 unfolding decimal round sqrtOf le
 gob-root lat h = sqrt-in {a = decimal 1 6} {b = two} least two binary32 tt (gob-in lat h)
 
-atan-finite : (x : Float) → T (not (isNan x)) → T (finite (atan32Of x))
-atan-finite x h = two-finite (atan32Of x) (atan32-size x h)
-
 atan-sized : (x : Float) → T (not (isNan x)) → Sized sixteen (atan32Of x)
 unfolding fraction round le
 atan-sized x h = record { size = trans-le (absOf (atan32Of x)) (fraction 2 1) sixteen (atan32-size x h) tt }
@@ -356,14 +358,14 @@ module _ (u : Une) (h : SizedUne u) (lat : Radians) (k : Sized angle (lat .0)) w
   steep : T (lt nought (absOf (u .up))) ⊎ T (lt nought (horizontal u)) → T (not (isNan (neg (u .up) ⊘ sqrtOf binary32 (horizontal u))))
   steep (inl a) = of-not-zero (neg (u .up)) (sqrtOf binary32 (horizontal u)) (neg-finite (u .up) (sized-finite tt (h .up))) (between-finite tt tt w) (abs-neg-lt (u .up) a)
     where
-      w : Between nought (fin false 1 (pos 52)) (sqrtOf binary32 (horizontal u))
-      w = unfold round sqrtOf le in sqrt-in nought (fin false 1 (pos 52)) binary32 tt (horizontal-in u h)
+      w : Between nought (fin false 1 (pos 32)) (sqrtOf binary32 (horizontal u))
+      w = unfold round sqrtOf le in sqrt-in nought (fin false 1 (pos 32)) binary32 tt (horizontal-in u h)
   steep (inr a) =
       let p = lt-positive (horizontal u) (between-finite tt tt (horizontal-in u h)) a in
       by-positive (neg (u .up)) (sqrtOf binary32 (horizontal u)) (neg-finite (u .up) (sized-finite tt (h .up))) (sqrt-nearest binary32 (horizontal u) (add-fits binary32 (u .north ⊗ u .north) (u .east ⊗ u .east)) p .above-zero)
 
-  dip-finite : T (lt nought (absOf (u .up))) ⊎ T (lt nought (horizontal u)) → T (finite (atan32Of (atan32Of (neg (u .up) ⊘ sqrtOf binary32 (horizontal u)) ⊘ sqrtOf binary32 (gobOf lat))))
-  dip-finite a = atan-finite _ (quotient-number _ _ least (atan-sized _ (steep a)) tt (above-away least _ (gob-root lat k .low)))
+  dip-sized : T (lt nought (absOf (u .up))) ⊎ T (lt nought (horizontal u)) → Sized sixteen (atan32Of (atan32Of (neg (u .up) ⊘ sqrtOf binary32 (horizontal u)) ⊘ sqrtOf binary32 (gobOf lat)))
+  dip-sized a = atan-sized _ (quotient-number _ _ least (atan-sized _ (steep a)) tt (above-away least _ (gob-root lat k .low)))
 
 -- ---- the magnetic values of a point
 pub record FiniteMagnetic (m : MagneticVars) : Type 0 where
@@ -383,11 +385,11 @@ module _ (lat lon : Radians) (h : Sized angle (lat .0)) (k : Longitude (lon .0))
   unfolding magvarOf
   east-finite = between-finite tt tt (east-in lon k)
 
-  pub gyrofrequency-finite : T (finite (magvarOf lat lon .gyz))
+  pub gyrofrequency-sized : Sized gyration (magvarOf lat lon .gyz)
   unfolding magvarOf
-  gyrofrequency-finite = gyz-finite (over lat lon) une-here
+  gyrofrequency-sized = gyz-sized (over lat lon) une-here
 
   -- the dip, if the field is not zero: if its vertical part is not zero, or the square of its horizontal part
-  pub dip-finite-if : T (lt o (absOf (over lat lon .up))) ⊎ T (lt o (horizontal (over lat lon))) → T (finite (magvarOf lat lon .gmdip .0))
+  pub dip-sized-if : T (lt o (absOf (over lat lon .up))) ⊎ T (lt o (horizontal (over lat lon))) → Sized sixteen (magvarOf lat lon .gmdip .0)
   unfolding magvarOf o decimal round
-  dip-finite-if a = dip-finite (over lat lon) une-here lat h a
+  dip-sized-if a = dip-sized (over lat lon) une-here lat h a

@@ -35,8 +35,8 @@ use Rattle.base.proofs.Indexing.{reads-inside}
 use Rattle.base.proofs.Maps.{cofion-at}
 use Rattle.maps.specs.declared.ionosphere.versy.Gammas.{Gammas}
 use Rattle.maps.specs.Loop.{times, loop}
-use Rattle.maps.specs.Virtim.{GoodTable, timeOf, Wave, waveOf, hourWave, valueOf, rowValue, virtimOf}
-use Rattle.maps.specs.Versy.{powerOf, raised, cxOf, tOf, cosWave, sinWave, harmonicOf, geographicFrom, geographicOf, gammaOf, versyOf, gammasOf}
+use Rattle.maps.specs.Virtim.{GoodTable, timeOf, Wave, waveOf, hourWave, valueOf, rowValue, timeMapOf, virtimOf}
+use Rattle.maps.specs.Versy.{powerOf, raised, cxOf, tOf, cosWave, sinWave, harmonicOf, geographicFrom, geographicOf, gammaOf, seriesOf, versyOf, gammasOf}
 use Rattle.maps.specs.Noisy.{Turn, turnOf, columnOf, zzOf, latitudeSum, noisySum, noisyOf}
 use Rattle.maps.proofs.Clock.{Hour}
 
@@ -316,7 +316,7 @@ module _ (cof : List Float) (index : List ℕ) (gmt : Float) (c : Coefficients c
 
   -- what `virtim` makes of them at an hour
   pub virtim-sized : Full (virtimOf cof index gmt)
-  unfolding virtimOf loop
+  unfolding virtimOf timeMapOf loop
   virtim-sized = steps-full 6 (omega arith)
 
 -- ---- the geographic functions
@@ -504,7 +504,7 @@ module _ (ab : List Float) (index : List ℕ) (full : Full ab) (good : GoodTable
 
   -- at most 2 ^ 50 in size, and so finite
   pub gammas-sized : (dip lat : Float) → Sized angle dip → Sized angle lat → Mapped (gammasOf ab index dip lat clg gob)
-  unfolding gammasOf versyOf
+  unfolding gammasOf versyOf seriesOf
   gammas-sized dip lat d l = record {
     g1 = map-sized 0 dip (omega arith) d;
     g2 = map-sized 1 dip (omega arith) d;

@@ -38,3 +38,4 @@ pub mod FieldSums
 pub mod Midnight
 pub mod NoSun
 pub mod GoodSheet
+pub mod FiniteSheets

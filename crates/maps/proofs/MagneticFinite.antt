@@ -18,15 +18,17 @@ use Rattle.base.proofs.Intervals.{between-positive}
 use Rattle.base.proofs.Sizes.{Sized, sized-number, sized-finite}
 use Rattle.maps.specs.declared.inputs.MagneticPole.{MagneticPole}
 use Rattle.maps.specs.declared.magnetic.Field.{Field}
+use Rattle.maps.specs.declared.magnetic.Place.{Place}
 use Rattle.maps.specs.declared.magnetic.Une.{Une}
 use Rattle.maps.specs.declared.geometry.ControlPoint.{ControlPoint}
 use Rattle.maps.specs.Geometry.{pathOf, nowhere}
-use Rattle.maps.specs.Magnetic.{o, placedOf, expansionOf, magfinOf, eastOf, magvarOf}
+use Rattle.maps.specs.Magnetic.{o, placedOf, expansionOf, eastOf, magvarOf}
 use Rattle.maps.proofs.Clock.{Longitude, above-zero}
 use Rattle.maps.proofs.Sines.{Away, mul-away, above-away, full}
-use Rattle.maps.proofs.Longitudes.{two, angle, Typed}
+use Rattle.maps.proofs.Longitudes.{two, sixteen, angle, Typed}
+use Rattle.maps.proofs.FieldSums.{magfin-arrays}
 use Rattle.maps.proofs.FinitePath.{Located, points-located}
-use Rattle.maps.proofs.FiniteField.{least, large, huge, SizedUne, s-in, une-sized, square-in, over, horizontal, east-in, FiniteMagnetic, east-finite, gyrofrequency-finite, dip-finite-if}
+use Rattle.maps.proofs.FiniteField.{least, large, huge, SizedUne, s-in, une-sized, square-in, over, horizontal, east-in, FiniteMagnetic, east-finite, gyration, gyrofrequency-sized, dip-sized-if}
 use Rattle.maps.proofs.FieldNotZero.{little, NotZero, vertical, northward, eastward, field-not-zero}
 
 -- ---- squares
@@ -99,22 +101,42 @@ module _ (lat lon : Radians) (h : Sized angle (lat .0)) (k : Longitude (lon .0))
   sized = une-sized lat (eastOf lon) (sized-number h) (east-in lon k)
 
   not-zero : NotZero (expansionOf (placedOf lat (eastOf lon) (decimal 3000000 1))) → T (lt nought (absOf (over lat lon .up))) ⊎ T (lt nought (horizontal (over lat lon)))
-  unfolding magfinOf
-  not-zero (vertical a) = inl (above-zero little _ (little-ends .1) (turned-away _ a))
-  not-zero (northward a) = inr (by-north (over lat lon) sized (trans-le half little _ (little-ends .0) a))
-  not-zero (eastward a) =
-      let s = s-in lat (eastOf lon) (sized-number h) (east-in lon k) in
-      let p = dividend-finite _ _ (between-finite tt tt s) (sized-finite tt (sized .east)) in
-      inr (by-east (over lat lon) sized (quotient-away _ _ (size-finite _ p) s (turned-away _ a)))
+  not-zero z = subst (λ (w : Une). T (lt nought (absOf (w .up))) ⊎ T (lt nought (horizontal w))) (sym e) (go z)
+    where
+      place : Place
+      place = placedOf lat (eastOf lon) (decimal 3000000 1)
+
+      u : Une
+      u = record { up = neg (expansionOf place .bv); north = expansionOf place .bn; east = neg (expansionOf place .bphi) ⊘ place .s }
+
+      e : over lat lon ≡ u
+      e = magfin-arrays lat (eastOf lon) (decimal 3000000 1)
+
+      small : SizedUne u
+      small = subst SizedUne e sized
+
+      go : NotZero (expansionOf place) → T (lt nought (absOf (u .up))) ⊎ T (lt nought (horizontal u))
+      go (vertical a) = inl (above-zero little _ (little-ends .1) (turned-away _ a))
+      go (northward a) = inr (by-north u small (trans-le half little _ (little-ends .0) a))
+      go (eastward a) =
+          let s = s-in lat (eastOf lon) (sized-number h) (east-in lon k) in
+          let p = dividend-finite _ _ (between-finite tt tt s) (sized-finite tt (small .east)) in
+          inr (by-east u small (quotient-away _ _ (size-finite _ p) s (turned-away _ a)))
 
   zero-is : o ≡ nought
   unfolding o decimal round
   zero-is = refl
 
+  pub gmdip-sized : Sized sixteen (magvarOf lat lon .gmdip .0)
+  gmdip-sized =
+      dip-sized-if lat lon h k
+      (subst (λ (z : Float). T (lt z (absOf (over lat lon .up))) ⊎ T (lt z (horizontal (over lat lon)))) (sym zero-is)
+      (not-zero (field-not-zero lat (eastOf lon) (sized-number h) (east-in lon k))))
+
   pub magnetic-finite : FiniteMagnetic (magvarOf lat lon)
   magnetic-finite = record {
-    gyz = gyrofrequency-finite lat lon h k;
-    gmdip = dip-finite-if lat lon h k (subst (λ (z : Float). T (lt z (absOf (over lat lon .up))) ⊎ T (lt z (horizontal (over lat lon)))) (sym zero-is) (not-zero (field-not-zero lat (eastOf lon) (sized-number h) (east-in lon k))));
+    gyz = sized-finite tt (gyrofrequency-sized lat lon h k);
+    gmdip = sized-finite tt gmdip-sized;
     «east_lon» = east-finite lat lon h k;
   }
 
