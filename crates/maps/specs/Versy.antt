@@ -1,5 +1,6 @@
--- `versy` of ionosphere.rs: a map's value is the sum of its time coefficients D_j, each times a geographic function of the place G_j, and the
--- geographic functions are given in closed form from the map's ladder of words. Series.antt has the whole formula. Assumes nothing.
+-- `versy` of ionosphere.rs: a map's value is the sum of its time coefficients D_j, each times a geographic function G_j of the
+-- place, and the geographic functions are given in closed form from the map's ladder of words. Series.antt has the whole
+-- formula. Assumes nothing.
 use Prim.Native.Nat.{ℕ, zero, suc, _+_, _-_, _*_, _/_, _%_}
 use mathlib.Core.Bool.{cond}
 use mathlib.Core.List.{List}

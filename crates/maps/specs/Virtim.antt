@@ -51,7 +51,8 @@ valueOf v cof at zero = getD cof at nan
 valueOf v cof at (suc ka) =
     valueOf v cof at ka ⊕ v ka .s ⊗ getD cof (at + 2 * ka + 1) nan ⊕ v ka .c ⊗ getD cof (at + 2 * ka + 2) nan
 
--- D(T) = U_0 + sum over h = 1 .. n of (U_{2h-1} sin hT + U_{2h} cos hT) of a row's coefficients u: v (h - 1) has cos hT and sin hT
+-- D(T) = U_0 + sum over h = 1 .. n of (U_{2h-1} sin hT + U_{2h} cos hT): u are a row's coefficients, v (h - 1) has cos hT
+-- and sin hT
 unfoldable pub dailyOf : (ℕ → Wave) → (ℕ → Float) → ℕ → Float
 dailyOf v u zero = u 0
 dailyOf v u (suc n) = dailyOf v u n ⊕ v n .s ⊗ u (2 * n + 1) ⊕ v n .c ⊗ u (2 * n + 2)
