@@ -25,8 +25,6 @@ pub mod Longitudes
 pub mod FinitePath
 pub mod FieldSpans
 pub mod FiniteField
-pub mod FieldNotZero
-pub mod MagneticFinite
 pub mod Checks
 pub mod Written
 pub mod Typed
@@ -35,6 +33,11 @@ pub mod FigurePlaces
 pub mod Ignored
 pub mod Legendre
 pub mod FieldSums
+pub mod Strips
+pub mod FieldBoxes
+pub mod FieldNotZero
+pub mod DipDefined
+pub mod MagneticFinite
 pub mod Midnight
 pub mod NoSun
 pub mod GoodSheet
