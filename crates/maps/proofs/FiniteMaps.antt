@@ -46,11 +46,11 @@ use Rattle.maps.proofs.Clock.{Hour}
 abbrev pub word : Float
 word = fin false 1 (pos 16)
 
--- the tables that figures are made of: `xfm3cf`, and `anew` to `xercof`
+-- the tables that figures are made of: `xfm3cf`, and `anew` to `xercof` (a number above 20 has no words)
 abbrev pub isRead : ℕ → Bool
 isRead table = cond (eqb table xfm3cf) true (leb anew table)
 
--- every f32 word that figures are made of, of an F2 record and a month file, is a number of at most 65,536 in size
+-- every f32 word of the F2 planes and of those tables, read or not, is a number of at most 65,536 in size
 pub record Bounded (f2 month : List ℕ) : Type 0 where
   pub inF2 : (i : ℕ) → i < 2 * planeOf xf2cof → Sized word (floatAt f2 (4 * i))
   pub inMonth : (table i : ℕ) → T (isRead table) → i < wordsOf table → Sized word (floatAt month (placeOf table + 4 * i))

@@ -1,5 +1,5 @@
 -- Which figures of a sheet in range are finite, by their places among the 151: those of the path, of each point and of the field there, and the ground, of any files; Es beside
--- bounded words of the files; the layers besides where the point is ordinary. What the laws of a point ask (`Placed`) every control point of such a route has. Assumes nothing.
+-- bounded words of the files; all 29 numbers of a point besides where it is ordinary. What the laws of a point ask (`Placed`) every control point of such a route has. Assumes nothing.
 use mathlib.Core.Path.{_≡_, refl, sym, subst}
 use mathlib.Core.Bool.{false}
 use mathlib.Core.List.{List, [], _∷_}
@@ -203,6 +203,40 @@ module _ (f2 file : List ℕ) (i : Inputs) (p : ℕ) where
         seven (suc (suc (suc (suc (suc zero))))) h = f .gmdip
         seven (suc (suc (suc (suc (suc (suc zero)))))) h = f .«east_lon»
         seven (suc (suc (suc (suc (suc (suc (suc k))))))) h = absurd (omega arith)
+
+    -- the ground pair, of any files
+    pub sheet-ground-finite : (k : ℕ) → k < 2 → T (finite (getD (figuresOf f2 file i) (6 + 29 * (p - 1) + (27 + k)) nan))
+    unfolding pointRow numbersOf
+    sheet-ground-finite k b =
+        subst (λ (x : Float). T (finite x)) (sym (present-at f2 file i p (27 + k) l c (omega arith)))
+        (two k b)
+      where
+        g : T (finite (groundOf (hourOf f2 file i .monthly) (hourOf f2 file i .fakmap) (spot i p .lat) (fieldAt i p .«east_lon») .0)) × T (finite (groundOf (hourOf f2 file i .monthly) (hourOf f2 file i .fakmap) (spot i p .lat) (fieldAt i p .«east_lon») .1))
+        g = ground-finite (hourOf f2 file i .monthly) (hourOf f2 file i .fakmap) (spot i p .lat) (fieldAt i p .«east_lon»)
+
+        two : (k : ℕ) → k < 2 → T (finite (getD (pointRow (hourOf f2 file i) i (spot i p)) (27 + k) nan))
+        two zero h = g .0
+        two (suc zero) h = g .1
+        two (suc (suc k)) h = absurd (omega arith)
+
+    -- sporadic E, where the fields are in range, the index check passed and the files' words are bounded
+    pub sheet-es-finite :
+        Fields (i .ssn) (i .gmt) (i .psc) → Bounded f2 file → indexCheck file ≡ Accepted →
+        (k : ℕ) → k < 4 → T (finite (getD (figuresOf f2 file i) (6 + 29 * (p - 1) + (23 + k)) nan))
+    unfolding pointRow numbersOf
+    sheet-es-finite F held passed k b =
+        subst (λ (x : Float). T (finite x)) (sym (present-at f2 file i p (23 + k) l c (omega arith)))
+        (four k b)
+      where
+        e : EsFinite (esindOf gammas (i .psc .es))
+        e = point-es f2 file i held passed F (spot i p) (point-placed i r p l m)
+
+        four : (k : ℕ) → k < 4 → T (finite (getD (pointRow (hourOf f2 file i) i (spot i p)) (23 + k) nan))
+        four zero h = e .fs0
+        four (suc zero) h = e .fs1
+        four (suc (suc zero)) h = e .fs2
+        four (suc (suc (suc zero))) h = e .hs
+        four (suc (suc (suc (suc k)))) h = absurd (omega arith)
 
     -- ALL 29 NUMBERS of an ordinary point, where the fields are in range, the index check passed and the files' words are bounded
     pub sheet-finite :

@@ -1,5 +1,5 @@
 -- Legendre's functions as magnetic.rs has them: the recurrences of a textbook, the first values, the zeros for m above n, and that the constants
--- of the recurrence are Gauss's to the eighth decimal. By the clauses of `pOf` and `dpOf`. Assumes nothing.
+-- of the recurrence have Gauss's digits to less than a unit of the eighth. By the clauses of `pOf` and `dpOf`. Assumes nothing.
 use Prim.Native.Nat.{ℕ, zero, suc, _+_, _-_, _*_, _^_, _≤_, _<_}
 use mathlib.Core.Path.{_≡_, refl, _∙_}
 use native.Mathlib.Omega.{arith}
@@ -99,8 +99,8 @@ module _ (c s : Float) where
 
 -- ---- the constants
 
--- Gauss's recurrence takes P(n - 2, m) times ((n - 1)² - m²) / ((2 n - 1) (2 n - 3)); CT(n, m) is a decimal of eight digits less than one unit of
--- the eighth from it
+-- Gauss's recurrence takes P(n - 2, m) times ((n - 1)² - m²) / ((2 n - 1) (2 n - 3)); CT(n, m) is the f32 nearest to a decimal of eight
+-- digits that is less than one unit of the eighth from it
 pub record Gauss (n m : ℕ) : Type 0 where
   pub digits : ℕ
   pub value : entry CT n m ≡ decimal digits 8

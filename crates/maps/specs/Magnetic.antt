@@ -30,7 +30,7 @@ use Rattle.maps.specs.declared.magnetic.MagneticVars.{MagneticVars}
 unfoldable pub o : Float
 o = decimal 0 1
 
--- 89.9 degrees, in radians
+-- about 89.9 degrees, in radians
 unfoldable pub RD : Float
 RD = decimal 156905124 8
 

@@ -1,4 +1,4 @@
--- CCIR Report 340: a map's value at a place and an hour, in the report's letters,
+-- CCIR Report 340: a map's value at a place and an hour; j counts the geographic functions, h the harmonics of the day,
 --     Omega(place, T) = sum over j = 0 .. n of D_j(T) G_j(place)
 --     D_j(T) = U_{0,j} + sum over h = 1 .. H of (U_{2h-1,j} sin hT + U_{2h,j} cos hT)
 -- T is the hour's angle (`timeOf`), the U_{s,j} are the map's coefficients at the sunspot number (`coefficientOf`), the D_j
