@@ -7,14 +7,16 @@ use mathlib.Core.Path.{_≡_, refl, sym, ap, subst, _∙_}
 use lib.Ieee.{Float}
 use Rattle.base.specs.declared.refusal.Verdict.the-variants.{Accepted}
 use Rattle.maps.specs.declared.figures.Shown.the-variants.{Points}
+use Rattle.maps.specs.declared.inputs.Inputs.{Inputs}
 use Rattle.worksheet.specs.declared.desks.Worksheet.{Worksheet}
 use Rattle.worksheet.specs.declared.inputs.Edit.{Edit}
-use Rattle.worksheet.specs.Desks.{freshSheet, openOf, openedOf}
+use Rattle.worksheet.specs.Desks.{setOf, freshSheet, openOf, openedOf}
 use Rattle.worksheet.specs.Showing.{Source, pair}
 use Rattle.worksheet.specs.Journal.{Call, show, shown, Entry, run}
-use Rattle.worksheet.specs.InForce.{changesBy, commitsInForce, inForce, startLeft, FiguresOf, NeverCancelled, Insured}
+use Rattle.worksheet.specs.InForce.{changesBy, commitsInForce, inForce, takenBack, startLeft, FiguresOf, NeverCancelled, Insured}
 use Rattle.worksheet.proofs.Drafts.{atRest}
 use Rattle.worksheet.proofs.Insured.{in-force, insurers-line-lent}
+use Rattle.worksheet.proofs.Lasting.{same-start}
 use Rattle.worksheet.proofs.Unbroken.{never-cancelled, insurers-sentence-lent}
 use Rattle.jutetrowel.specs.Words.{worksheetOf, wordsAfter}
 use Rattle.jutetrowel.specs.Calls.{CallsSingles, entriesOver, wordsOver}
@@ -79,3 +81,16 @@ pub insurers-line-over :
     FiguresOf (pair f2 file) (inForce (worksheetOf (wordsAfter (openedOf s) words)) before) count figures
 insurers-line-over f2 file s words h cs k =
     insurers-line-over-lent (pair f2 file) (wordsAfter (openedOf s) words) (open-rest s words h) cs k
+
+-- THE INSURER'S SENTENCE of the same, from the inputs that the words open with
+pub insurers-sentence-opened :
+    (f2 file s words : List ℕ) → openedOf s .answer ≡ Accepted → (cs : List Call) → CallsSingles cs →
+    (before later : List Entry) (lent figures : List Float) (count : ℕ) →
+    entriesOver (pair f2 file) cs (wordsAfter (openedOf s) words)
+    ≡ before ++ (record { call = show 0 lent; answer = shown (Points count) figures } ∷ later) →
+    Insured (pair f2 file) (openedOf s .sheet .inputs) before count figures
+unfolding openedOf openOf freshSheet setOf
+insurers-sentence-opened f2 file s words h cs k before later lent figures count e =
+    subst (λ (i : Inputs). Insured (pair f2 file) i before count figures)
+    (ap (λ (w : Worksheet). startLeft w before) (open-read s words h) ∙ same-start (takenBack before) (openedOf s .sheet .inputs))
+    (insurers-sentence-over (pair f2 file) (wordsAfter (openedOf s) words) (open-rest s words h) cs k before later lent figures count e)

@@ -1,4 +1,4 @@
--- A call as a run of little-endian words, as README.md's table of calls has it. Assumes nothing.
+-- A call as a run of little-endian words, as docs/PROGRAMS.md's table of calls has it. Assumes nothing.
 use Prim.Native.Nat.{ℕ, _*_}
 use mathlib.Core.List.{List, [], _∷_}
 use lib.ListN.{getD}

@@ -14,3 +14,4 @@ pub mod Lasting
 pub mod Insured
 pub mod Unbroken
 pub mod ShownClocks
+pub mod GoodShowing

@@ -139,7 +139,7 @@ unfoldable pub commitsLeft : List Entry → List Entry → List Commit
 commitsLeft past [] = []
 commitsLeft past (x ∷ later) = commitsLeft (x ∷ past) later ++ leftBy past x (roleIn x) (good x) (takenBack later)
 
--- the inputs that those commits changed: the worksheet's own, or its earlier set, where the first of all takes back
+-- the inputs that those commits changed: the worksheet's own, or its earlier set, where the first accepted commit or take-back of all is a take-back
 abbrev pub startLeft : Worksheet → List Entry → Inputs
 startLeft w entries = cond (takenBack entries) (setOf (w .earlier) (w .inputs)) (w .inputs)
 
@@ -234,7 +234,7 @@ module _ (source : Source) where
     pub edits : List Edit
     -- one set of inputs has all the figures
     pub one-set : FiguresOf source (changed start edits) count figures
-    -- it has the changes of all commits that were not taken back, in their order, each once
+    -- it has the changes of all accepted commits that were not taken back, in their order, each once
     pub all-edits : edits ≡ changesBy (commitsLeft [] entries)
     -- and each of them was committed and never cancelled
     pub none-cancelled : (e : Edit) → List·Memᴰ e edits → NeverCancelled entries e
