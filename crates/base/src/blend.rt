@@ -76,8 +76,8 @@ fn blended_words(w: Weights, x0: u32, x1: u32) -> f32
     }
 }
 
-// Two planes of `width` words each, one after the other from `at` on, blended into `out` from `base`
-// on.
+// Two planes of `width` words each, one after the other from `at` on, blended into `out` from
+// `base` on.
 fn blend(s: &[u8], at: usize, width: usize, w: Weights, out: &mut [f32], base: usize)
     requires { ⌜ (at ≤ 65536) × (width ≤ 65536) × (at + 8 * width ≤ length (now s)) × (base + width ≤ length (now out)) ⌝ }
     ensures { λ _. ⌜ now (out .exit) ≡ fill (blendAt (now (s .entry)) at width w) base (now (out .entry)) width ⌝ }
@@ -104,7 +104,8 @@ const FM3COF: usize = 441;
 
 const ERCOF: usize = 198;
 
-// The numbers of a plane `P(29,16)`, 16 rows of 29: the height map and the land map are such planes.
+// The numbers of a plane `P(29,16)`, 16 rows of 29: the height map and the land map are such
+// planes.
 pub const PLANE: usize = 464;
 
 // Where each of the six maps starts among their coefficients.

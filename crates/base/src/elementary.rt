@@ -13,7 +13,7 @@ ghost use lib.Ieee.{binary64, le, minus, ofInt, ofBits};
 ghost use Rattle.base.specs.Double.{_⊕_, fraction};
 ghost use Rattle.base.specs.Number.{absOf};
 ghost use Rattle.base.specs.Elementary as steps;
-ghost use Rattle.base.specs.Elementary.{nearOf, quarterOf, powerOf, turnsOf, reducedOf, sinSeries, cosSeries, sinAt, cosAt, sinOf, cosOf, halfAngle, atanSeries, atanWithin, atanFrom, atanOf, acosOf, expWithin, expOf, lnSeries, lnSum, lnOf, sin32Of, cos32Of, atan32Of, acos32Of, exp32Of, ln32Of};
+ghost use Rattle.base.specs.Elementary.{nearOf, quarterOf, powerOfTwo, turnsOf, reducedOf, sinSeries, cosSeries, sinAt, cosAt, sinOf, cosOf, halfAngle, atanSeries, atanWithin, atanFrom, atanOf, acosOf, expWithin, expOf, lnSeries, lnSum, lnOf, sin32Of, cos32Of, atan32Of, acos32Of, exp32Of, ln32Of};
 
 // The coefficients of the series, lowest term first.
 const SIN: [f64; 8] = [
@@ -291,7 +291,7 @@ fn power_down(k: u64) -> f64
 
 // 2^n
 fn power(n: f64) -> f64
-    ensures { λ r. ⌜ r ≡ powerOf n ⌝ }
+    ensures { λ r. ⌜ r ≡ powerOfTwo n ⌝ }
 {
     let k = to_u64(abs64(n));
     if is_negative(n) {

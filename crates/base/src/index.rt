@@ -99,8 +99,8 @@ pub const INDEX: usize = 60;
 
 pub type IndexTable = [u32; INDEX];
 
-// The 60 words of `ikim`, of a file that was checked. The words that the index check does not leave free
-// are the signed ones too.
+// The 60 words of `ikim`, of a file that was checked. The words that the index check does not leave
+// free are the signed ones too.
 pub(crate) fn index_of(month: &[u8], out: &mut IndexTable)
     requires { ⌜ monthFileSize ≤ length (now month) ⌝ }
     ensures { λ _. ⌜ now (out .exit) ≡ indexOf (now (month .entry)) ⌝ }

@@ -165,8 +165,8 @@ pub fn to_u64(x: f64) -> u64
     }
 }
 
-// m / 2^n to the nearest whole number, a tie to the even one: half a unit less one is added, and one
-// more where the quotient is odd.
+// m / 2^n to the nearest whole number, a tie to the even one: half a unit less one is added, and
+// one more where the quotient is odd.
 fn half_even(m: u64, n: u64) -> u64
     requires { ⌜ (0 < n) × (n < 64) × (m < 2 ^ 63) ⌝ }
     ensures { λ r. ⌜ r ≡ closest m (2 ^ n) ⌝ }
@@ -206,8 +206,9 @@ pub fn narrow(x: f64) -> f32
     f32::from_bits((sign * 0x8000_0000 + magnitude(b % 0x8000_0000_0000_0000)) as u32)
 }
 
-// The `f32` nearest to x, kept as an `f64`. From 2^-126 on an `f32` is an `f64` whose last 29 digits
-// are 0, so that the bits are rounded where they stand; what may overflow or is below goes by `narrow`.
+// The `f32` nearest to x, kept as an `f64`. From 2^-126 on an `f32` is an `f64` whose last 29
+// digits are 0, so that the bits are rounded where they stand; what may overflow or is below goes
+// by `narrow`.
 pub fn narrowed(x: f64) -> f64
     ensures { λ r. ⌜ r ≡ narrowOf x ⌝ }
 {

@@ -3,7 +3,7 @@ use crate::number;
 ghost use mathlib.Core.Path.{_≡_};
 ghost use Prim.Native.Nat.{ℕ, _+_, _*_, _<_, _≤_};
 ghost use lib.ListN.{length, getD};
-ghost use Rattle.base.specs.Fill.{run};
+ghost use Rattle.base.specs.Fill.{tabulate};
 ghost use Rattle.base.specs.Words.{wordOf, wordAt, integerAt, floatAt};
 
 fn wide(x: u8) -> u32
@@ -84,7 +84,7 @@ pub fn float(s: &[u8], at: usize) -> f32
 // The words from `at` on into a lent array, all of it.
 pub(crate) fn read_words(s: &[u8], at: usize, out: &mut [u32])
     requires { ⌜ at + 4 * length (now out) ≤ length (now s) ⌝ }
-    ensures { λ _. ⌜ now (out .exit) ≡ run (λ i. wordAt (now (s .entry)) (at + i * 4)) (length (now (out .entry))) ⌝ }
+    ensures { λ _. ⌜ now (out .exit) ≡ tabulate (λ i. wordAt (now (s .entry)) (at + i * 4)) (length (now (out .entry))) ⌝ }
 {
     let mut i = 0usize;
     while i < out.len() {
@@ -96,7 +96,7 @@ pub(crate) fn read_words(s: &[u8], at: usize, out: &mut [u32])
 // The same of floats.
 pub(crate) fn read_floats(s: &[u8], at: usize, out: &mut [f32])
     requires { ⌜ at + 4 * length (now out) ≤ length (now s) ⌝ }
-    ensures { λ _. ⌜ now (out .exit) ≡ run (λ i. floatAt (now (s .entry)) (at + 4 * i)) (length (now (out .entry))) ⌝ }
+    ensures { λ _. ⌜ now (out .exit) ≡ tabulate (λ i. floatAt (now (s .entry)) (at + 4 * i)) (length (now (out .entry))) ⌝ }
 {
     let mut i = 0usize;
     while i < out.len() {

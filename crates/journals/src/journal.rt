@@ -1,5 +1,5 @@
-// The journals: an open and the calls that follow it, answered as `replay` answers them, over one pair
-// of files. Of each journal the file has the 14 words, the calls and the wanted text.
+// The journals: an open and the calls that follow it, answered as `replay` answers them, over one
+// pair of files. Of each journal the file has the 14 words, the calls and the wanted text.
 use crate::files::CALLS;
 use crate::files::WANTED;
 use crate::files::bytes;

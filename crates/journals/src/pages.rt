@@ -1,5 +1,5 @@
-// The pages: what `sheet page` prints of some words, over pairs of files that stand first. Of each page
-// the file has the number of its pair, the 14 words and the wanted text.
+// The pages: what `sheet page` prints of some words, over pairs of files that stand first. Of each
+// page the file has the number of its pair, the 14 words and the wanted text.
 use crate::files::WANTED;
 use crate::files::bytes;
 use crate::files::next;

@@ -1,6 +1,6 @@
-// The sheets: inputs good and bad, damaged, cut short or longer than needed, answered as `sheet` answers
-// them. Of each case the file has the 14 words, what is made of its record and month file, and the wanted
-// text.
+// The sheets: inputs good and bad, damaged, cut short or longer than needed, answered as `sheet`
+// answers them. Of each case the file has the 14 words, what is made of its record and month file,
+// and the wanted text.
 use crate::files::WANTED;
 use crate::files::bytes;
 use crate::files::next;
@@ -17,7 +17,8 @@ use listing::sheet::sheet_answer;
 use maps::inputs::FIELD_BYTES;
 ghost use Prim.Native.Nat.{_≤_};
 
-// The bytes of a record and its month file, and of the longest input: the words, the two files and more.
+// The bytes of a record and its month file, and of the longest input: the words, the two files and
+// more.
 pub const PAIR: usize = RECORD + MONTH_FILE;
 
 const INPUT: usize = FIELD_BYTES + PAIR + 1000;
@@ -66,8 +67,8 @@ fn skip(fd: i32, n: usize)
     io::read_full(fd, &mut over[a..n]);
 }
 
-// An input with the first r bytes of the record after its words, then the month file. They are read anew
-// from the file's start, where they follow its first word.
+// An input with the first r bytes of the record after its words, then the month file. They are read
+// anew from the file's start, where they follow its first word.
 fn with_files(input: [u8; INPUT], r: usize) -> [u8; INPUT]
     requires { ⌜ r ≤ 7904 ⌝ }
 {

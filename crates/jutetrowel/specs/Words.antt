@@ -1,5 +1,5 @@
--- A worksheet as the 90 words that another language lends: six sets of 15, which are the inputs, the earlier set and
--- the drafts of desks 1 to 4. Assumes nothing.
+-- A worksheet as the 90 words that another language lends: six sets of 15, which are the inputs,
+-- the earlier set and the drafts of desks 1 to 4. Assumes nothing.
 use mathlib.Core.Bool.{cond}
 use mathlib.Core.List.{List, _∷_, _++_}
 use Prim.Native.Nat.{ℕ, _+_}
@@ -75,12 +75,12 @@ draftWords Closed = noWords
 draftWords (Fresh i) = setWords 1 i
 draftWords (Stale i) = setWords 2 i
 
-unfoldable pub wordsOf : Worksheet → List ℕ
-wordsOf w =
+unfoldable pub sheetWords : Worksheet → List ℕ
+sheetWords w =
     setWords 1 (w .inputs)
     ++ (earlierWords (w .earlier)
     ++ (draftWords (w .d1) ++ (draftWords (w .d2) ++ (draftWords (w .d3) ++ draftWords (w .d4)))))
 
 -- the lent words after an outcome: 'A refusal changes neither worksheet nor lent buffer'
 abbrev pub wordsAfter : Outcome → List ℕ → List ℕ
-wordsAfter o lent = writtenOver (o .answer) (wordsOf (o .sheet)) lent
+wordsAfter o lent = writtenOver (o .answer) (sheetWords (o .sheet)) lent

@@ -1,5 +1,5 @@
-// The calls of `worksheet::journal`, over a worksheet of 90 lent words. A call that is refused leaves
-// them, bit for bit.
+// The calls of `worksheet::journal`, over a worksheet of 90 lent words. A call that is refused
+// leaves them, bit for bit.
 use crate::answers::Answer;
 use crate::answers::Showing;
 use crate::answers::numbers_of;
@@ -23,9 +23,9 @@ ghost use Rattle.worksheet.specs.Showing.{pair};
 ghost use Rattle.worksheet.specs.Journal.{begin, change, commit, cancel, takeBack, show as showing, step};
 ghost use Rattle.worksheet.specs.Calls.{called};
 ghost use Rattle.jutetrowel.specs.Answers.{answerOf};
-ghost use Rattle.jutetrowel.specs.Fields.{routeOf, factorsOf, poleOf};
+ghost use Rattle.jutetrowel.specs.Fields.{routeTyped, factorsOf, poleTyped};
 ghost use Rattle.jutetrowel.specs.Words.{worksheetOf, wordsAfter};
-ghost use Rattle.jutetrowel.specs.Calls.{numbersOf, Shows, wordsLeft, Made};
+ghost use Rattle.jutetrowel.specs.Calls.{answerNumbers, Shows, wordsLeft, Made};
 
 // A worksheet from 14 little-endian words, into the lent ones.
 #[no_mangle]
@@ -47,7 +47,7 @@ fn made(sheet: &mut [u32; SHEET_WORDS], call: Call) -> Answer
     ensures { λ r. ⌜ (
         let l = now (sheet .entry) in
         let c = called call [] in
-        (r ≡ numbersOf (step (pair [] []) c (worksheetOf l) .answer))
+        (r ≡ answerNumbers (step (pair [] []) c (worksheetOf l) .answer))
         × (now (sheet .exit) ≡ wordsLeft (pair [] []) c l)
         ) ⌝ }
 {
@@ -93,7 +93,7 @@ pub extern "C" fn jt_change_path(
     rlong: f32,
     long_path: u32,
 ) -> Answer
-    ensures { λ r. ⌜ Made (change desk (Path (routeOf tlat tlong rlat rlong «long_path»)))
+    ensures { λ r. ⌜ Made (change desk (Path (routeTyped tlat tlong rlat rlong «long_path»)))
         (now (sheet .entry)) r (now (sheet .exit)) ⌝ }
 {
     let e = Edit::Path(route(tlat, tlong, rlat, rlong, long_path));
@@ -123,7 +123,7 @@ pub extern "C" fn jt_change_pole(
     pole_lat: f32,
     pole_lon: f32,
 ) -> Answer
-    ensures { λ r. ⌜ Made (change desk (Pole (poleOf «pole_lat» «pole_lon»)))
+    ensures { λ r. ⌜ Made (change desk (Pole (poleTyped «pole_lat» «pole_lon»)))
         (now (sheet .entry)) r (now (sheet .exit)) ⌝ }
 {
     let e = Edit::Pole(pole(pole_lat, pole_lon));

@@ -18,7 +18,7 @@ ghost use Rattle.maps.specs.Inputs.{isLong};
 ghost use Rattle.maps.specs.Geometry.{pathOf};
 ghost use Rattle.maps.specs.Ionosphere.{hourMapsOf, layersAtOf};
 ghost use Rattle.jutetrowel.specs.Answers.{answerOf};
-ghost use Rattle.jutetrowel.specs.Fields.{degrees, radians, poleOf};
+ghost use Rattle.jutetrowel.specs.Fields.{degrees, radians, poleTyped};
 ghost use Rattle.jutetrowel.specs.Layers.{layerInputs, measuredOf, layersAs};
 
 // The lengths and bearings of a path, radians but for the names that say otherwise, and its points.
@@ -85,7 +85,7 @@ pub extern "C" fn jt_path(
 ) -> Measured
     ensures { λ r. ⌜ (
         let long = isLong «long_path» in
-        let pole = poleOf «pole_lat» «pole_lon» in
+        let pole = poleTyped «pole_lat» «pole_lon» in
         r ≡ measuredOf (pathOf (degrees tlat) (degrees tlong) (degrees rlat) (degrees rlong) long pole)
         ) ⌝ }
 {
@@ -145,8 +145,8 @@ fn layers_as(l: LayersAt) -> Layers
     }
 }
 
-// The layers at a place in radians, from the maps at the hour and a month file. A month that there is
-// not is refused first.
+// The layers at a place in radians, from the maps at the hour and a month file. A month that there
+// is not is refused first.
 #[no_mangle]
 pub extern "C" fn jt_layers_at(
     month: u32,
@@ -165,7 +165,7 @@ pub extern "C" fn jt_layers_at(
 ) -> Layers
     ensures { λ r. ⌜ (
         let i = layerInputs month ssn gmt «psc_e» «psc_f1» «psc_f2» «psc_es» in
-        let pole = poleOf «pole_lat» «pole_lon» in
+        let pole = poleTyped «pole_lat» «pole_lon» in
         r ≡ layersAs (layersAtOf i (now (ab .entry)) (now (file .entry)) pole (radians lat) (radians lon))
         ) ⌝ }
 {

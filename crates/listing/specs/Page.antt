@@ -14,7 +14,8 @@ use Rattle.listing.specs.Decimal.{decimalText}
 
 -- ---- the table
 
--- a number of the page: its name, of a figure the Rust's (the ground pair has none there), and its unit, which is empty where it has none
+-- a number of the page: its name, of a figure the Rust's (the ground pair has none there), and its
+-- unit, which is empty where it has none
 pub record Row : Type 0 where
   pub name : String
   pub unit : String

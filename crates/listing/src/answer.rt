@@ -13,7 +13,8 @@ ghost use Rattle.io.specs.Counts.{Counts};
 ghost use Rattle.listing.specs.Text.{Put};
 ghost use Rattle.listing.specs.Answer.{glyphOf, hexOf, lineOf, linesOf, refusalText, verdictText, pointsText, shownText, sheetText, stoppedText};
 
-// The bytes of the longest answer: `points`, a number of ten digits, and a line of nine bytes for each figure.
+// The bytes of the longest answer: `points`, a number of ten digits, and a line of nine bytes for
+// each figure.
 pub const ANSWER: usize = 18 + 9 * FIGURES;
 
 // The hexadecimal digit of d, of its last one where d has more.

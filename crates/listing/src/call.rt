@@ -15,7 +15,8 @@ ghost use mathlib.Core.Path.{_≡_};
 ghost use Prim.Native.Nat.{_≤_};
 ghost use Rattle.listing.specs.Calls.{pathEdit, pscEdit, poleEdit, changeIn, sizeOf, callIn};
 
-// The first byte of the first call of a journal: before it stand the words, the record and the month file.
+// The first byte of the first call of a journal: before it stand the words, the record and the
+// month file.
 pub const START: u64 = (FIELD_BYTES + RECORD + MONTH_FILE) as u64;
 
 pub enum Read {

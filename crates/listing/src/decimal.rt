@@ -10,7 +10,7 @@ ghost use Prim.Native.Nat.{_+_, _^_, _≤_, _<_};
 ghost use lib.ListN.{length};
 ghost use lib.Ieee.{binary32, ofFields};
 ghost use Rattle.listing.specs.Text.{Put};
-ghost use Rattle.listing.specs.Decimal.{nearestOf, signOf, leadingOf, textOf, minusOf, scaledText, decimalText};
+ghost use Rattle.listing.specs.Decimal.{nearestOf, signText, leadingOf, textOf, minusOf, scaledText, decimalText};
 
 // n / 2^s, to the nearest whole number.
 fn halved(n: u64, s: u32) -> u64
@@ -24,7 +24,7 @@ fn halved(n: u64, s: u32) -> u64
 }
 
 fn sign(negative: bool) -> u8
-    ensures { λ r. ⌜ r ≡ signOf negative ⌝ }
+    ensures { λ r. ⌜ r ≡ signText negative ⌝ }
 {
     if negative { b'-' } else { b' ' }
 }

@@ -16,8 +16,8 @@ ghost use Rattle.listing.specs.Page.{pageRow, nameText, lettersIn, unitI
 // More than the bytes of the longest page.
 pub const PAGE: usize = 12800;
 
-// The numbers of a page by name, and below by unit, in 12 and 7 letters: the fields after the month, the
-// fields after the flag, the figures of the path, the figures of a point.
+// The numbers of a page by name, and below by unit, in 12 and 7 letters: the fields after the
+// month, the fields after the flag, the figures of the path, the figures of a point.
 const NAMES: [[u8; 12]; 47] = [
     *b"ssn         ",
     *b"gmt         ",

@@ -1,4 +1,5 @@
-// A sheet's text from its 14 words, an F2 record and a month file, as the program `sheet` prints it.
+// A sheet's text from its 14 words, an F2 record and a month file, as the program `sheet` prints
+// it.
 use crate::answer::ANSWER;
 use crate::answer::refusal_text;
 use crate::answer::sheet_text;
@@ -17,8 +18,8 @@ ghost use Rattle.io.specs.Counts.{Counts};
 ghost use Rattle.listing.specs.Answer.{refusalText};
 ghost use Rattle.listing.specs.Sheet.{sheetAnswer, pageFor, pageAnswer};
 
-// The 151 lines of the worksheet that the words open, or the line of the refusal. A showing judges the
-// fields as opening does, so that it refuses what opening refuses.
+// The 151 lines of the worksheet that the words open, or the line of the refusal. A showing judges
+// the fields as opening does, so that it refuses what opening refuses.
 pub fn sheet_answer(words: &[u8], f2: &[u8], file: &[u8], out: &mut [u8; ANSWER]) -> usize
     ensures { λ r. ⌜ take r (now (out .exit)) ≡ sheetAnswer (now (words .entry)) (now (f2 .entry)) (now (file .entry)) ⌝ }
     ensures { λ r. ⌜ Counts r (now (out .exit)) ⌝ }

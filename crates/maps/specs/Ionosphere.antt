@@ -5,8 +5,7 @@ use lib.Ieee.{Float}
 use Rattle.base.specs.declared.angle.Radians.{Radians}
 use Rattle.maps.specs.declared.inputs.MagneticPole.{MagneticPole}
 use Rattle.base.specs.declared.refusal.Verdict.{Verdict}
-use Rattle.base.specs.declared.refusal.Verdict.the-variants.{Accepted, Refused}
-use Rattle.base.specs.Refusal.{_then_}
+use Rattle.base.specs.Refusal.{_then_, writtenOver}
 use Rattle.base.specs.Single.{decimal}
 use Rattle.base.specs.Elementary.{cos32Of}
 use Rattle.base.specs.Ranges.{monthCheck}
@@ -70,8 +69,7 @@ noLayers =
     }
 
 abbrev pub layersIf : Verdict → LayerParams → LayersAt
-layersIf Accepted l = record { verdict = Accepted; params = l }
-layersIf (Refused why) l = record { verdict = Refused why; params = noLayers }
+layersIf v l = record { verdict = v; params = writtenOver v l noLayers }
 
 unfoldable pub layersAtOf : LayerInputs → List Float → List ℕ → MagneticPole → Radians → Radians → LayersAt
 layersAtOf i ab file pole lat lon =

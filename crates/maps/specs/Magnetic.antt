@@ -1,6 +1,6 @@
--- magnetic.rs under its names, in closed form: sines, powers and Legendre's functions by their recurrences, and the
--- field as sums over them; each operation is one of the Rust's, in its order. What the private contracts say of its
--- arrays stands at the end. Assumes nothing.
+-- magnetic.rs under its names, in closed form: sines, powers and Legendre's functions by their
+-- recurrences, and the field as sums over them; each operation is one of the Rust's, in its order.
+-- What the private contracts say of its arrays stands at the end. Assumes nothing.
 use mathlib.Core.Bool.{cond}
 use mathlib.Core.List.{List, [], _∷_}
 use Prim.Native.Nat.{ℕ, zero, suc, _+_, _-_, _*_}
@@ -81,8 +81,8 @@ entry t n m = getD (getD t n []) m nan
 -- ---- the position
 
 -- p1 and p2, after `if p1 > RD { .. } else if p1 < -RD { .. }`
-unfoldable pub clampedOf : Radians → Radians → Position
-clampedOf lat eastLon =
+unfoldable pub clampedPlace : Radians → Radians → Position
+clampedPlace lat eastLon =
     cond (lt RD (lat .0)) (record { p1 = record { 0 = RD }; p2 = record { 0 = o } })
     (cond (lt (lat .0) (neg RD)) (record { p1 = record { 0 = neg RD }; p2 = record { 0 = o } })
     (record { p1 = lat; p2 = eastLon }))
@@ -107,7 +107,8 @@ aorOf ar (suc (suc n)) = ar ⊗ aorOf ar (suc n)
 
 -- ---- Legendre's functions, as Gauss normalised them
 
--- c is the sine of the latitude, which is the cosine of the colatitude, and s the sine of the colatitude
+-- c is the sine of the latitude, which is the cosine of the colatitude, and s the sine of the
+-- colatitude
 module _ (c s : Float) where
   -- p[n][m]; 0 for m above n, where the Rust reads what it has never written
   unfoldable pub pOf : ℕ → ℕ → Float
@@ -159,10 +160,11 @@ module _ (c s : Float) (phi : Radians) where
 
 -- ---- the field, the gyrofrequency and the dip angle
 
--- [-bv, bn, -bphi / s], where c is p1.sin(), s is (1.0 - c * c).sqrt(), and ar the ratio of the radii
+-- [-bv, bn, -bphi / s], where c is p1.sin(), s is (1.0 - c * c).sqrt(), and ar the ratio of the
+-- radii
 unfoldable pub magfinOf : Radians → Radians → Float → Une
 magfinOf lat eastLon heightM =
-    let q = clampedOf lat eastLon in
+    let q = clampedPlace lat eastLon in
     let ar = HC ⊘ (HC ⊕ heightM) in
     let c = sin32Of (q .p1 .0) in
     let s = sqrtOf binary32 (decimal 10 1 ⊖ c ⊗ c) in
@@ -178,7 +180,8 @@ eastOf lon =
 unfoldable pub gobOf : Radians → Float
 gobOf lat = let gob = cos32Of (lat .0) in cond (le gob (decimal 1 6)) (decimal 1 6) gob
 
--- gyz, gmdip and east_lon. gmdip is Rawer's modified dip mu: tan(mu) = I / sqrt(cos lat), where I is the dip.
+-- gyz, gmdip and east_lon. gmdip is Rawer's modified dip mu: tan(mu) = I / sqrt(cos lat), where I
+-- is the dip.
 unfoldable pub magvarOf : Radians → Radians → MagneticVars
 magvarOf lat lon =
     let eastLon = eastOf lon in
@@ -191,12 +194,12 @@ magvarOf lat lon =
 
 -- ---- the arrays on the way: nothing below need be believed
 
--- Only private contracts and proofs use what follows; that the arrays hold the functions above is proofs/FieldSums.antt.
--- A table of 7 by 7 numbers that changes stands as one list, row after row.
+-- Only private contracts and proofs use what follows; that the arrays hold the functions above is
+-- proofs/FieldSums.antt. A table of 7 by 7 numbers that changes stands as one list, row after row.
 
 -- CT[n], G[n] and H[n]
-unfoldable pub rowOf : ℕ → Row
-rowOf n = record { ct = getD CT n []; g = getD G n []; h = getD H n [] }
+unfoldable pub tableRow : ℕ → Row
+tableRow n = record { ct = getD CT n []; g = getD G n []; h = getD H n [] }
 
 -- a[m]
 abbrev pub at : List Float → ℕ → Float
@@ -224,17 +227,17 @@ multiplesOf phi =
     })
 
 -- the store to aor[m]
-unfoldable pub powerOf : Float → ℕ → List Float → List Float
-powerOf ar m aor = set aor m (ar ⊗ at aor (m - 1))
+unfoldable pub aorStep : Float → ℕ → List Float → List Float
+aorStep ar m aor = set aor m (ar ⊗ at aor (m - 1))
 
 -- aor: aor[0] is ar * ar, and aor[1] is aor[0] * ar
 unfoldable pub powersOf : Float → List Float
-powersOf ar = loop 2 7 (powerOf ar) (ar ⊗ ar ∷ ar ⊗ ar ⊗ ar ∷ o ∷ o ∷ o ∷ o ∷ o ∷ [])
+powersOf ar = loop 2 7 (aorStep ar) (ar ⊗ ar ∷ ar ⊗ ar ⊗ ar ∷ o ∷ o ∷ o ∷ o ∷ o ∷ [])
 
 -- what stands before the loop over n: c is p1.sin(), and s is (1.0 - c * c).sqrt()
 unfoldable pub placedOf : Radians → Radians → Float → Place
 placedOf lat eastLon heightM =
-    let q = clampedOf lat eastLon in
+    let q = clampedPlace lat eastLon in
     let ar = HC ⊘ (HC ⊕ heightM) in
     let c = sin32Of (q .p1 .0) in
     let v = multiplesOf (q .p2) in

@@ -29,7 +29,7 @@ ghost use lib.ListN.{length, getD};
 ghost use lib.Ieee.{nan};
 ghost use Rattle.base.specs.Fill.{fill};
 ghost use Rattle.maps.specs.Virtim.{GoodTable};
-ghost use Rattle.maps.specs.Figures.{hour, hourFrom, headOf, numbersOf, pointRow, rowAt, figuresTo, routeOf, shownOf, bufferAfter};
+ghost use Rattle.maps.specs.Figures.{hour, hourFrom, headOf, numbersOf, pointRow, figureRow, figuresTo, sheetPath, shownOf, figuresBuffer};
 
 // The figures of a path.
 const HEAD: usize = 6;
@@ -149,7 +149,7 @@ fn row(
     p: usize,
 ) -> [f32; ROW]
     requires { ⌜ GoodTable (now index) × (p < 5) ⌝ }
-    ensures { λ r. ⌜ r ≡ rowAt (hour (now (ab .entry)) (now (index .entry)) m (now (hmym .entry)) (now (fakmap .entry))) i g p ⌝ }
+    ensures { λ r. ⌜ r ≡ figureRow (hour (now (ab .entry)) (now (index .entry)) m (now (hmym .entry)) (now (fakmap .entry))) i g p ⌝ }
 {
     if (p as u32) < g.count {
         let points = g.points;
@@ -197,7 +197,7 @@ fn put_figures(
 
 // The path of a sheet.
 fn path(i: Inputs) -> PathGeometry
-    ensures { λ r. ⌜ r ≡ routeOf i ⌝ }
+    ensures { λ r. ⌜ r ≡ sheetPath i ⌝ }
 {
     let route = i.route;
     geometry::path_geometry(
@@ -222,7 +222,7 @@ fn fill_in(
 ) -> u32
     requires { ⌜ GoodTable (now index) × (length (now out) ≡ 151) ⌝ }
     ensures { λ r. ⌜ (
-        let g = routeOf i in
+        let g = sheetPath i in
         let m = now (file .entry) in
         let h = hourFrom m (now (index .entry)) (now (cofion .entry)) (now (hmym .entry)) (now (fakmap .entry)) i in
         (r ≡ g .count)
@@ -243,7 +243,7 @@ pub fn figures(i: Inputs, f2: &[u8], file: &[u8], out: &mut [f32; FIGURES]) -> S
         let f = now (f2 .entry) in
         let m = now (file .entry) in
         (r ≡ shownOf f m i)
-        × (now (out .exit) ≡ bufferAfter f m i (now (out .entry)))
+        × (now (out .exit) ≡ figuresBuffer f m i (now (out .entry)))
         ) ⌝ }
 {
     let mut index = [0u32; INDEX];

@@ -1,5 +1,5 @@
-// What the maps give at a point, after ionosphere.rs: a module for each group of the Fortran routines
-// that it has in one file, and here what works over lent files.
+// What the maps give at a point, after ionosphere.rs: a module for each group of the Fortran
+// routines that it has in one file, and here what works over lent files.
 pub mod clocks;
 pub mod layers;
 pub mod noisy;
@@ -164,8 +164,8 @@ fn no_layers() -> LayerParams
     }
 }
 
-// The layer parameters at one place, by the same steps as at a control point of a path, from the maps
-// at the hour and a month file.
+// The layer parameters at one place, by the same steps as at a control point of a path, from the
+// maps at the hour and a month file.
 pub fn layer_parameters_at(
     inputs: LayerInputs,
     ab: &TimeMaps,

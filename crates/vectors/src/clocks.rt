@@ -1,5 +1,5 @@
-// The clocks: the times of clocks.bin, in three sections. A row is little-endian words: what is asked,
-// number and place of the refusal, the times.
+// The clocks: the times of clocks.bin, in three sections. A row is little-endian words: what is
+// asked, number and place of the refusal, the times.
 use crate::files;
 use crate::tally::Tally;
 use crate::tally::counted;

@@ -1,5 +1,5 @@
-// Replays the Rust side's answers in data/ and prints of each kind how many were compared and how many
-// differ.
+// Replays the Rust side's answers in data/ and prints of each kind how many were compared and how
+// many differ.
 mod clocks;
 mod files;
 mod numbers;

@@ -1,6 +1,6 @@
-// The arithmetic: the answers of data/numbers.bin, function by function. A row is three little-endian words of
-// 64 bits: the function's number, the argument and the answer, as oracle/ writes them. A row of
-// function 0 holds the name of the function that follows.
+// The arithmetic: the answers of data/numbers.bin, function by function. A row is three
+// little-endian words of 64 bits: the function's number, the argument and the answer, as oracle/
+// writes them. A row of function 0 holds the name of the function that follows.
 use crate::tally;
 use crate::tally::counted;
 use crate::tally::none;

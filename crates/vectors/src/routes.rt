@@ -1,7 +1,7 @@
-// The paths: distance, bearings and control points of each route of data/routes.bin, and the magnetic
-// field at each point. A row is 49 little-endian words: the route's seven numbers, six figures, the
-// number of points and seven figures for each of five. A row that starts with ffffffff holds the name
-// of the routes that follow.
+// The paths: distance, bearings and control points of each route of data/routes.bin, and the
+// magnetic field at each point. A row is 49 little-endian words: the route's seven numbers, six
+// figures, the number of points and seven figures for each of five. A row that starts with ffffffff
+// holds the name of the routes that follow.
 use crate::tally;
 use crate::tally::counted;
 use crate::tally::is_float;

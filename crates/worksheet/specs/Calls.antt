@@ -1,4 +1,5 @@
--- The calls that a program makes as demand 3's, and what a program is handed back of a step. Assumes nothing.
+-- The calls that a program makes as demand 3's, and what a program is handed back of a step.
+-- Assumes nothing.
 use mathlib.Core.List.{List}
 use mathlib.Core.Path.{_≡_}
 use lib.Ieee.{Float}

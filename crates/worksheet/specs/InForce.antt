@@ -1,4 +1,5 @@
--- The inputs in force: a fold over a run's entries, from the worksheet at its start; no draft is looked at. For the insurer's line. Assumes nothing.
+-- The inputs in force: a fold over a run's entries, from the worksheet at its start; no draft is
+-- looked at. For the insurer's line. Assumes nothing.
 use Prim.Native.Nat.{ℕ}
 use mathlib.Core.Bool.{Bool, true, false, cond, not, _&&_}
 use mathlib.Core.List.{List, [], _∷_, _++_, reverse, List·Memᴰ}
@@ -7,7 +8,7 @@ use lib.Dec.{eqb}
 use lib.Ieee.{Float}
 use Rattle.base.specs.declared.refusal.Verdict.the-variants.{Accepted}
 use Rattle.maps.specs.declared.inputs.Inputs.{Inputs}
-use Rattle.maps.specs.Figures.{routeOf, figuresOf}
+use Rattle.maps.specs.Figures.{sheetPath, figuresOf}
 use Rattle.worksheet.specs.declared.inputs.Edit.{Edit}
 use Rattle.worksheet.specs.declared.desks.Earlier.{Earlier}
 use Rattle.worksheet.specs.declared.desks.Earlier.the-variants.{Nothing, Set}
@@ -86,7 +87,8 @@ abbrev pub returnedTo : List Standing → Force → Force
 returnedTo [] f = f
 returnedTo (s ∷ l) f = record { present = s; before = [] }
 
--- an accepted commit pushes its set, an accepted take-back returns the one before; nothing else counts
+-- an accepted commit pushes its set, an accepted take-back returns the one before; nothing else
+-- counts
 abbrev pub forceBy : List Entry → Entry → Role → Bool → Force → Force
 forceBy past x (beginning n) good f = f
 forceBy past x (ending n) good f = f
@@ -99,11 +101,14 @@ unfoldable pub forceAfter : Force → List Entry → Force
 forceAfter f [] = f
 forceAfter f (x ∷ past) = forceBy past x (roleIn x) (good x) (forceAfter f past)
 
--- the commits in force on the worksheet w, the latest first, after entries that stand in their order
+-- the commits in force on the worksheet w, the latest first, after entries that stand in their
+-- order
 unfoldable pub commitsInForce : Worksheet → List Entry → List Commit
 commitsInForce w entries = forceAfter (forceIn w) (reverse entries) .present .commits
 
--- THE INPUTS IN FORCE after some entries: those at the start (the earlier set at the start, where they were taken back), with the accepted changes of the drafts that were committed and not taken back since, in the order of the commits
+-- THE INPUTS IN FORCE after some entries: those at the start (the earlier set at the start, where
+-- they were taken back), with the accepted changes of the drafts that were committed and not taken
+-- back since, in the order of the commits
 unfoldable pub inForce : Worksheet → List Entry → Inputs
 inForce w entries = inputsBy (forceAfter (forceIn w) (reverse entries) .present)
 
@@ -118,7 +123,8 @@ takenBackBy (belonging n even es) good rest = rest
 takenBackBy returning good rest = cond good true rest
 takenBackBy showing good rest = rest
 
--- the commit before these entries was taken back: the first accepted commit or take-back among them is a take-back
+-- the commit before these entries was taken back: the first accepted commit or take-back among them
+-- is a take-back
 unfoldable pub takenBack : List Entry → Bool
 takenBack [] = false
 takenBack (x ∷ later) = takenBackBy (roleIn x) (good x) (takenBack later)
@@ -139,17 +145,19 @@ unfoldable pub commitsLeft : List Entry → List Entry → List Commit
 commitsLeft past [] = []
 commitsLeft past (x ∷ later) = commitsLeft (x ∷ past) later ++ leftBy past x (roleIn x) (good x) (takenBack later)
 
--- the inputs that those commits changed: the worksheet's own, or its earlier set, where the first accepted commit or take-back of all is a take-back
+-- the inputs that those commits changed: the worksheet's own, or its earlier set, where the first
+-- accepted commit or take-back of all is a take-back
 abbrev pub startLeft : Worksheet → List Entry → Inputs
 startLeft w entries = cond (takenBack entries) (setOf (w .earlier) (w .inputs)) (w .inputs)
 
 -- ---- the insurer's line
 
 module _ (source : Source) where
-  -- a showing's number of points and its whole figures are those of one set of inputs and of their own two files
+  -- a showing's number of points and its whole figures are those of one set of inputs and of their
+  -- own two files
   pub record FiguresOf (i : Inputs) (count : ℕ) (figures : List Float) : Type 0 where
     pub lent : source i .verdict ≡ Accepted
-    pub points : count ≡ routeOf i .count
+    pub points : count ≡ sheetPath i .count
     pub whole : figures ≡ figuresOf (source i .f2) (source i .file) i
 
 -- ---- a commit's draft started from the inputs in force, and nothing came between
@@ -173,7 +181,8 @@ pub record Drafted (w : Worksheet) (n : ℕ) (before : List Entry) : Type 0 wher
   pub between : List Entry
   pub split : before ≡ front ++ (own-begin ∷ between)
   pub begun : begins n own-begin ≡ true
-  -- between its begin and the commit nobody committed or took back, and the draft was not cancelled or begun anew
+  -- between its begin and the commit nobody committed or took back, and the draft was not cancelled
+  -- or begun anew
   pub quiet : none (disturbs n) between ≡ true
   -- its own calls are its begin and what belongs to it between the two
   pub own-calls : own n (reverse before) ≡ own-begin ∷ keep (belongs n) between
@@ -228,13 +237,15 @@ pub record NeverCancelled (entries : List Entry) (e : Edit) : Type 0 where
 -- ---- the insurer's sentence
 
 module _ (source : Source) where
-  -- of a showing after some entries, from the inputs `start` on: 'its layer heights, its critical frequencies and its
-  -- ground all came from one sunspot number, one hour and one route, and from no edit that somebody had cancelled'
+  -- of a showing after some entries, from the inputs `start` on: 'its layer heights, its critical
+  -- frequencies and its ground all came from one sunspot number, one hour and one route, and from
+  -- no edit that somebody had cancelled'
   pub record Insured (start : Inputs) (entries : List Entry) (count : ℕ) (figures : List Float) : Type 0 where
     pub edits : List Edit
     -- one set of inputs has all the figures
     pub one-set : FiguresOf source (changed start edits) count figures
-    -- it has the changes of all accepted commits that were not taken back, in their order, each once
+    -- it has the changes of all accepted commits that were not taken back, in their order, each
+    -- once
     pub all-edits : edits ≡ changesBy (commitsLeft [] entries)
     -- and each of them was committed and never cancelled
     pub none-cancelled : (e : Edit) → List·Memᴰ e edits → NeverCancelled entries e

@@ -1,4 +1,5 @@
--- Document 01, At the desks: the 14 fields of the inputs, their ranges, the first bad field's refusal, and changes. Assumes nothing.
+-- Document 01, At the desks: the 14 fields of the inputs, their ranges, the first bad field's
+-- refusal, and changes. Assumes nothing.
 use Prim.Native.Nat.{ℕ}
 use mathlib.Core.Bool.{_||_}
 use lib.Dec.{eqb}
@@ -19,7 +20,7 @@ use Rattle.worksheet.specs.declared.inputs.Edit.the-variants.{Sunspot, H
 
 -- 'sunspot number 0 to 300'
 unfoldable pub sunspotCheck : Float → Verdict
-sunspotCheck x = refuseUnless (isTo (decimal 0 0) (decimal 300 0) x) BadSunspot
+sunspotCheck x = refuseUnless (isTo (decimal 0 1) (decimal 300 0) x) BadSunspot
 
 -- 'four factors 0.125 to 8 (`psc`)'
 unfoldable pub factorCheck : ℕ → Float → Verdict
@@ -31,7 +32,8 @@ flagCheck word = refuseUnless (eqb word 0 || eqb word 1) Flag
 
 -- ---- 'The first bad field decides'
 
--- 'a path is fields 4 to 8, the flag included': 'transmitter latitude, longitude, receiver latitude, longitude (degrees ..); long-path flag'
+-- 'a path is fields 4 to 8, the flag included': 'transmitter latitude, longitude, receiver
+-- latitude, longitude (degrees ..); long-path flag'
 unfoldable pub routeCheck : Route → Verdict
 routeCheck p =
     latitudeCheck 4 (p .tlat) then longitudeCheck 5 (p .tlong) then
@@ -50,7 +52,8 @@ inputsCheck i =
     monthCheck (i .month) then sunspotCheck (i .ssn) then hourCheck (i .gmt) then
     routeCheck (i .route) then factorsCheck (i .psc) then poleCheck (i .pole)
 
--- ---- changes: 'a sunspot number, an hour, a path, four factors or a pole, each with all its numbers'
+-- ---- changes: 'a sunspot number, an hour, a path, four factors or a pole, each with all its
+-- numbers'
 
 -- 'the changed fields as in open'
 unfoldable pub editCheck : Edit → Verdict

@@ -198,8 +198,8 @@ fn fresh_sheet(i: Inputs) -> Worksheet
     }
 }
 
-// A worksheet with all desks closed and nothing to take back, and the verdict on its inputs. What stands
-// beside a refusal holds the refused inputs and is no worksheet to use.
+// A worksheet with all desks closed and nothing to take back, and the verdict on its inputs. What
+// stands beside a refusal holds the refused inputs and is no worksheet to use.
 pub fn open(i: Inputs) -> Outcome
     ensures { λ r. ⌜ r ≡ openOf i ⌝ }
 {
@@ -209,8 +209,8 @@ pub fn open(i: Inputs) -> Outcome
     }
 }
 
-// The same of 14 little-endian words; bytes that are not there count as 0, and bytes after the words are
-// not looked at.
+// The same of 14 little-endian words; bytes that are not there count as 0, and bytes after the
+// words are not looked at.
 pub fn opened(words: &[u8]) -> Outcome
     ensures { λ r. ⌜ r ≡ openedOf (now (words .entry)) ⌝ }
 {

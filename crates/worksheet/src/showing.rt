@@ -19,7 +19,8 @@ ghost use lib.Ieee.{nan};
 ghost use Rattle.base.specs.Fill.{fill};
 ghost use Rattle.worksheet.specs.Showing.{pair, inputsShown, askedCheck, judgedCheck, drawnOf, drawnBuffer, showOf, showBuffer};
 
-// The inputs that a showing of the desk is of: 0 is the worksheet. A stale draft is shown all the same.
+// The inputs that a showing of the desk is of: 0 is the worksheet. A stale draft is shown all the
+// same.
 fn inputs_shown(w: Worksheet, desk: u32) -> Inputs
     ensures { λ r. ⌜ r ≡ inputsShown desk w ⌝ }
 {

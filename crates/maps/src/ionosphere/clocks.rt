@@ -1,5 +1,5 @@
-// Local and universal time: CNGTIM's shift by a longitude with its change of day, and GEOTIM's times
-// of one hour.
+// Local and universal time: CNGTIM's shift by a longitude with its change of day, and GEOTIM's
+// times of one hour.
 use base::angle::Degrees;
 use base::angle::Radians;
 use base::number::from_i32;
@@ -14,7 +14,11 @@ use base::refusal::then;
 ghost use mathlib.Core.Path.{_≡_};
 ghost use lib.IntN.{_+ℤ_};
 ghost use lib.Ieee.{binary32, ofInt};
-ghost use Rattle.maps.specs.Clocks.{fiswOf, thetaOf, wholeOf, afterShift, cngdayOf, forLoop, wraps, cngtimOf, timeAt, geotimOf, timeCheck, hoursCheck, movedIf, timesIf, localIf, movedOf, timesOf, localTimeOf};
+ghost use Rattle.base.specs.Refusal.{unlessRefused};
+ghost use Rattle.maps.specs.declared.ionosphere.clocks.Moved.the-variants.{To, Refused as NotMoved};
+ghost use Rattle.maps.specs.declared.ionosphere.clocks.Times.the-variants.{Hours, Refused as NoTimes};
+ghost use Rattle.maps.specs.declared.ionosphere.clocks.LocalTime.the-variants.{At, Refused as NoLocalTime};
+ghost use Rattle.maps.specs.Clocks.{fiswOf, thetaOf, wholeOf, afterShift, cngdayOf, forLoop, wraps, cngtimOf, timeAt, geotimOf, timeCheck, hoursCheck, movedOf, timesOf, localTimeOf};
 
 // From universal time to local time, or back: the Rust's `isw` of 1 and -1.
 pub enum Direction {
@@ -183,7 +187,7 @@ fn hours_check(hour: u32, tlong: Degrees, rlong: Degrees) -> Verdict
 }
 
 fn moved_if(verdict: Verdict, shifted: Shifted) -> Moved
-    ensures { λ r. ⌜ r ≡ movedIf verdict shifted ⌝ }
+    ensures { λ r. ⌜ r ≡ unlessRefused verdict (To shifted) NotMoved ⌝ }
 {
     match verdict {
         Verdict::Accepted => Moved::To(shifted),
@@ -192,7 +196,7 @@ fn moved_if(verdict: Verdict, shifted: Shifted) -> Moved
 }
 
 fn times_if(verdict: Verdict, hours: HourTimes) -> Times
-    ensures { λ r. ⌜ r ≡ timesIf verdict hours ⌝ }
+    ensures { λ r. ⌜ r ≡ unlessRefused verdict (Hours hours) NoTimes ⌝ }
 {
     match verdict {
         Verdict::Accepted => Times::Hours(hours),
@@ -201,7 +205,7 @@ fn times_if(verdict: Verdict, hours: HourTimes) -> Times
 }
 
 fn local_if(verdict: Verdict, time: f32) -> LocalTime
-    ensures { λ r. ⌜ r ≡ localIf verdict time ⌝ }
+    ensures { λ r. ⌜ r ≡ unlessRefused verdict (At time) NoLocalTime ⌝ }
 {
     match verdict {
         Verdict::Accepted => LocalTime::At(time),

@@ -1,5 +1,5 @@
-// TIMVAR, EF1VAR and F2VAR: the layers at a control point. ESIND: sporadic E. And the ground.
-// What `layer_parameters` of ionosphere.rs has in one body is a function here for each of its steps.
+// TIMVAR, EF1VAR and F2VAR: the layers at a control point. ESIND: sporadic E. And the ground. What
+// `layer_parameters` of ionosphere.rs has in one body is a function here for each of its steps.
 use crate::geometry::ControlPoint;
 use crate::inputs::Factors;
 use crate::ionosphere::noisy::noisy;
@@ -77,35 +77,35 @@ pub struct Monthly {
 }
 
 // What TIMVAR has before EF1VAR: the local mean time and the sun's zenith angle.
-struct Timvar {
-    clock: f32,
-    cycen: f32,
+pub struct Timvar {
+    pub clock: f32,
+    pub cycen: f32,
 }
 
 // A layer: its critical frequency, semithickness and height.
-struct Layer {
-    fi: f32,
-    yi: f32,
-    hi: f32,
+pub struct Layer {
+    pub fi: f32,
+    pub yi: f32,
+    pub hi: f32,
 }
 
 // What EF1VAR leaves.
-struct Ef1 {
-    e: Layer,
-    f1: Layer,
-    zenang: Degrees,
-    zenmax: Degrees,
+pub struct Ef1 {
+    pub e: Layer,
+    pub f1: Layer,
+    pub zenang: Degrees,
+    pub zenmax: Degrees,
 }
 
 // F1 where it may merge into F2: what it adds to the retardation, its height and semithickness.
-struct Merged {
-    rft: f32,
-    hi: f32,
-    yi: f32,
+pub struct Merged {
+    pub rft: f32,
+    pub hi: f32,
+    pub yi: f32,
 }
 
-// The ionosphere at one control point for one hour: of E, F1 and F2 the critical frequencies in MHz,
-// semithicknesses and heights of maximum in km.
+// The ionosphere at one control point for one hour: of E, F1 and F2 the critical frequencies in
+// MHz, semithicknesses and heights of maximum in km.
 pub struct LayerParams {
     pub fi: [f32; 3],
     pub yi: [f32; 3],
@@ -330,8 +330,8 @@ fn half_over(y: f32, rf: f32) -> f32
     0.5 * y * (rf - 2.0)
 }
 
-// Over the last two degrees before zenmax F1 rises into F2 and its retardation goes to zero. `hm` is
-// the height F2 would have alone, and `f1.fi` is what the Rust has as `fc1`.
+// Over the last two degrees before zenmax F1 rises into F2 and its retardation goes to zero. `hm`
+// is the height F2 would have alone, and `f1.fi` is what the Rust has as `fc1`.
 fn twilight(f1: Layer, ffec: f32, zmax: f32, z: f32, hm: f32, rat: f32, fc: f32, fi2: f32) -> Merged
     ensures { λ r. ⌜ r ≡ twilightOf f1 ffec zmax z hm rat fc fi2 ⌝ }
 {

@@ -100,8 +100,8 @@ fn wave_of(x: f32) -> Wave
 }
 
 // A map of lm columns, each summed over ln sines of half the longitude, and they over sines of the
-// latitude counted from the south pole, which is p. Both waves are given, which leaves this so short
-// that it is compiled once for each pair of limits, its loops unrolled.
+// latitude counted from the south pole, which is p. Both waves are given, which leaves this so
+// short that it is compiled once for each pair of limits, its loops unrolled.
 fn noisy_sum(
     lm: usize,
     ln: usize,
@@ -120,8 +120,8 @@ fn noisy_sum(
     latitude_sum(&zz, angle.sine, angle.cosine, lm) + alf + bet * p
 }
 
-// At `xla` and `ceg`, in degrees; `alf` and `bet` are what the file has for the map, and `ratio_map` says that
-// it is the shorter one, of the height ratio.
+// At `xla` and `ceg`, in degrees; `alf` and `bet` are what the file has for the map, and
+// `ratio_map` says that it is the shorter one, of the height ratio.
 pub fn noisy(plane: &Plane, alf: f32, bet: f32, ratio_map: bool, xla: f32, ceg: f32) -> f32
     ensures { λ r. ⌜ r ≡ noisyOf (now (plane .entry)) alf bet «ratio_map» xla ceg ⌝ }
 {

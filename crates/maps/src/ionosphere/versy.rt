@@ -11,10 +11,10 @@ use base::number::widen;
 ghost use mathlib.Core.Path.{_≡_};
 ghost use Prim.Native.Nat.{_+_, _-_, _%_, _≤_, _<_};
 ghost use lib.Ieee.{Float};
-ghost use Rattle.base.specs.Fill.{fill, run};
+ghost use Rattle.base.specs.Fill.{fill, tabulate};
 ghost use Rattle.base.specs.Index.{mapWord};
 ghost use Rattle.maps.specs.Virtim.{GoodTable};
-ghost use Rattle.maps.specs.Versy.{powerOf, geographicOf, wavesOf, rungOf, zeros, elements, gammaOf, sumOf, sumsOf, threeOf, threeAt, gammasOf};
+ghost use Rattle.maps.specs.Versy.{sxPower, geographicOf, wavesOf, rungOf, zeros, elements, gammaOf, sumOf, sumsOf, threeOf, threeAt, gammasOf};
 
 // A map's geographic functions at a place.
 type Basis = [f64; 76];
@@ -44,7 +44,7 @@ fn waves(gob: f32, clg: f32) -> [f64; 16]
 // The powers 0 to k of sx.
 fn powers(g: &mut Basis, sx: f64, k: usize)
     requires { ⌜ (1 ≤ k) × (k ≤ 75) ⌝ }
-    ensures { λ _. ⌜ now (g .exit) ≡ fill (powerOf sx) 0 (now (g .entry)) (k + 1) ⌝ }
+    ensures { λ _. ⌜ now (g .exit) ≡ fill (sxPower sx) 0 (now (g .entry)) (k + 1) ⌝ }
 {
     g[0] = 1.0;
     let mut power = sx;
@@ -78,7 +78,7 @@ fn rung(g: &mut Basis, sx: f64, c: f64, s: f64, below: usize, end: usize)
 // the one before it ends the ladder, and what is past its end stays 0.
 fn basis(index: &IndexTable, k: usize, sx: f64, waves: &[f64; 16], g: &mut Basis)
     requires { ⌜ GoodTable (now index) × (k < 6) × (now g ≡ zeros) ⌝ }
-    ensures { λ _. ⌜ ((gob clg : Float) → now (waves .entry) ≡ wavesOf gob clg → now (g .exit) ≡ run (geographicOf (mapWord (now (index .entry)) k) sx gob clg) 76) ⌝ }
+    ensures { λ _. ⌜ ((gob clg : Float) → now (waves .entry) ≡ wavesOf gob clg → now (g .exit) ≡ tabulate (geographicOf (mapWord (now (index .entry)) k) sx gob clg) 76) ⌝ }
 {
     let mut below = word(index, k, 0);
     powers(g, sx, below);

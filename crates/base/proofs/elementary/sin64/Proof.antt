@@ -7,8 +7,8 @@ use lib.Ieee.{Float, binary64, le, round, ofBits}
 use Rattle.base.specs.Double.{fraction}
 use Rattle.base.specs.Number.{absOf}
 use Rattle.base.specs.Elementary.{sinOf, sinAt}
-use Rattle.base.proofs.Patterns.{no-number}
-use Rattle.base.proofs.Picks.{cond-true, cond-false}
+use Rattle.base.proofs.rounding.Patterns.{no-number}
+use Rattle.base.proofs.verdicts.Picks.{cond-true, cond-false}
 use Rattle.base.proofs.elementary.sin64.Statement.{statement}
 use Rattle.base.proofs.elementary.sin64.Tie as tie
 

@@ -4,7 +4,7 @@ use mathlib.Core.Path.{ap, _∙_}
 use lib.Ieee.{round, ofBits}
 use Rattle.base.specs.Double.{fraction}
 use Rattle.base.specs.Elementary.{turnsOf, reducedOf}
-use Rattle.base.proofs.Turns.{turns-small}
+use Rattle.base.proofs.steps.Turns.{turns-small}
 use Rattle.base.proofs.elementary.split.Statement.{statement}
 use Rattle.base.proofs.elementary.split.Tie as tie
 

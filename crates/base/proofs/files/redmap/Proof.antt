@@ -3,7 +3,7 @@ use borrow.Author.Needs.{needs}
 use mathlib.Core.Path.{_≡_, sym, _∙_}
 use Rattle.base.specs.declared.refusal.Verdict.the-variants.{Accepted}
 use Rattle.base.specs.Files.{filesCheck}
-use Rattle.base.proofs.Readers.{files-record, files-length, written, left}
+use Rattle.base.proofs.layout.Readers.{files-record, files-length, written, left}
 use Rattle.base.proofs.files.redmap.Statement.{statement}
 use Rattle.base.proofs.files.redmap.Tie as tie
 

@@ -3,7 +3,7 @@ use borrow.Author.Needs.{needs}
 use mathlib.Core.Path.{sym}
 use Prim.Native.Nat.{_-_}
 use borrow.Author.Tests.{not-true, not-false}
-use Rattle.base.proofs.Ladders.{Checked, unchecked, bad-map, next-map, no-map}
+use Rattle.base.proofs.ladder.Ladders.{Checked, unchecked, bad-map, next-map, no-map}
 use Rattle.base.proofs.index.index_check.Statement.{statement}
 use Rattle.base.proofs.index.index_check.Tie as tie
 

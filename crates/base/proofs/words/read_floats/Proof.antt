@@ -6,7 +6,7 @@ use native.Mathlib.Omega.{arith}
 use lib.ListN.{length}
 use Rattle.base.specs.Fill.{fill}
 use Rattle.base.specs.Words.{floatAt}
-use Rattle.base.proofs.Fills.{fill-first, fill-all}
+use Rattle.base.proofs.lists.Fills.{fill-first, fill-all}
 use Rattle.base.proofs.words.read_floats.Statement.{statement}
 use Rattle.base.proofs.words.read_floats.Tie as tie
 

@@ -2,7 +2,7 @@
 use borrow.Author.Needs.{needs}
 use mathlib.Core.Path.{ap}
 use Rattle.worksheet.specs.declared.inputs.Edit.the-variants.{Pole}
-use Rattle.jutetrowel.proofs.Crossed.{changed}
+use Rattle.jutetrowel.proofs.crossing.Crossed.{changed}
 use Rattle.jutetrowel.proofs.desks.jt_change_pole.Statement.{statement}
 use Rattle.jutetrowel.proofs.desks.jt_change_pole.Tie as tie
 

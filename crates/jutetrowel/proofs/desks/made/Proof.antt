@@ -8,7 +8,7 @@ use Rattle.worksheet.specs.Journal.{step}
 use Rattle.worksheet.specs.Calls.{called, nextOf}
 use Rattle.jutetrowel.specs.Words.{worksheetOf}
 use Rattle.jutetrowel.specs.Calls.{wordsLeft}
-use Rattle.jutetrowel.proofs.Crossed.{told-crosses, shown-crosses}
+use Rattle.jutetrowel.proofs.crossing.Crossed.{told-crosses, shown-crosses}
 use Rattle.jutetrowel.proofs.desks.made.Statement.{statement}
 use Rattle.jutetrowel.proofs.desks.made.Tie as tie
 

@@ -2,7 +2,7 @@
 use borrow.Author.Needs.{needs}
 use borrow.Author.Tests.{eq-eqb, ne-eqb}
 use mathlib.Core.Path.{sym, ap, _∙_}
-use Rattle.base.proofs.Picks.{cond-true, cond-false}
+use Rattle.base.proofs.verdicts.Picks.{cond-true, cond-false}
 use Rattle.worksheet.specs.declared.desks.Earlier.the-variants.{Set}
 use Rattle.jutetrowel.specs.Words.{earlierIn}
 use Rattle.jutetrowel.proofs.words.earlier_in.Statement.{statement}

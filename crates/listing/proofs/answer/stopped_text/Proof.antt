@@ -2,8 +2,8 @@
 use borrow.Author.Needs.{needs}
 use native.Mathlib.Omega.{arith}
 use Rattle.listing.specs.Answer.{stoppedText}
-use Rattle.listing.proofs.Places.{at-most-20}
-use Rattle.listing.proofs.Puts.{joined, counts}
+use Rattle.listing.proofs.digits.Places.{at-most-20}
+use Rattle.listing.proofs.pieces.Puts.{joined, counts}
 use Rattle.listing.proofs.answer.stopped_text.Statement.{statement}
 use Rattle.listing.proofs.answer.stopped_text.Tie as tie
 

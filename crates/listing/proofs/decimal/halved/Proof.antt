@@ -4,7 +4,7 @@ use mathlib.Core.Path.{sym, ap, _∙_}
 use Prim.Native.Nat.{ℕ, _+_, _/_, _%_, _^_}
 use native.Mathlib.Omega.{arith}
 use Rattle.listing.specs.Decimal.{nearestOf}
-use Rattle.listing.proofs.Quotients.{nearest-none, to-nearest}
+use Rattle.listing.proofs.digits.Quotients.{nearest-none, to-nearest}
 use Rattle.listing.proofs.decimal.halved.Statement.{statement}
 use Rattle.listing.proofs.decimal.halved.Tie as tie
 

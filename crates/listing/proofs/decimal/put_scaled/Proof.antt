@@ -2,9 +2,9 @@
 use borrow.Author.Needs.{needs}
 use native.Mathlib.Omega.{arith}
 use Rattle.listing.specs.Decimal.{scaledText}
-use Rattle.listing.proofs.Places.{at-most-20}
-use Rattle.listing.proofs.Puts.{joined}
-use Rattle.listing.proofs.Values.{length-minus}
+use Rattle.listing.proofs.digits.Places.{at-most-20}
+use Rattle.listing.proofs.pieces.Puts.{joined}
+use Rattle.listing.proofs.digits.Values.{length-minus}
 use Rattle.listing.proofs.decimal.put_scaled.Statement.{statement}
 use Rattle.listing.proofs.decimal.put_scaled.Tie as tie
 

@@ -1,9 +1,9 @@
 -- By the flag.
 use borrow.Author.Needs.{needs}
 use mathlib.Core.Path.{sym}
-use Rattle.base.proofs.Picks.{cond-true, cond-false}
+use Rattle.base.proofs.verdicts.Picks.{cond-true, cond-false}
 use Rattle.listing.specs.Decimal.{minusOf}
-use Rattle.listing.proofs.Puts.{put-as, nothing}
+use Rattle.listing.proofs.pieces.Puts.{put-as, nothing}
 use Rattle.listing.proofs.decimal.put_sign.Statement.{statement}
 use Rattle.listing.proofs.decimal.put_sign.Tie as tie
 

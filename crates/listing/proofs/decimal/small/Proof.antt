@@ -5,7 +5,7 @@ use Prim.Native.Nat.{ℕ}
 use native.Mathlib.Omega.{arith}
 use lib.Ieee.{binary32, ofFields}
 use Rattle.listing.specs.Decimal.{textOf, decimalText}
-use Rattle.listing.proofs.Values.{lowest, middle}
+use Rattle.listing.proofs.digits.Values.{lowest, middle}
 use Rattle.listing.proofs.decimal.small.Statement.{statement}
 use Rattle.listing.proofs.decimal.small.Tie as tie
 

@@ -3,9 +3,9 @@ use borrow.Author.Needs.{needs}
 use native.Mathlib.Omega.{arith}
 use Rattle.maps.specs.Inputs.{isLong}
 use Rattle.listing.specs.Page.{earlyFields, fieldsText}
-use Rattle.listing.proofs.Places.{at-most-20}
-use Rattle.listing.proofs.Puts.{joined}
-use Rattle.listing.proofs.Rows.{length-rows, length-long}
+use Rattle.listing.proofs.digits.Places.{at-most-20}
+use Rattle.listing.proofs.pieces.Puts.{joined}
+use Rattle.listing.proofs.pieces.Rows.{length-rows, length-long}
 use Rattle.listing.proofs.page.put_fields.Statement.{statement}
 use Rattle.listing.proofs.page.put_fields.Tie as tie
 

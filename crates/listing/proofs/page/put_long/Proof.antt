@@ -1,9 +1,9 @@
 -- By the flag.
 use borrow.Author.Needs.{needs}
 use mathlib.Core.Path.{sym}
-use Rattle.base.proofs.Picks.{cond-true, cond-false}
+use Rattle.base.proofs.verdicts.Picks.{cond-true, cond-false}
 use Rattle.listing.specs.Page.{longText}
-use Rattle.listing.proofs.Puts.{put-as, nothing}
+use Rattle.listing.proofs.pieces.Puts.{put-as, nothing}
 use Rattle.listing.proofs.page.put_long.Statement.{statement}
 use Rattle.listing.proofs.page.put_long.Tie as tie
 

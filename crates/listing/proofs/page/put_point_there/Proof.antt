@@ -2,9 +2,9 @@
 use borrow.Author.Needs.{needs}
 use borrow.Author.Tests.{lt-ltb, le-ltb}
 use mathlib.Core.Path.{sym}
-use Rattle.base.proofs.Picks.{cond-true, cond-false}
+use Rattle.base.proofs.verdicts.Picks.{cond-true, cond-false}
 use Rattle.listing.specs.Page.{thereText}
-use Rattle.listing.proofs.Puts.{put-as, nothing}
+use Rattle.listing.proofs.pieces.Puts.{put-as, nothing}
 use Rattle.listing.proofs.page.put_point_there.Statement.{statement}
 use Rattle.listing.proofs.page.put_point_there.Tie as tie
 

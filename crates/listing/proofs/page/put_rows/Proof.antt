@@ -5,8 +5,8 @@ use Prim.Native.Nat.{ℕ, _≤_, _-_}
 use native.Mathlib.Omega.{arith}
 use Rattle.listing.specs.Text.{Put}
 use Rattle.listing.specs.Page.{rowsText}
-use Rattle.listing.proofs.Puts.{put-as, joined}
-use Rattle.listing.proofs.Rows.{no-rows, next-row, length-rows}
+use Rattle.listing.proofs.pieces.Puts.{put-as, joined}
+use Rattle.listing.proofs.pieces.Rows.{no-rows, next-row, length-rows}
 use Rattle.listing.proofs.page.put_rows.Statement.{statement}
 use Rattle.listing.proofs.page.put_rows.Tie as tie
 

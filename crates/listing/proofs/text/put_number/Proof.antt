@@ -3,8 +3,8 @@ use borrow.Author.Needs.{needs}
 use Prim.Native.Nat.{_≤_, _-_}
 use native.Mathlib.Omega.{arith}
 use Rattle.listing.specs.Text.{digitAt, digitsBelow, decimalOf}
-use Rattle.listing.proofs.Places.{next-place, no-place}
-use Rattle.listing.proofs.Puts.{Owed, owing, renamed, paid, room, settled}
+use Rattle.listing.proofs.digits.Places.{next-place, no-place}
+use Rattle.listing.proofs.pieces.Puts.{Owed, owing, renamed, paid, room, settled}
 use Rattle.listing.proofs.text.put_number.Statement.{statement}
 use Rattle.listing.proofs.text.put_number.Tie as tie
 

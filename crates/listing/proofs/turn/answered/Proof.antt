@@ -2,7 +2,7 @@
 use borrow.Author.Needs.{needs}
 use lib.Ieee.{ofBits, round}
 use Rattle.base.specs.Single.{decimal}
-use Rattle.listing.proofs.Turns.{turn-as}
+use Rattle.listing.proofs.pieces.Turns.{turn-as}
 use Rattle.listing.proofs.turn.answered.Statement.{statement}
 use Rattle.listing.proofs.turn.answered.Tie as tie
 

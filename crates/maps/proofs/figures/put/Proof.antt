@@ -7,7 +7,7 @@ use native.Mathlib.Omega.{arith}
 use lib.ListN.{length, getD, set}
 use lib.Ieee.{Float, nan}
 use Rattle.base.specs.Fill.{fill}
-use Rattle.base.proofs.Fills.{fill-next}
+use Rattle.base.proofs.lists.Fills.{fill-next}
 use Rattle.maps.proofs.figures.put.Statement.{statement}
 use Rattle.maps.proofs.figures.put.Tie as tie
 

@@ -9,7 +9,7 @@ use Rattle.maps.specs.declared.ionosphere.LayersAt.{LayersAt}
 use Rattle.maps.specs.declared.ionosphere.layers.LayerParams.{LayerParams}
 use Rattle.maps.specs.Layers.{monthlyOf}
 use Rattle.maps.specs.Ionosphere.{layersThere, layersIf, layersAtOf}
-use Rattle.maps.proofs.Checks.{written-is, good-same, layers-index}
+use Rattle.maps.proofs.sheet.Checks.{written-is, good-same, layers-index}
 use Rattle.maps.proofs.ionosphere.layer_parameters_at.Statement.{statement}
 use Rattle.maps.proofs.ionosphere.layer_parameters_at.Tie as tie
 

@@ -4,7 +4,7 @@ use mathlib.Core.Path.{_∙_, ap, ap₂}
 use Rattle.worksheet.specs.declared.desks.Draft.{Draft}
 use Rattle.base.specs.Refusal.{_then_}
 use Rattle.worksheet.specs.Desks.{withDraft, draftCheck, editedDraft, changeCheck, changeOf}
-use Rattle.worksheet.proofs.Verdicts.{decided-as}
+use Rattle.worksheet.proofs.checks.Verdicts.{decided-as}
 use Rattle.worksheet.proofs.desks.change.Statement.{statement}
 use Rattle.worksheet.proofs.desks.change.Tie as tie
 

@@ -7,7 +7,7 @@ use Rattle.worksheet.specs.declared.desks.Draft.the-variants.{Closed}
 use Rattle.worksheet.specs.declared.desks.Earlier.the-variants.{Set}
 use Rattle.base.specs.Refusal.{_then_}
 use Rattle.worksheet.specs.Desks.{withDraft, inputsOf, movedTo, draftCheck, freshCheck, commitCheck, commitOf}
-use Rattle.worksheet.proofs.Verdicts.{decided-as}
+use Rattle.worksheet.proofs.checks.Verdicts.{decided-as}
 use Rattle.worksheet.proofs.desks.commit.Statement.{statement}
 use Rattle.worksheet.proofs.desks.commit.Tie as tie
 

@@ -4,7 +4,7 @@ use mathlib.Core.Path.{_∙_, ap}
 use Rattle.maps.specs.declared.inputs.Inputs.{Inputs}
 use Rattle.worksheet.specs.declared.desks.Earlier.the-variants.{Nothing}
 use Rattle.worksheet.specs.Desks.{movedTo, takeBackOf}
-use Rattle.worksheet.proofs.Verdicts.{decided-as}
+use Rattle.worksheet.proofs.checks.Verdicts.{decided-as}
 use Rattle.worksheet.proofs.desks.take_back.Statement.{statement}
 use Rattle.worksheet.proofs.desks.take_back.Tie as tie
 

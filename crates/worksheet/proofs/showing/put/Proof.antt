@@ -7,8 +7,8 @@ use native.Mathlib.Omega.{arith}
 use lib.ListN.{length, getD, set}
 use lib.Ieee.{Float, nan}
 use Rattle.base.specs.Fill.{fill}
-use Rattle.base.proofs.Fills.{fill-first}
-use Rattle.maps.proofs.Written.{elements}
+use Rattle.base.proofs.lists.Fills.{fill-first}
+use Rattle.maps.proofs.lists.Written.{elements}
 use Rattle.worksheet.proofs.showing.put.Statement.{statement}
 use Rattle.worksheet.proofs.showing.put.Tie as tie
 

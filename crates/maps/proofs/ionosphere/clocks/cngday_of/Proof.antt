@@ -5,7 +5,7 @@ use lib.IntN.{ℤ, _+ℤ_}
 use lib.Ieee.{binary32, ofInt, ofBits, round}
 use Rattle.base.specs.Single.{decimal}
 use Rattle.maps.specs.Clocks.{cngdayOf}
-use Rattle.maps.proofs.WholeSums.{signed-word}
+use Rattle.maps.proofs.sums.WholeSums.{signed-word}
 use Rattle.maps.proofs.ionosphere.clocks.cngday_of.Statement.{statement}
 use Rattle.maps.proofs.ionosphere.clocks.cngday_of.Tie as tie
 

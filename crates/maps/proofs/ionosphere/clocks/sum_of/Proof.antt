@@ -2,7 +2,7 @@
 use borrow.Author.Needs.{needs}
 use mathlib.Core.Path.{ap, _∙_}
 use Rattle.base.specs.Number.{narrowOf}
-use Rattle.maps.proofs.WholeSums.{wide, sum-fits, sum-narrow}
+use Rattle.maps.proofs.sums.WholeSums.{wide, sum-fits, sum-narrow}
 use Rattle.maps.proofs.ionosphere.clocks.sum_of.Statement.{statement}
 use Rattle.maps.proofs.ionosphere.clocks.sum_of.Tie as tie
 

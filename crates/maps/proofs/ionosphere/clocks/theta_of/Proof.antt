@@ -2,7 +2,7 @@
 use mathlib.Core.Path.{sym}
 use lib.Ieee.{ofBits, round}
 use Rattle.base.specs.Single.{decimal}
-use Rattle.base.proofs.Picks.{cond-true, cond-false}
+use Rattle.base.proofs.verdicts.Picks.{cond-true, cond-false}
 use Rattle.maps.specs.Clocks.{thetaOf}
 use Rattle.maps.proofs.ionosphere.clocks.theta_of.Statement.{statement}
 use Rattle.maps.proofs.ionosphere.clocks.theta_of.Tie as tie

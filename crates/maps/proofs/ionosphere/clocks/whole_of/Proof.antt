@@ -3,7 +3,7 @@ use borrow.Author.Needs.{needs}
 use mathlib.Core.Path.{ap, _∙_}
 use lib.Ieee.{binary32, ofInt}
 use Rattle.maps.specs.Clocks.{wholeOf}
-use Rattle.maps.proofs.WholeSums.{signed-word}
+use Rattle.maps.proofs.sums.WholeSums.{signed-word}
 use Rattle.maps.proofs.ionosphere.clocks.whole_of.Statement.{statement}
 use Rattle.maps.proofs.ionosphere.clocks.whole_of.Tie as tie
 

@@ -1,0 +1,6 @@
+-- Clocks: the correction, the turns of the loop, the range of the answers.
+pub mod Clock
+pub mod Midnight
+pub mod Offsets
+pub mod WholeParts
+pub mod Wraps

@@ -1,0 +1,3 @@
+-- The map series of CCIR Report 340.
+pub mod DailySeries
+pub mod Report340

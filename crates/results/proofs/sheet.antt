@@ -1,0 +1,7 @@
+-- Figures by their places, sheets that are shown, the known points.
+pub mod FigurePlaces
+pub mod GoodSheet
+pub mod Ignored
+pub mod KnownPoints
+pub mod GoodShowing
+pub mod ShownClocks

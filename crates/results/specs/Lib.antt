@@ -1,0 +1,1 @@
+-- The results, as statements that a reader has to believe. Assumes nothing.

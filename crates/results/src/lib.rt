@@ -1,0 +1,2 @@
+// What follows from the definitions of base, maps and worksheet: statements in specs/, their proofs
+// in rooms. No code.
