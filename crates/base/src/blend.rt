@@ -23,7 +23,7 @@ pub struct Weights {
     pub d: f32,
 }
 
-// For F2 and M3000.
+// The weights of the F2 and M3000 maps at a sunspot number s: 100 - s and s, with the divisor 100.
 pub fn f2_weights(ssn: f32) -> Weights
     ensures { λ r. ⌜ r ≡ f2Weights ssn ⌝ }
 {
@@ -34,7 +34,7 @@ pub fn f2_weights(ssn: f32) -> Weights
     }
 }
 
-// For the Es and E maps.
+// The weights of the Es and E maps at a sunspot number s: 150 - s and s - 10, with the divisor 140.
 pub fn e_weights(ssn: f32) -> Weights
     ensures { λ r. ⌜ r ≡ eWeights ssn ⌝ }
 {
@@ -45,7 +45,7 @@ pub fn e_weights(ssn: f32) -> Weights
     }
 }
 
-// For the height map.
+// The weights of the height map at a sunspot number s: 125 - s and s - 25, with the divisor 100.
 pub fn height_weights(ssn: f32) -> Weights
     ensures { λ r. ⌜ r ≡ heightWeights ssn ⌝ }
 {

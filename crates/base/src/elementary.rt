@@ -190,7 +190,7 @@ fn cos_at(q: u64, a: f64) -> f64
     }
 }
 
-// The sine of v, which is a NaN beyond 1000.
+// The sine of v radians, by document 01's steps; a NaN for a NaN and for v beyond 1000 in size.
 pub fn sin64(v: f64) -> f64
     ensures { λ r. ⌜ r ≡ sinOf v ⌝ }
 {
@@ -202,7 +202,8 @@ pub fn sin64(v: f64) -> f64
     }
 }
 
-// The cosine of v, which is a NaN beyond 1000.
+// The cosine of v, in radians, by document 01's steps; a NaN for a NaN and for v beyond 1000 in
+// size.
 pub fn cos64(v: f64) -> f64
     ensures { λ r. ⌜ r ≡ cosOf v ⌝ }
 {
@@ -246,7 +247,7 @@ fn atan_from(a: f64) -> f64
     }
 }
 
-// The arc tangent of v.
+// The arc tangent of v, in radians, by document 01's steps; a NaN for a NaN.
 pub fn atan64(v: f64) -> f64
     ensures { λ r. ⌜ r ≡ atanOf v ⌝ }
 {
@@ -254,7 +255,8 @@ pub fn atan64(v: f64) -> f64
     if is_negative(v) { -t } else { t }
 }
 
-// The arc cosine of v, which is a NaN beyond 1 in size.
+// The arc cosine of v, in radians, by document 01's steps; a NaN for a NaN and for v beyond 1 in
+// size.
 pub fn acos64(v: f64) -> f64
     ensures { λ r. ⌜ r ≡ acosOf v ⌝ }
 {
@@ -309,7 +311,7 @@ fn exp_within(v: f64) -> f64
     horner(&EXP, v - n * 0.6931471805599453) * power(n)
 }
 
-// e^v
+// e to the power v, by document 01's steps: infinity above 700, zero below -700, a NaN for a NaN.
 pub fn exp64(v: f64) -> f64
     ensures { λ r. ⌜ r ≡ expOf v ⌝ }
 {
@@ -371,7 +373,8 @@ fn ln_bits(b: u64) -> f64
     }
 }
 
-// The natural logarithm of x: a NaN below zero, minus infinity at either zero.
+// The natural logarithm of x, by document 01's steps: a NaN for a NaN and below zero, minus
+// infinity at either zero, infinity at infinity.
 pub fn ln64(x: f64) -> f64
     ensures { λ r. ⌜ r ≡ lnOf x ⌝ }
 {
@@ -391,36 +394,43 @@ pub fn ln64(x: f64) -> f64
     ln_bits(b)
 }
 
+// The sine of x radians: x is widened, `sin64` works it out, and its answer is narrowed.
 pub fn sin32(x: f32) -> f32
     ensures { λ r. ⌜ r ≡ sin32Of x ⌝ }
 {
     narrow(sin64(widen(x)))
 }
 
+// The cosine of x radians: x is widened, `cos64` works it out, and its answer is narrowed.
 pub fn cos32(x: f32) -> f32
     ensures { λ r. ⌜ r ≡ cos32Of x ⌝ }
 {
     narrow(cos64(widen(x)))
 }
 
+// The arc tangent of x, in radians: x is widened, `atan64` works it out, and its answer is
+// narrowed.
 pub fn atan32(x: f32) -> f32
     ensures { λ r. ⌜ r ≡ atan32Of x ⌝ }
 {
     narrow(atan64(widen(x)))
 }
 
+// The arc cosine of x, in radians: x is widened, `acos64` works it out, and its answer is narrowed.
 pub fn acos32(x: f32) -> f32
     ensures { λ r. ⌜ r ≡ acos32Of x ⌝ }
 {
     narrow(acos64(widen(x)))
 }
 
+// e to the power x: x is widened, `exp64` works it out, and its answer is narrowed.
 pub fn exp32(x: f32) -> f32
     ensures { λ r. ⌜ r ≡ exp32Of x ⌝ }
 {
     narrow(exp64(widen(x)))
 }
 
+// The natural logarithm of x: x is widened, `ln64` works it out, and its answer is narrowed.
 pub fn ln32(x: f32) -> f32
     ensures { λ r. ⌜ r ≡ ln32Of x ⌝ }
 {

@@ -19,7 +19,7 @@ ghost use Rattle.base.specs.Index.{indexOf};
 ghost use Rattle.base.specs.Blend.{cofionOf, hmymOf, fakmapOf};
 ghost use Rattle.base.specs.Files.{fileCheck, filesCheck};
 
-// Whether a month file can be used.
+// The verdict on a month file: 9 or 10 by its walk, then 11 by its index table.
 pub fn file_check(month: &[u8]) -> Verdict
     ensures { λ r. ⌜ r ≡ fileCheck (now (month .entry)) ⌝ }
 {
@@ -30,7 +30,8 @@ pub fn file_check(month: &[u8]) -> Verdict
     }
 }
 
-// Whether an F2 record and a month file can be used.
+// The verdict on an F2 record and a month file: 8 where the record has under 7,904 bytes, then as
+// `file_check`.
 pub fn files_check(f2: &[u8], month: &[u8]) -> Verdict
     ensures { λ r. ⌜ r ≡ filesCheck (now (f2 .entry)) (now (month .entry)) ⌝ }
 {
@@ -40,7 +41,8 @@ pub fn files_check(f2: &[u8], month: &[u8]) -> Verdict
     file_check(month)
 }
 
-// The 60 words of `ikim`.
+// The 60 words of `ikim` into the lent array, and the verdict of `file_check`. Refused, the array
+// stays as it is.
 pub fn index(month: &[u8], out: &mut IndexTable) -> Verdict
     ensures { λ r. ⌜ (
         let m = now (month .entry) in
@@ -59,7 +61,8 @@ pub fn index(month: &[u8], out: &mut IndexTable) -> Verdict
     }
 }
 
-// The coefficients of the six maps at a sunspot number.
+// The coefficients of the six maps at a sunspot number into the lent array, and the verdict of
+// `files_check`. Refused, the array stays as it is.
 pub fn cofion(f2: &[u8], month: &[u8], ssn: f32, out: &mut SixMaps) -> Verdict
     ensures { λ r. ⌜ (
         let f = now (f2 .entry) in
@@ -79,7 +82,8 @@ pub fn cofion(f2: &[u8], month: &[u8], ssn: f32, out: &mut SixMaps) -> Verdict
     }
 }
 
-// The coefficients of the height map at a sunspot number.
+// The coefficients of the height map at a sunspot number into the lent array, and the verdict of
+// `file_check`. Refused, the array stays as it is.
 pub fn hmym(month: &[u8], ssn: f32, out: &mut HeightMap) -> Verdict
     ensures { λ r. ⌜ (
         let m = now (month .entry) in
@@ -98,7 +102,8 @@ pub fn hmym(month: &[u8], ssn: f32, out: &mut HeightMap) -> Verdict
     }
 }
 
-// The words of the land map.
+// The words of the land map into the lent array, and the verdict of `file_check`. Refused, the
+// array stays as it is.
 pub fn fakmap(month: &[u8], out: &mut LandMap) -> Verdict
     ensures { λ r. ⌜ (
         let m = now (month .entry) in
@@ -117,7 +122,8 @@ pub fn fakmap(month: &[u8], out: &mut LandMap) -> Verdict
     }
 }
 
-// The four arrays that a sheet reads, from files that are checked once.
+// The four arrays that a sheet reads, from files that are checked once, and the verdict of
+// `files_check`. Refused, all four stay as they are.
 pub fn redmap(
     f2: &[u8],
     month: &[u8],

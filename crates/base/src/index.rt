@@ -80,7 +80,7 @@ fn is_good(month: &[u8], k: usize) -> bool
     is_ladder(month, k)
 }
 
-// The index check of a month file: the lowest bad map, 1 to 6.
+// Document 01's index check of a month file: 11 with the lowest bad map, 1 to 6, as its place.
 pub fn index_check(month: &[u8]) -> Verdict
     ensures { λ r. ⌜ r ≡ indexCheck (now (month .entry)) ⌝ }
 {

@@ -17,7 +17,7 @@ pub fn is_negative(x: f64) -> bool
     f64::to_bits(x) >= 0x8000_0000_0000_0000
 }
 
-// |x|, which takes -0 to +0.
+// The size of x, which takes -0 to +0; a NaN gives a NaN.
 pub fn abs64(x: f64) -> f64
     ensures { λ r. ⌜ r ≡ absOf x ⌝ }
 {
@@ -27,7 +27,7 @@ pub fn abs64(x: f64) -> f64
     f64::from_bits(f64::to_bits(x) % 0x8000_0000_0000_0000)
 }
 
-// |x|, which takes -0 to +0.
+// The size of x, which takes -0 to +0; a NaN gives a NaN.
 pub fn abs32(x: f32) -> f32
     ensures { λ r. ⌜ r ≡ absOf x ⌝ }
 {
@@ -194,7 +194,7 @@ fn magnitude(b: u64) -> u64
     }
 }
 
-// The `f32` nearest to x, a tie going to the one whose last digit is even.
+// The `f32` nearest to x, a tie going to the one whose last digit is even; a NaN gives a NaN.
 pub fn narrow(x: f64) -> f32
     ensures { λ r. ⌜ r ≡ narrowOf x ⌝ }
 {
@@ -206,12 +206,12 @@ pub fn narrow(x: f64) -> f32
     f32::from_bits((sign * 0x8000_0000 + magnitude(b % 0x8000_0000_0000_0000)) as u32)
 }
 
-// The `f32` nearest to x, kept as an `f64`. From 2^-126 on an `f32` is an `f64` whose last 29
-// digits are 0, so that the bits are rounded where they stand; what may overflow or is below goes
-// by `narrow`.
+// The `f32` nearest to x, as `narrow` gives it, kept as an `f64`.
 pub fn narrowed(x: f64) -> f64
     ensures { λ r. ⌜ r ≡ narrowOf x ⌝ }
 {
+    // From 2^-126 on an `f32` is an `f64` whose last 29 digits are 0, so that the bits are rounded
+    // where they stand; what may overflow or is below goes by `narrow`.
     if x != x {
         return x;
     }
@@ -355,7 +355,7 @@ fn normal_root(b: u64) -> f64
     }
 }
 
-// √x to the nearest `f64`; a NaN for any x below zero but -0, whose root is -0.
+// √x to the nearest `f64`; a NaN for a NaN and for any x below zero but -0, whose root is -0.
 pub fn sqrt64(x: f64) -> f64
     ensures { λ r. ⌜ r ≡ sqrtOf binary64 x ⌝ }
 {
@@ -379,10 +379,11 @@ pub fn sqrt64(x: f64) -> f64
     f64::from_bits(root_bits(b))
 }
 
-// √x to the nearest `f32`. The `f64` nearest to √x has more than twice the digits, so that rounding
-// it once more gives the `f32` nearest to √x itself.
+// √x to the nearest `f32`; a NaN for a NaN and for any x below zero but -0, whose root is -0.
 pub fn sqrt32(x: f32) -> f32
     ensures { λ r. ⌜ r ≡ sqrtOf binary32 x ⌝ }
 {
+    // The `f64` nearest to √x has more than twice the digits, so that rounding it once more gives the
+    // `f32` nearest to √x itself.
     narrow(sqrt64(widen(x)))
 }

@@ -67,14 +67,15 @@ pub fn word(s: &[u8], at: usize) -> u32
     short_word(s, at)
 }
 
-// The word at `at` as a signed number.
+// The word at `at` as a signed number; a byte that is not there counts as 0.
 pub fn integer(s: &[u8], at: usize) -> i32
     ensures { λ r. ⌜ r ≡ integerAt (now (s .entry)) at ⌝ }
 {
     number::signed(word(s, at))
 }
 
-// The word at `at` as an `f32`; a NaN's pattern gives a NaN.
+// The word at `at` as an `f32`; a NaN's pattern gives a NaN, and a byte that is not there counts as
+// 0.
 pub fn float(s: &[u8], at: usize) -> f32
     ensures { λ r. ⌜ r ≡ floatAt (now (s .entry)) at ⌝ }
 {

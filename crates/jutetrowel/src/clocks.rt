@@ -97,7 +97,8 @@ fn local_of(local: LocalTime) -> LocalAnswer
     }
 }
 
-// A universal time made local.
+// A universal time in hours made local at a longitude in degrees, with the change of day. Refuses
+// as `cngtim`, with zeros for the time and the day.
 #[no_mangle]
 pub extern "C" fn jt_cngtim_to_local(time: f32, lon: f32) -> ClockAnswer
     ensures { λ r. ⌜ r ≡ clockAnswer (movedOf time (degrees lon) ToLocal) ⌝ }
@@ -105,7 +106,8 @@ pub extern "C" fn jt_cngtim_to_local(time: f32, lon: f32) -> ClockAnswer
     clock_of(clocks::cngtim(time, Degrees(lon), Direction::ToLocal))
 }
 
-// A local time made universal.
+// A local time in hours at a longitude in degrees made universal, with the change of day. Refuses
+// as `cngtim`, with zeros for the time and the day.
 #[no_mangle]
 pub extern "C" fn jt_cngtim_to_universal(time: f32, lon: f32) -> ClockAnswer
     ensures { λ r. ⌜ r ≡ clockAnswer (movedOf time (degrees lon) ToUniversal) ⌝ }
@@ -114,6 +116,7 @@ pub extern "C" fn jt_cngtim_to_universal(time: f32, lon: f32) -> ClockAnswer
 }
 
 // A whole hour at both ends of a path; it is the transmitter's local time where `local` is not 0.
+// Refuses as `geotim`, with zeros for the times.
 #[no_mangle]
 pub extern "C" fn jt_geotim(hour: u32, local: u32, tlong: f32, rlong: f32) -> HoursAnswer
     ensures { λ r. ⌜ r ≡ hoursAnswer (timesOf hour (not (eqb local 0)) (degrees tlong) (degrees rlong)) ⌝ }
@@ -121,7 +124,8 @@ pub extern "C" fn jt_geotim(hour: u32, local: u32, tlong: f32, rlong: f32) -> Ho
     hours_of(clocks::geotim(hour, local != 0, Degrees(tlong), Degrees(rlong)))
 }
 
-// The local time at one place for a universal time.
+// The local time in hours at one place, its longitude in degrees, for a universal time. Refuses as
+// `geotim_clck`, with zero for the time.
 #[no_mangle]
 pub extern "C" fn jt_geotim_clck(gmt: f32, lon: f32) -> LocalAnswer
     ensures { λ r. ⌜ r ≡ localAnswer (localTimeOf gmt (degrees lon)) ⌝ }

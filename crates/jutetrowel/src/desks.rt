@@ -27,7 +27,8 @@ ghost use Rattle.jutetrowel.specs.Fields.{routeTyped, factorsOf, poleTyp
 ghost use Rattle.jutetrowel.specs.Words.{worksheetOf, wordsAfter};
 ghost use Rattle.jutetrowel.specs.Calls.{answerNumbers, Shows, wordsLeft, Made};
 
-// A worksheet from 14 little-endian words, into the lent ones.
+// A worksheet from 14 little-endian words, into the 90 words lent. Refuses the first bad field; the
+// 90 words stay.
 #[no_mangle]
 pub extern "C" fn jt_open(words: &[u8], sheet: &mut [u32; SHEET_WORDS]) -> Answer
     ensures { λ r. ⌜ (
@@ -61,6 +62,7 @@ fn made(sheet: &mut [u32; SHEET_WORDS], call: Call) -> Answer
     }
 }
 
+// Begins a desk's draft, a copy of the inputs. Refuses 14, then 15 where it has one.
 #[no_mangle]
 pub extern "C" fn jt_begin(sheet: &mut [u32; SHEET_WORDS], desk: u32) -> Answer
     ensures { λ r. ⌜ Made (begin desk) (now (sheet .entry)) r (now (sheet .exit)) ⌝ }
@@ -68,6 +70,7 @@ pub extern "C" fn jt_begin(sheet: &mut [u32; SHEET_WORDS], desk: u32) -> Answer
     made(sheet, Call::Begin(desk))
 }
 
+// Changes the sunspot number of a desk's draft. Refuses 14, 16, then the field, 2.
 #[no_mangle]
 pub extern "C" fn jt_change_sunspot(sheet: &mut [u32; SHEET_WORDS], desk: u32, ssn: f32) -> Answer
     ensures { λ r. ⌜ Made (change desk (Sunspot ssn)) (now (sheet .entry)) r (now (sheet .exit)) ⌝ }
@@ -75,6 +78,7 @@ pub extern "C" fn jt_change_sunspot(sheet: &mut [u32; SHEET_WORDS], desk: u32, s
     made(sheet, Call::Change(desk, Edit::Sunspot(ssn)))
 }
 
+// Changes the hour of a desk's draft. Refuses 14, 16, then the field, 3.
 #[no_mangle]
 pub extern "C" fn jt_change_hour(sheet: &mut [u32; SHEET_WORDS], desk: u32, gmt: f32) -> Answer
     ensures { λ r. ⌜ Made (change desk (Hour gmt)) (now (sheet .entry)) r (now (sheet .exit)) ⌝ }
@@ -82,7 +86,8 @@ pub extern "C" fn jt_change_hour(sheet: &mut [u32; SHEET_WORDS], desk: u32, gmt:
     made(sheet, Call::Change(desk, Edit::Hour(gmt)))
 }
 
-// A flag that is neither 0 nor 1 is refused.
+// Changes the path of a desk's draft, its ends in degrees. Refuses 14, 16, then the fields, 4 and
+// 5, and 7 for a flag that is neither 0 nor 1.
 #[no_mangle]
 pub extern "C" fn jt_change_path(
     sheet: &mut [u32; SHEET_WORDS],
@@ -100,6 +105,7 @@ pub extern "C" fn jt_change_path(
     made(sheet, Call::Change(desk, e))
 }
 
+// Changes the four factors of a desk's draft. Refuses 14, 16, then the fields, 6.
 #[no_mangle]
 pub extern "C" fn jt_change_factors(
     sheet: &mut [u32; SHEET_WORDS],
@@ -116,6 +122,8 @@ pub extern "C" fn jt_change_factors(
     made(sheet, Call::Change(desk, e))
 }
 
+// Changes the magnetic pole of a desk's draft, in degrees. Refuses 14, 16, then the fields, 4 and
+// 5.
 #[no_mangle]
 pub extern "C" fn jt_change_pole(
     sheet: &mut [u32; SHEET_WORDS],
@@ -130,6 +138,7 @@ pub extern "C" fn jt_change_pole(
     made(sheet, Call::Change(desk, e))
 }
 
+// Makes a desk's draft the inputs. Refuses 14, 16, then 17 where the draft is stale.
 #[no_mangle]
 pub extern "C" fn jt_commit(sheet: &mut [u32; SHEET_WORDS], desk: u32) -> Answer
     ensures { λ r. ⌜ Made (commit desk) (now (sheet .entry)) r (now (sheet .exit)) ⌝ }
@@ -137,6 +146,7 @@ pub extern "C" fn jt_commit(sheet: &mut [u32; SHEET_WORDS], desk: u32) -> Answer
     made(sheet, Call::Commit(desk))
 }
 
+// Drops a desk's draft; nothing else moves. Refuses 14, then 16 where there is none.
 #[no_mangle]
 pub extern "C" fn jt_cancel(sheet: &mut [u32; SHEET_WORDS], desk: u32) -> Answer
     ensures { λ r. ⌜ Made (cancel desk) (now (sheet .entry)) r (now (sheet .exit)) ⌝ }
@@ -144,6 +154,7 @@ pub extern "C" fn jt_cancel(sheet: &mut [u32; SHEET_WORDS], desk: u32) -> Answer
     made(sheet, Call::Cancel(desk))
 }
 
+// Brings back the earlier set of inputs. Refuses 18 where there is none.
 #[no_mangle]
 pub extern "C" fn jt_take_back(sheet: &mut [u32; SHEET_WORDS]) -> Answer
     ensures { λ r. ⌜ Made takeBack (now (sheet .entry)) r (now (sheet .exit)) ⌝ }
@@ -151,7 +162,8 @@ pub extern "C" fn jt_take_back(sheet: &mut [u32; SHEET_WORDS]) -> Answer
     made(sheet, Call::TakeBack)
 }
 
-// Desk 0 is the worksheet. `f2` is the F2 record and `file` the month file.
+// The number of points, with the figures of a desk's draft, of the worksheet for desk 0, in the
+// buffer. Refuses as `show`; the buffer stays.
 #[no_mangle]
 pub extern "C" fn jt_show(
     sheet: &[u32; SHEET_WORDS],

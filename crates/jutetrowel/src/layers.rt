@@ -72,7 +72,8 @@ fn path_as(g: geometry::PathGeometry) -> Measured
     }
 }
 
-// A path by its ends in degrees; a flag that is not 0 is the long way round.
+// The path between two ends in degrees, its six figures, both bearings in degrees and its number of
+// points; a flag that is not 0 is the long way round. Nothing is refused.
 #[no_mangle]
 pub extern "C" fn jt_path(
     tlat: f32,
@@ -99,7 +100,8 @@ pub extern "C" fn jt_path(
     ))
 }
 
-// The coefficients of the six maps at an hour; refused, the array stays as it is.
+// The coefficients of the six maps at a sunspot number and an hour. Refuses 8, 9, 10, 11; the array
+// stays as it is.
 #[no_mangle]
 pub extern "C" fn jt_hour_maps(
     f2: &[u8],
@@ -145,8 +147,8 @@ fn layers_as(l: LayersAt) -> Layers
     }
 }
 
-// The layers at a place in radians, from the maps at the hour and a month file. A month that there
-// is not is refused first.
+// The layers at a place in radians, from the maps at the hour and a month file. Refuses 1, then 9,
+// 10, 11, with +0.0 for every parameter.
 #[no_mangle]
 pub extern "C" fn jt_layers_at(
     month: u32,

@@ -16,8 +16,8 @@ ghost use Rattle.jutetrowel.specs.Answers.{showingOf};
 ghost use Rattle.jutetrowel.specs.Fields.{inputsOf};
 ghost use Rattle.jutetrowel.specs.Calls.{Shows};
 
-// The figures of a sheet, its fields one by one. Nothing judges them: a flag that is not 0 is the
-// long way round.
+// The number of points of a sheet by its fields, which nothing judges, with its figures in the
+// buffer; a flag that is not 0 is the long way round. Refuses 12, 8, 9, 10, 11; the buffer stays.
 #[no_mangle]
 pub extern "C" fn jt_figures(
     month: u32,
@@ -57,8 +57,8 @@ pub extern "C" fn jt_figures(
     shown_as(drawn(i, f2, file, out))
 }
 
-// A whole sheet: 14 little-endian words, an F2 record and a month file, as the program `sheet`
-// reads them. A showing judges the fields that an open does, so it gives a refused open's refusal.
+// A whole sheet of 14 little-endian words, an F2 record and a month file: the number of points,
+// with the figures in the buffer. Refuses the fields, 12, 8, 9, 10, 11; the buffer stays.
 #[no_mangle]
 pub extern "C" fn jt_sheet(words: &[u8], f2: &[u8], file: &[u8], out: &mut [f32]) -> Showing
     ensures { λ r. ⌜ Shows (step (pair (now (f2 .entry)) (now (file .entry)))

@@ -17,7 +17,7 @@ ghost use Rattle.listing.specs.Answer.{glyphOf, hexOf, lineOf, linesOf, 
 // each figure.
 pub const ANSWER: usize = 18 + 9 * FIGURES;
 
-// The hexadecimal digit of d, of its last one where d has more.
+// The lowercase hexadecimal digit of d as a byte of text, of its last one where d has more.
 pub fn glyph(d: u32) -> u8
     ensures { λ r. ⌜ r ≡ glyphOf d ⌝ }
 {
@@ -64,7 +64,7 @@ fn put_lines(out: &mut [u8], at: usize, figures: &[f32]) -> usize
     next
 }
 
-// The line `refused`, number, place.
+// Writes the line of a refusal, `refused`, number, place, and gives its length in bytes.
 pub fn refusal_text(why: Refusal, out: &mut [u8; ANSWER]) -> usize
     ensures { λ r. ⌜ take r (now (out .exit)) ≡ refusalText why ⌝ }
     ensures { λ r. ⌜ Counts r (now (out .exit)) ⌝ }
@@ -76,7 +76,8 @@ pub fn refusal_text(why: Refusal, out: &mut [u8; ANSWER]) -> usize
     put(out, next, b"\n")
 }
 
-// The line of a call that shows nothing.
+// Writes the line of a call that shows nothing, `accepted` or the refusal's, and gives its length
+// in bytes.
 pub fn verdict_text(v: Verdict, out: &mut [u8; ANSWER]) -> usize
     ensures { λ r. ⌜ take r (now (out .exit)) ≡ verdictText v ⌝ }
     ensures { λ r. ⌜ Counts r (now (out .exit)) ⌝ }
@@ -98,7 +99,8 @@ fn points_text(count: u32, figures: &[f32; FIGURES], out: &mut [u8; ANSWER]) -> 
     put_lines(out, next, figures)
 }
 
-// What a showing in a journal answers.
+// Writes what a showing in a journal answers, `points` and the figures' lines or the refusal's
+// line, and gives its length in bytes.
 pub fn shown_text(s: Shown, figures: &[f32; FIGURES], out: &mut [u8; ANSWER]) -> usize
     ensures { λ r. ⌜ take r (now (out .exit)) ≡ shownText s (now (figures .entry)) ⌝ }
     ensures { λ r. ⌜ Counts r (now (out .exit)) ⌝ }
@@ -109,7 +111,8 @@ pub fn shown_text(s: Shown, figures: &[f32; FIGURES], out: &mut [u8; ANSWER]) ->
     }
 }
 
-// What a sheet by itself answers: the lines alone, or the refusal.
+// Writes what a sheet by itself answers, the figures' lines alone or the refusal's line, and gives
+// its length in bytes.
 pub fn sheet_text(s: Shown, figures: &[f32; FIGURES], out: &mut [u8; ANSWER]) -> usize
     ensures { λ r. ⌜ take r (now (out .exit)) ≡ sheetText s (now (figures .entry)) ⌝ }
     ensures { λ r. ⌜ Counts r (now (out .exit)) ⌝ }
@@ -120,7 +123,8 @@ pub fn sheet_text(s: Shown, figures: &[f32; FIGURES], out: &mut [u8; ANSWER]) ->
     }
 }
 
-// The line where bytes make no call, with the place of the first of them.
+// Writes the line where bytes make no call, with the place of the first of them, and gives its
+// length in bytes.
 pub fn stopped_text(at: u64, out: &mut [u8; ANSWER]) -> usize
     ensures { λ r. ⌜ take r (now (out .exit)) ≡ stoppedText at ⌝ }
     ensures { λ r. ⌜ Counts r (now (out .exit)) ⌝ }

@@ -78,7 +78,8 @@ fn change_in(s: &[u8], e: Edit) -> Read
     Read::Call(Call::Change(word(s, 0), e))
 }
 
-// The call of an operation, from the bytes after its word.
+// The call of an operation, from the bytes after its word, of which one that is not there counts as
+// 0; `Bad` where the operation is unknown.
 pub fn call_in(operation: u32, s: &[u8]) -> Read
     ensures { λ r. ⌜ r ≡ callIn operation (now (s .entry)) ⌝ }
 {

@@ -274,7 +274,8 @@ fn put_points(out: &mut [u8], at: usize, count: u32, figures: &[f32; FIGURES]) -
     next
 }
 
-// The fields, the six figures of the path, then the points.
+// Writes the page, the fields, the six figures of the path and the points that are there, and gives
+// its length in bytes.
 pub fn page_text(i: Inputs, count: u32, figures: &[f32; FIGURES], out: &mut [u8; PAGE]) -> usize
     ensures { λ r. ⌜ take r (now (out .exit)) ≡ pageText i count (now (figures .entry)) ⌝ }
     ensures { λ r. ⌜ Counts r (now (out .exit)) ⌝ }

@@ -18,8 +18,8 @@ ghost use Rattle.io.specs.Counts.{Counts};
 ghost use Rattle.listing.specs.Answer.{refusalText};
 ghost use Rattle.listing.specs.Sheet.{sheetAnswer, pageFor, pageAnswer};
 
-// The 151 lines of the worksheet that the words open, or the line of the refusal. A showing judges
-// the fields as opening does, so that it refuses what opening refuses.
+// Writes the 151 lines of the worksheet that the words open, or the line of the refusal, and gives
+// the length in bytes.
 pub fn sheet_answer(words: &[u8], f2: &[u8], file: &[u8], out: &mut [u8; ANSWER]) -> usize
     ensures { λ r. ⌜ take r (now (out .exit)) ≡ sheetAnswer (now (words .entry)) (now (f2 .entry)) (now (file .entry)) ⌝ }
     ensures { λ r. ⌜ Counts r (now (out .exit)) ⌝ }
@@ -50,7 +50,8 @@ fn put_refusal(why: Refusal, out: &mut [u8; PAGE]) -> usize
     put(out, 0, &line[..n])
 }
 
-// The page of the worksheet that the words open, or the line of the refusal.
+// Writes the page of the worksheet that the words open, or the line of the refusal, and gives the
+// length in bytes.
 pub fn page_answer(words: &[u8], f2: &[u8], file: &[u8], out: &mut [u8; PAGE]) -> usize
     ensures { λ r. ⌜ take r (now (out .exit)) ≡ pageAnswer (now (words .entry)) (now (f2 .entry)) (now (file .entry)) ⌝ }
     ensures { λ r. ⌜ Counts r (now (out .exit)) ⌝ }

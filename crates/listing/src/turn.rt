@@ -31,8 +31,8 @@ fn handed_text(a: Answer, figures: &[f32; FIGURES], out: &mut [u8; ANSWER]) -> u
     }
 }
 
-// Makes a call over a lent record and month file, a showing with a buffer of zeros, and writes the
-// text of its answer.
+// Makes a call over a lent record and month file, a showing with a buffer of zeros, writes the text
+// of its answer and gives its length beside the worksheet that the call leaves.
 pub fn answered(w: Worksheet, call: Call, f2: &[u8], file: &[u8], out: &mut [u8; ANSWER]) -> Turn
     ensures { λ r. ⌜ (
         let s = step (pair (now (f2 .entry)) (now (file .entry))) (called call blank) w in

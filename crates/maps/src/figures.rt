@@ -236,8 +236,8 @@ fn fill_in(
     g.count
 }
 
-// The figures of a sheet into the lent buffer, from a lent F2 record and month file. Refused, the
-// buffer stays as it is.
+// The number of points of a sheet, with its 151 figures in the lent buffer; no field is judged.
+// Where the files are refused (8, 9, 10, 11) the buffer stays as it is.
 pub fn figures(i: Inputs, f2: &[u8], file: &[u8], out: &mut [f32; FIGURES]) -> Shown
     ensures { λ r. ⌜ (
         let f = now (f2 .entry) in

@@ -372,7 +372,8 @@ fn rows(track: Track, pole: Place, gcd: f32, count: u32) -> [ControlPoint; 5]
     [p1, p2, p3, p4, p5]
 }
 
-// The path of two ends, the short way or, with `long_path`, the long way round.
+// Length, bearings and control points of the path between two ends in degrees, the short way or,
+// with `long_path`, the long way round. Nothing is refused.
 pub fn path_geometry(
     tlat: Degrees,
     tlong: Degrees,
@@ -407,7 +408,7 @@ pub fn path_geometry(
     }
 }
 
-// A place's latitude against the magnetic pole.
+// The latitude against the magnetic pole, in radians, of a place in radians.
 pub fn geomagnetic_latitude(pole: MagneticPole, lat: Radians, lon: Radians) -> Radians
     ensures { λ r. ⌜ r ≡ geomagneticOf pole lat lon ⌝ }
 {
@@ -425,7 +426,8 @@ fn mean_latitude(count: u32, lat1: f32, lat2: f32, lat3: f32) -> f32
     }
 }
 
-// The absolute path latitude. With five points it still averages the first three.
+// The path's latitude in degrees, without its sign: of its one point, or the mean of the first
+// three, with five points too.
 pub fn alatd(g: PathGeometry) -> Degrees
     ensures { λ r. ⌜ r ≡ alatdOf g ⌝ }
 {
@@ -439,6 +441,7 @@ pub fn alatd(g: PathGeometry) -> Degrees
     Radians(mean_latitude(g.count, lat1.0, lat2.0, lat3.0)).to_degrees()
 }
 
+// The bearing from transmitter to receiver in degrees.
 pub fn btr_deg(g: PathGeometry) -> Degrees
     ensures { λ r. ⌜ r ≡ btrDeg g ⌝ }
 {
@@ -446,6 +449,7 @@ pub fn btr_deg(g: PathGeometry) -> Degrees
     btr.to_degrees()
 }
 
+// The bearing from receiver to transmitter in degrees.
 pub fn brt_deg(g: PathGeometry) -> Degrees
     ensures { λ r. ⌜ r ≡ brtDeg g ⌝ }
 {

@@ -35,7 +35,8 @@ ghost use Rattle.base.specs.Files.{filesCheck};
 ghost use Rattle.maps.specs.Virtim.{GoodTable};
 ghost use Rattle.maps.specs.Ionosphere.{hourMapsOf, gammasAt, pointAt, layersCheck, layersThere, noLayers, layersAtOf};
 
-// The coefficients of the six maps at an hour into a lent array, which a refusal leaves as it is.
+// The coefficients of the six maps at a sunspot number and an hour into the lent array, and the
+// verdict on the files (8, 9, 10, 11). Refused, the array stays as it is.
 pub fn hour_maps(f2: &[u8], file: &[u8], ssn: f32, gmt: f32, ab: &mut TimeMaps) -> Verdict
     ensures { λ r. ⌜ (
         let f = now (f2 .entry) in
@@ -164,8 +165,8 @@ fn no_layers() -> LayerParams
     }
 }
 
-// The layer parameters at one place, by the same steps as at a control point of a path, from the
-// maps at the hour and a month file.
+// The layer parameters at one place, as at a control point, from the maps at the hour and a month
+// file. Refused, by 1 and then 9, 10, 11, every parameter is +0.0.
 pub fn layer_parameters_at(
     inputs: LayerInputs,
     ab: &TimeMaps,

@@ -356,7 +356,8 @@ pub struct Une {
     pub east: f32,
 }
 
-// The magnetic field at a position: east longitude from 0 to 2 PI, height in metres.
+// The magnetic field, up, north and east, in gauss, at a latitude and an east longitude and at a
+// height in metres.
 pub fn magfin(lat: Radians, east_lon: Radians, height_m: f32) -> Une
     ensures { λ r. ⌜ r ≡ magfinOf lat «east_lon» «height_m» ⌝ }
 {
@@ -376,7 +377,7 @@ pub struct MagneticVars {
     pub east_lon: Radians,
 }
 
-// The east longitude, 0 to 2 PI, of one that is negative west.
+// A longitude, negative west, as an east longitude: a full turn is added where it is below 0.
 pub fn east(lon: Radians) -> Radians
     ensures { λ r. ⌜ r ≡ eastOf lon ⌝ }
 {
@@ -396,7 +397,8 @@ fn gob(lat: Radians) -> f32
     if cosine <= 0.000001 { 0.000001 } else { cosine }
 }
 
-// Gyrofrequency and dip angle at a control point, from the field at 300 km over it.
+// Gyrofrequency in MHz, Rawer's modified dip and the east longitude at a control point, from the
+// field 300 km over it.
 pub fn magvar(lat: Radians, lon: Radians) -> MagneticVars
     ensures { λ r. ⌜ r ≡ magvarOf lat lon ⌝ }
 {

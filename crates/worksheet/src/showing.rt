@@ -1,4 +1,5 @@
-// A showing: the figures of the worksheet's inputs or of a desk's draft.
+// A showing: the figures of the worksheet's inputs or of a desk's draft. `f2` is the F2 record and
+// `file` the month file; that they are of the inputs' month is the caller's word.
 use crate::desks::Worksheet;
 use crate::desks::desk_check;
 use crate::desks::draft_at;
@@ -80,9 +81,8 @@ pub fn drawn(i: Inputs, f2: &[u8], file: &[u8], out: &mut [f32]) -> Shown
     }
 }
 
-// The number of points, with the figures in the buffer; a refusal leaves the buffer as it was lent.
-// Desk 0 is the worksheet. `f2` is the F2 record and `file` the month file; that they are of the
-// inputs' month is the caller's word.
+// The number of points, with the figures of a desk's draft, of the worksheet for desk 0, in the
+// buffer. Refuses 14, 16, the 14 fields, 12, 8, 9, 10, 11; the buffer stays as it was lent.
 pub fn show(w: Worksheet, desk: u32, f2: &[u8], file: &[u8], out: &mut [f32]) -> Shown
     ensures { λ r. ⌜ (r ≡ showOf (pair (now (f2 .entry)) (now (file .entry))) desk (now (out .entry)) w) × (now (out .exit) ≡ showBuffer (pair (now (f2 .entry)) (now (file .entry))) desk (now (out .entry)) w) ⌝ }
 {

@@ -221,9 +221,8 @@ pub fn cngtim(time: f32, lon: Degrees, direction: Direction) -> Moved
     moved_if(time_check(time, lon), cngtim_of(time, lon, direction))
 }
 
-// The universal time and the local times at both ends of a path for a whole hour, which is the
-// transmitter's local time or universal time. Refuses an hour above 24, then the transmitter's and
-// then the receiver's longitude outside -180 to 180 degrees.
+// Universal time and both ends' local times at a whole hour, universal or the transmitter's.
+// Refuses an hour above 24, then a longitude outside -180 to 180 degrees, the transmitter's first.
 pub fn geotim(hour: u32, local: bool, tlong: Degrees, rlong: Degrees) -> Times
     ensures { λ r. ⌜ r ≡ timesOf hour local tlong rlong ⌝ }
 {
@@ -231,7 +230,7 @@ pub fn geotim(hour: u32, local: bool, tlong: Degrees, rlong: Degrees) -> Times
     times_if(hours_check(hour, tlong, rlong), hours)
 }
 
-// The local time at one place for a universal time. Refuses as `cngtim` does.
+// The local time, in hours, at one place for a universal time. Refuses as `cngtim` does.
 pub fn geotim_clck(gmt: f32, lon: Degrees) -> LocalTime
     ensures { λ r. ⌜ r ≡ localTimeOf gmt lon ⌝ }
 {

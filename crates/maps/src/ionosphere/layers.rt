@@ -156,7 +156,8 @@ fn term(file: &[u8], a: usize, b: usize, ssn: f32) -> f32
     float(file, a) + float(file, b) * ssn
 }
 
-// What `layer_parameters` and `ground_constants` take of a month file at a sunspot number.
+// What `layer_parameters` and `ground_constants` take of a month file at a sunspot number, with the
+// month's row of the sun's table.
 pub fn monthly_of(file: &[u8], month: u32, ssn: f32) -> Monthly
     ensures { λ r. ⌜ r ≡ monthlyOf (now (file .entry)) month ssn ⌝ }
 {
@@ -174,7 +175,8 @@ pub fn monthly_of(file: &[u8], month: u32, ssn: f32) -> Monthly
     }
 }
 
-// TIMVAR's clock in hours. It is corrected once: 24 stays, 0 becomes 24.
+// TIMVAR's local clock, in hours, of a universal hour and a longitude. It is corrected once: 24
+// stays, 0 becomes 24.
 pub fn timvar_clck(gmt: f32, lon: Radians) -> f32
     ensures { λ r. ⌜ r ≡ clockOf gmt lon ⌝ }
 {
@@ -436,7 +438,7 @@ fn retarded(
     }
 }
 
-// TIMVAR with EF1VAR, then F2VAR, at one control point.
+// The parameters of the layers E, F1 and F2 at one control point: TIMVAR with EF1VAR, then F2VAR.
 pub fn layer_parameters(
     m: Monthly,
     ssn: f32,
@@ -477,7 +479,8 @@ pub fn layer_parameters(
     }
 }
 
-// Sporadic E. The deciles run against the numbers of the maps: 3, 2, 1.
+// Sporadic E: the frequencies of maps 3, 2 and 1, in this order, times the factor, and the height,
+// 110 km.
 pub fn esind(g: Gammas, psc3: f32) -> EsParams
     ensures { λ r. ⌜ r ≡ esindOf g psc3 ⌝ }
 {
@@ -498,7 +501,8 @@ fn ground_at(wld: f32) -> Ground
     }
 }
 
-// The ground at a place, from the land-mass map; the longitude is the one that `magvar` gives.
+// The ground's conductivity and permittivity at a place, from the land-mass map; the longitude is
+// the one that `magvar` gives.
 pub fn ground_constants(m: Monthly, fakmap: &LandMap, lat: Radians, east_lon: Radians) -> Ground
     ensures { λ r. ⌜ r ≡ groundOf m (now (fakmap .entry)) lat «east_lon» ⌝ }
 {

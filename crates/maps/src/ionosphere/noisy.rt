@@ -120,8 +120,8 @@ fn noisy_sum(
     latitude_sum(&zz, angle.sine, angle.cosine, lm) + alf + bet * p
 }
 
-// At `xla` and `ceg`, in degrees; `alf` and `bet` are what the file has for the map, and
-// `ratio_map` says that it is the shorter one, of the height ratio.
+// The value of a Fourier map at `xla` and `ceg`, in degrees; `alf` and `bet` are what the file has
+// for the map, `ratio_map` says that it is the shorter one, of the height ratio.
 pub fn noisy(plane: &Plane, alf: f32, bet: f32, ratio_map: bool, xla: f32, ceg: f32) -> f32
     ensures { λ r. ⌜ r ≡ noisyOf (now (plane .entry)) alf bet «ratio_map» xla ceg ⌝ }
 {
