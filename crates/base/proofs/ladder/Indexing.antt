@@ -18,7 +18,7 @@ use Rattle.base.specs.Words.{integerAt}
 use Rattle.base.specs.Index.{ikimAt, indexOf, mapWord, rows, harmonics, goodMap, lowestBad, indexCheck, Climbs, top, level, up, GoodIndex, Reaches}
 use Rattle.base.specs.Blend.{IA, IB, IC}
 use Rattle.base.proofs.lists.Fills.{run-at}
-use Rattle.base.proofs.layout.Records.{refused-accepted}
+use Rattle.base.proofs.verdicts.Refusals.{refused-not-accepted}
 use Rattle.base.proofs.ladder.Ladders.{mapWords, same-words, signed-small, good-known, six, limits}
 
 -- ---- no map is bad
@@ -38,7 +38,7 @@ good-from month (suc n) k i e h = go (good month k) refl (good-from month n (k +
         good month (k + i) ≡ true
     go true g f zero h e = ap (good month) (add-zero k) ∙ g
     go true g f (suc i) h e = let m : k + suc i ≡ k + 1 + i = omega arith in ap (good month) m ∙ f i e (omega arith)
-    go false g f i h e = refused-accepted e
+    go false g f i h e = refused-not-accepted e
 
 module _ (month : List ℕ) (passed : indexCheck month ≡ Accepted) where
   every-good : (k : ℕ) → k < 6 → good month k ≡ true

@@ -19,7 +19,7 @@ use Rattle.base.specs.MonthFile.{recordSize, monthFileSize, Part, emptyP
 use Rattle.base.specs.Tables.{Table, wordsIn, tableEnd, numbered, noSuchTable, bytesIn, partOf, tableCheck, tablePart, tableFile}
 use Rattle.base.proofs.lists.Entries.{at as entry}
 use Rattle.base.proofs.verdicts.Picks.{cond-true, cond-false}
-use Rattle.base.proofs.layout.Records.{refused-accepted}
+use Rattle.base.proofs.verdicts.Refusals.{refused-not-accepted}
 use Rattle.base.proofs.verdicts.Refusals.{accepted-by-number}
 use Rattle.base.proofs.layout.Walks.{accepted-length}
 
@@ -53,8 +53,8 @@ module _ (k : ℕ) (f m : List ℕ) where
           (a b : Bool) → (a ≡ true → k ≤ 20) → (b ≡ true → recordSize ≤ length f) →
           cond a (cond b (monthFileCheck m) (Refused Record)) (Refused NoTable) ≡ Accepted → TableThere k f m
       go true true p q e = record { known = p refl; planes = q refl; walked = e }
-      go true false p q e = refused-accepted e
-      go false b p q e = refused-accepted e
+      go true false p q e = refused-not-accepted e
+      go false b p q e = refused-not-accepted e
 
   pub table-there : TableThere k f m → tableCheck k f m ≡ Accepted
   table-there t = table-walk k f m (t .known) (t .planes) ∙ t .walked

@@ -15,20 +15,15 @@ use Rattle.base.specs.Refusal.{_then_, writtenOver}
 use Rattle.base.specs.MonthFile.{recordSize, monthFileSize, monthFileCheck}
 use Rattle.base.specs.Index.{indexCheck}
 use Rattle.base.specs.Files.{fileCheck, filesCheck}
-use Rattle.base.proofs.layout.Records.{refused-accepted}
+use Rattle.base.proofs.verdicts.Refusals.{refused-not-accepted, then-both}
 use Rattle.base.proofs.layout.Walks.{accepted-length}
 
 -- ---- what an accepted check gives
 
--- both of two checks accept
-pub then-both : (a b : Verdict) → (a then b) ≡ Accepted → (a ≡ Accepted) × (b ≡ Accepted)
-then-both Accepted b e = (refl, e)
-then-both (Refused why) b e = refused-accepted e
-
 -- the test passes, and the check after it accepts
 pub unless : (b : Bool) (v : Verdict) (why : Refusal) → cond b v (Refused why) ≡ Accepted → (b ≡ true) × (v ≡ Accepted)
 unless true v why e = (refl, e)
-unless false v why e = refused-accepted e
+unless false v why e = refused-not-accepted e
 
 module _ (month : List ℕ) (e : fileCheck month ≡ Accepted) where
   pub file-index : indexCheck month ≡ Accepted

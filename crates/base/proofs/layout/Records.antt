@@ -17,11 +17,8 @@ use Rattle.base.specs.declared.refusal.Verdict.the-variants.{Accepted, R
 use Rattle.base.specs.Refusal.{refuseUnless, _then_, isAccepted}
 use Rattle.base.specs.Ranges.{monthCheck}
 use Rattle.base.specs.MonthFile.{recordSize, Part, IsPart, emptyPart, monthRecordCheck, monthStart, monthPart}
-use Rattle.base.proofs.verdicts.Picks.{cond-true, cond-false, never'}
-
--- no answer is both
-pub refused-accepted : {A : Type 0} {why : Refusal} → Refused why ≡ Accepted → A
-refused-accepted e = never' (sym (ap isAccepted e))
+use Rattle.base.proofs.verdicts.Picks.{cond-true, cond-false}
+use Rattle.base.proofs.verdicts.Refusals.{refused-not-accepted}
 
 pub record MonthThere (s : List ℕ) (m : ℕ) : Type 0 where
   pub low : 1 ≤ m
@@ -37,9 +34,9 @@ month-known s m e = go (leb 1 m) (leb m 12) (leb (m * recordSize) (length s)) (l
         (a b c : Bool) → (a ≡ true → 1 ≤ m) → (b ≡ true → m ≤ 12) → (c ≡ true → m * recordSize ≤ length s) →
         (refuseUnless (a && b) Month then refuseUnless c Record) ≡ Accepted → MonthThere s m
     go true true true f g h e = record { low = f refl; high = g refl; room = h refl }
-    go true true false f g h e = refused-accepted e
-    go true false c f g h e = refused-accepted e
-    go false b c f g h e = refused-accepted e
+    go true true false f g h e = refused-not-accepted e
+    go true false c f g h e = refused-not-accepted e
+    go false b c f g h e = refused-not-accepted e
 
 module _ (s : List ℕ) (m : ℕ) {v : Verdict} (e : v ≡ monthRecordCheck s m) where
   pub month-part : v ≡ Accepted → monthPart s m ≡ record { from = monthStart m; size = recordSize }

@@ -19,7 +19,7 @@ use Rattle.base.specs.declared.refusal.Verdict.{Verdict}
 use Rattle.base.specs.declared.refusal.Verdict.the-variants.{Accepted, Refused}
 use Rattle.base.specs.MonthFile.{monthFileSize, sizes, Four, marker, anything, layout, isRight, walk, monthFileCheck, Sized}
 use Rattle.base.proofs.lists.Entries.{at as entry}
-use Rattle.base.proofs.layout.Records.{refused-accepted}
+use Rattle.base.proofs.verdicts.Refusals.{refused-not-accepted}
 
 abbrev ended : ℕ → Verdict
 ended at = Refused (Ended at)
@@ -150,8 +150,8 @@ walked s at (f ∷ fs) h e = go (leb (at + 4) (length s)) (isRight s at f) (leb-
         (at + 4 ≤ length s → walk s (at + 4) fs ≡ Accepted → at + 4 + length fs * 4 ≤ length s) →
         cond a (cond b (walk s (at + 4) fs) (Refused (Marker at))) (ended at) ≡ Accepted → at + suc (length fs) * 4 ≤ length s
     go true true q r e = omega (arith, r (q refl) e)
-    go true false q r e = refused-accepted e
-    go false b q r e = refused-accepted e
+    go true false q r e = refused-not-accepted e
+    go false b q r e = refused-not-accepted e
 
 all-fours : length (layout sizes) ≡ 9638
 unfolding layout

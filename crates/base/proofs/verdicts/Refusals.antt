@@ -1,7 +1,8 @@
--- A check's answer reports 0 exactly when nothing is refused: every refusal has a number above 0;
--- and a verdict by a test. Assumes nothing.
-use mathlib.Core.Bool.{Bool}
-use mathlib.Core.Path.{_≡_, refl, ap, _∙_}
+-- No answer is both a refusal and an acceptance, and what follows for two checks and for a test;
+-- a check's answer reports 0 exactly when nothing is refused, since every refusal has a number above
+-- 0. Assumes nothing.
+use mathlib.Core.Bool.{Bool, true, false}
+use mathlib.Core.Path.{_≡_, refl, sym, ap, _∙_}
 use Prim.Native.Nat.{_≤_}
 use native.Mathlib.Omega.{arith}
 use lib.Dec.{lit≤}
@@ -9,7 +10,21 @@ use Rattle.base.specs.declared.refusal.Refusal.{Refusal}
 use Rattle.base.specs.declared.refusal.Refusal.the-variants.{Month, Sunspot, Hour, Latitude, Longitude, Factor, Flag, Record, Ended, Marker, Index, Figures, Table, Desk, Drafted, NoDraft, Stale, NothingEarlier}
 use Rattle.base.specs.declared.refusal.Verdict.{Verdict}
 use Rattle.base.specs.declared.refusal.Verdict.the-variants.{Accepted, Refused}
-use Rattle.base.specs.Refusal.{reportOf, verdictReport, refuseUnless}
+use Rattle.base.specs.Refusal.{reportOf, verdictReport, isAccepted, refuseUnless, _then_}
+use Rattle.base.proofs.verdicts.Picks.{never'}
+
+pub refused-not-accepted : {A : Type 0} {why : Refusal} → Refused why ≡ Accepted → A
+refused-not-accepted e = never' (sym (ap isAccepted e))
+
+-- both of two checks accept
+pub then-both : (a b : Verdict) → (a then b) ≡ Accepted → (a ≡ Accepted) × (b ≡ Accepted)
+then-both Accepted b e = (refl, e)
+then-both (Refused why) b e = refused-not-accepted e
+
+-- a test that is not refused succeeds
+pub passed : (b : Bool) (why : Refusal) → refuseUnless b why ≡ Accepted → b ≡ true
+passed true why e = refl
+passed false why e = refused-not-accepted e
 
 numbered : (why : Refusal) → 1 ≤ reportOf why .0
 numbered Month = lit≤ tt

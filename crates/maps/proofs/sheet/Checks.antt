@@ -10,7 +10,8 @@ use Rattle.base.specs.Ranges.{monthCheck}
 use Rattle.base.specs.Index.{indexOf, indexCheck}
 use Rattle.base.specs.Files.{fileCheck}
 use Rattle.base.proofs.ladder.Indexing.{good-index}
-use Rattle.base.proofs.layout.Readers.{then-both, file-index}
+use Rattle.base.proofs.verdicts.Refusals.{then-both}
+use Rattle.base.proofs.layout.Readers.{file-index}
 use Rattle.maps.specs.Virtim.{GoodTable}
 use Rattle.maps.specs.Ionosphere.{layersCheck}
 

@@ -17,7 +17,7 @@ use Rattle.base.specs.declared.refusal.Verdict.the-variants.{Accepted, Refused}
 use Rattle.base.specs.Refusal.{verdictReport}
 use Rattle.base.specs.Index.{ikimAt, indexOf, mapWord, rows, harmonics, climbs, goodMap, lowestBad, indexCheck, Climbs, top, level, up, GoodIndex}
 use Rattle.base.proofs.verdicts.Picks.{cond-true, cond-false}
-use Rattle.base.proofs.layout.Records.{refused-accepted}
+use Rattle.base.proofs.verdicts.Refusals.{refused-not-accepted}
 use Rattle.base.proofs.ladder.Ladders.{and-true, signedWords, same-yes, same-no, exceeds-even, good-rest, good-known, mapWords, same-words, limits, Checked, unchecked, bad-map, next-map, no-map}
 use Rattle.base.proofs.ladder.Indexing.{climbs-same, index-word, good-index}
 
@@ -103,7 +103,7 @@ module _ (month : List ℕ) where
 
   found : (n k place : ℕ) → lowestBad month n k ≡ Refused (Index place) → Found n k place
   unfolding lowestBad
-  found zero k place e = refused-accepted (sym e)
+  found zero k place e = refused-not-accepted (sym e)
   found (suc n) k place e = go (goodAt month k) refl (found n (k + 1) place) e
     where
       go :

@@ -12,7 +12,7 @@ use Rattle.base.specs.declared.refusal.Refusal.the-variants.{Ended, Marker}
 use Rattle.base.specs.declared.refusal.Verdict.the-variants.{Accepted, Refused}
 use Rattle.base.specs.Words.{wordAt}
 use Rattle.base.specs.MonthFile.{monthFileSize, sizes, layout, walk, monthFileCheck, Marked, WellMarked, MarkedToLast}
-use Rattle.base.proofs.layout.Records.{refused-accepted}
+use Rattle.base.proofs.verdicts.Refusals.{refused-not-accepted}
 use Rattle.base.proofs.layout.Walks.{no-open, bad-open, no-close, bad-close, passed, accepted-length}
 
 -- the bytes of records of these sizes, with their markers
@@ -46,13 +46,13 @@ through s at (n ∷ ns) rest f m k h =
 marks-met : (s : List ℕ) (at : ℕ) (ns : List ℕ) → Fours ns → at % 4 ≡ 0 → at ≤ length s → walk s at (layout ns) ≡ Accepted → Marked s at ns
 marks-met s at [] f m h e = tt
 marks-met s at (n ∷ ns) f m h e = let w = f .0 in elim (decLe (at + 4) (length s)) [
-  | no q ↦ refused-accepted (sym (no-open s at n ns m w h (omega arith)) ∙ e)
+  | no q ↦ refused-not-accepted (sym (no-open s at n ns m w h (omega arith)) ∙ e)
   | yes q ↦ elim (ℕ-discrete (wordAt s at) n) [
-    | no d ↦ refused-accepted (sym (bad-open s at n ns m w h q d) ∙ e)
+    | no d ↦ refused-not-accepted (sym (bad-open s at n ns m w h q d) ∙ e)
     | yes o ↦ elim (decLe (at + n + 8) (length s)) [
-      | no l ↦ refused-accepted (sym (no-close s at n ns m w h q o (omega arith)) ∙ e)
+      | no l ↦ refused-not-accepted (sym (no-close s at n ns m w h q o (omega arith)) ∙ e)
       | yes l ↦ elim (ℕ-discrete (wordAt s (at + n + 4)) n) [
-        | no d ↦ refused-accepted (sym (bad-close s at n ns m w h q o l d) ∙ e)
+        | no d ↦ refused-not-accepted (sym (bad-close s at n ns m w h q o l d) ∙ e)
         | yes c ↦ (o, c, marks-met s (at + n + 8) ns (f .1) (omega arith) l (sym (passed s at n ns m w h q o l c) ∙ e))
       ]
     ]

@@ -16,7 +16,7 @@ use Rattle.base.specs.declared.refusal.Verdict.the-variants.{Accepted, Refused}
 use Rattle.base.specs.Refusal.{verdictReport}
 use Rattle.base.specs.Words.{wordOf, wordAt}
 use Rattle.base.specs.MonthFile.{monthFileSize, sizes, Four, layout, isRight, walk, monthFileCheck, Marked, WellMarked}
-use Rattle.base.proofs.layout.Records.{refused-accepted}
+use Rattle.base.proofs.verdicts.Refusals.{refused-not-accepted}
 use Rattle.base.proofs.layout.Walks.{no-open, bad-open, no-close, bad-close, passed}
 use Rattle.results.proofs.files.Marks.{lengthOf, Fours, fours, done}
 
@@ -60,7 +60,7 @@ pub record WrongMarker (s : List ℕ) (at : ℕ) (ns : List ℕ) (p : ℕ) : Typ
 wrong-met :
     (s : List ℕ) (at : ℕ) (ns : List ℕ) (p : ℕ) → Fours ns → at % 4 ≡ 0 → at ≤ length s → walk s at (layout ns) ≡ Refused (Marker p) →
     WrongMarker s at ns p
-wrong-met s at [] p f m h e = refused-accepted (sym e ∙ done s at)
+wrong-met s at [] p f m h e = refused-not-accepted (sym e ∙ done s at)
 wrong-met s at (n ∷ ns) p f m h e = let w = f .0 in elim (decLe (at + 4) (length s)) [
   | no q ↦ ended-marker _ p (sym (no-open s at n ns m w h (omega arith)) ∙ e)
   | yes q ↦ elim (ℕ-discrete (wordAt s at) n) [
@@ -107,7 +107,7 @@ past s at (n ∷ ns) h = (λ l. absurd (omega arith), λ l. absurd (omega arith)
 end-met :
     (s : List ℕ) (at : ℕ) (ns : List ℕ) (p : ℕ) → Fours ns → at % 4 ≡ 0 → at ≤ length s → walk s at (layout ns) ≡ Refused (Ended p) →
     EndsAt s at ns p
-end-met s at [] p f m h e = refused-accepted (sym e ∙ done s at)
+end-met s at [] p f m h e = refused-not-accepted (sym e ∙ done s at)
 end-met s at (n ∷ ns) p f m h e = let w = f .0 in elim (decLe (at + 4) (length s)) [
   | no q ↦ let x : length s / 4 * 4 ≡ p = place (sym (no-open s at n ns m w h (omega arith)) ∙ e) in
       record { short = omega arith; place = sym x; right = past s at (n ∷ ns) (omega arith) }

@@ -27,7 +27,8 @@ use Rattle.results.proofs.sheet.FigurePlaces.{clock-at}
 use Rattle.worksheet.specs.declared.desks.Worksheet.{Worksheet}
 use Rattle.worksheet.specs.Inputs.{sunspotCheck, flagCheck, routeCheck, factorsCheck, poleCheck, inputsCheck}
 use Rattle.worksheet.specs.Showing.{Source, inputsShown, askedCheck, drawnCheck, judgedCheck, showCheck, showOf, showBuffer}
-use Rattle.worksheet.proofs.drafts.Effects.{then-both, passed, both-true}
+use Rattle.base.proofs.verdicts.Refusals.{then-both, passed}
+use Rattle.worksheet.proofs.drafts.Effects.{both-true}
 
 -- ---- what the checks accept
 

@@ -10,6 +10,7 @@ use Rattle.base.specs.declared.refusal.Refusal.{Refusal}
 use Rattle.base.specs.declared.refusal.Refusal.the-variants.{Desk}
 use Rattle.base.specs.declared.refusal.Verdict.{Verdict}
 use Rattle.base.specs.declared.refusal.Verdict.the-variants.{Accepted, Refused}
+use Rattle.base.proofs.verdicts.Refusals.{refused-not-accepted, then-both, passed}
 use Rattle.maps.specs.declared.inputs.Inputs.{Inputs}
 use Rattle.worksheet.specs.declared.inputs.Edit.{Edit}
 use Rattle.worksheet.specs.declared.desks.Draft.{Draft}
@@ -27,20 +28,8 @@ use Rattle.worksheet.proofs.drafts.Drafts.{FreshAt, closed-not-fresh, s
 
 -- ---- verdicts and outcomes
 
-pub refused-not-accepted : {why : Refusal} → Refused why ≡ Accepted → ⊥
-refused-not-accepted p = let z : _≡_ {A = ℕ} 0 1 = cc in omega arith
-
-pub then-both : (a b : Verdict) → (a then b) ≡ Accepted → (a ≡ Accepted) × (b ≡ Accepted)
-then-both Accepted b h = (refl, h)
-then-both (Refused why) b h = absurd (refused-not-accepted h)
-
 both-then : (a b : Verdict) → a ≡ Accepted → b ≡ Accepted → (a then b) ≡ Accepted
 both-then a b p q = ap (λ (z : Verdict). z then b) p ∙ q
-
--- a test that is not refused succeeds
-pub passed : (b : Bool) (why : Refusal) → refuseUnless b why ≡ Accepted → b ≡ true
-passed true why h = refl
-passed false why h = absurd (refused-not-accepted h)
 
 pub both-true : (a b : Bool) → (a && b) ≡ true → (a ≡ true) × (b ≡ true)
 both-true true b h = (refl, h)
@@ -79,18 +68,18 @@ is-accepted v after w h = ap (λ (z : Verdict). stepOf (outcome z after w)) h
 was-closed : (d : Draft) → closedCheck d ≡ Accepted → d ≡ Closed
 unfolding closedCheck
 was-closed Closed h = refl
-was-closed (Fresh x) h = absurd (refused-not-accepted h)
-was-closed (Stale x) h = absurd (refused-not-accepted h)
+was-closed (Fresh x) h = refused-not-accepted h
+was-closed (Stale x) h = refused-not-accepted h
 
 was-fresh : (d : Draft) → draftCheck d ≡ Accepted → freshCheck d ≡ Accepted → (x : Inputs) × (d ≡ Fresh x)
 unfolding draftCheck freshCheck
-was-fresh Closed p q = absurd (refused-not-accepted p)
+was-fresh Closed p q = refused-not-accepted p
 was-fresh (Fresh x) p q = (x, refl)
-was-fresh (Stale x) p q = absurd (refused-not-accepted q)
+was-fresh (Stale x) p q = refused-not-accepted q
 
 was-set : (e : Earlier) → earlierCheck e ≡ Accepted → (i : Inputs) × (e ≡ Set i)
 unfolding earlierCheck
-was-set Nothing h = absurd (refused-not-accepted h)
+was-set Nothing h = refused-not-accepted h
 was-set (Set i) h = (i, refl)
 
 -- an edited draft is fresh only if the draft was

@@ -13,6 +13,7 @@ use lib.Ieee.{Float}
 use Rattle.base.specs.declared.refusal.Verdict.{Verdict}
 use Rattle.base.specs.declared.refusal.Verdict.the-variants.{Accepted, Refused}
 use Rattle.base.specs.Refusal.{_then_, writtenOver}
+use Rattle.base.proofs.verdicts.Refusals.{then-both}
 use Rattle.maps.specs.declared.inputs.Inputs.{Inputs}
 use Rattle.maps.specs.declared.figures.Shown.the-variants.{Points}
 use Rattle.base.specs.Files.{filesCheck}
@@ -25,7 +26,7 @@ use Rattle.worksheet.specs.Showing.{Source, pair, inputsShown, bufferChe
 use Rattle.worksheet.specs.Journal.{Call, begin, commit, cancel, change, takeBack, show, shown, Role, beginning, ending, settling, belonging, returning, showing, roleOf, Entry, accepted, roleIn, good, Step, step, entryOf, run, isBegin, isOwn, begins, belongs, own, none}
 use Rattle.worksheet.specs.InForce.{editsIn, editsOf, Commit, changesBy, inputsBy, Force, forceIn, forceAfter, commitsInForce, inForce, FiguresOf, disturbs, Drafted, CommitInForce, InForceBy}
 use Rattle.worksheet.proofs.drafts.Drafts.{atRest, rest-none}
-use Rattle.worksheet.proofs.drafts.Effects.{then-both, Accepts, begun, begin-leaves, desk-put}
+use Rattle.worksheet.proofs.drafts.Effects.{Accepts, begun, begin-leaves, desk-put}
 use Rattle.worksheet.proofs.lists.Rules.{law}
 use Rattle.worksheet.proofs.lists.Kept.{_∈_, own-member, own-calls, none-first}
 use Rattle.worksheet.proofs.force.Tracked.{force-still, quiet-still, begin-still, quiet-unbegun, Holds, start-holds, run-holds}
