@@ -97,7 +97,10 @@ fn time_map(
     ab: &mut TimeMaps,
 )
     requires { ⌜ GoodTable (now index) × (k < 6) ⌝ }
-    ensures { λ _. ⌜ now (ab .exit) ≡ timeMapOf (waveIn (now (c .entry)) (now (s .entry))) (now (cof .entry)) (now (index .entry)) k (now (ab .entry)) ⌝ }
+    ensures { λ _. ⌜ (
+        let wave = waveIn (now (c .entry)) (now (s .entry)) in
+        now (ab .exit) ≡ timeMapOf wave (now (cof .entry)) (now (index .entry)) k (now (ab .entry))
+        ) ⌝ }
 {
     let first = IA[k] - 1;
     let width = IB[k];
