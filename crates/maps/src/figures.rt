@@ -1,6 +1,7 @@
 // The 151 figures of a sheet.
 use crate::geometry;
 use crate::geometry::ControlPoint;
+use crate::geometry::POINTS;
 use crate::geometry::PathGeometry;
 use crate::inputs::Inputs;
 use crate::ionosphere;
@@ -38,7 +39,7 @@ const HEAD: usize = 6;
 const ROW: usize = 29;
 
 // How many figures a sheet has, those of its path before a row for each of five points.
-pub const FIGURES: usize = HEAD + 5 * ROW;
+pub const FIGURES: usize = HEAD + POINTS * ROW;
 
 // What a showing answers: the number of points, or why it is refused.
 pub enum Shown {
@@ -196,7 +197,7 @@ fn put_figures(
     let six = head(g);
     put(out, 0, &six);
     let mut p = 0usize;
-    while p < 5 {
+    while p < POINTS {
         let numbers = row(i, m, ab, index, hmym, fakmap, g, p);
         put(out, HEAD + ROW * p, &numbers);
         p += 1;
