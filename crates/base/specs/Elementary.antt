@@ -128,7 +128,10 @@ atanOf v = withSign v (atanFrom (absOf v))
 
 -- NaN beyond 1 in size, else 2 × atan(sqrt((1 - v)/(1 + v)))
 unfoldable pub acosOf : Float → Float
-acosOf v = cond (le (absOf v) (fraction 1 1)) (fraction 2 1 ⊗ atanOf (sqrtOf binary64 ((fraction 1 1 ⊖ v) ⊘ (fraction 1 1 ⊕ v)))) nan
+acosOf v =
+    cond (le (absOf v) (fraction 1 1))
+    (fraction 2 1 ⊗ atanOf (sqrtOf binary64 ((fraction 1 1 ⊖ v) ⊘ (fraction 1 1 ⊕ v))))
+    nan
 
 -- ---- exp, ln
 

@@ -95,5 +95,9 @@ sqrtOf f (fin false (suc m) e) = rounded f (suc m * up e) (down e)
 pub record NearestRoot (f : Format) (x r : Float) : Type 0 where
   pub held : T (fits f r)
   pub above-zero : T (positive r)
-  pub below : (y : Float) → T (fits f y) → T (le (fin false 0 (pos 0)) y) → T (lt y r) → (num y * den r + num r * den y) ^ 2 * den x < 4 * num x * (den y * den r) ^ 2
-  pub above : (y : Float) → T (fits f y) → T (finite y) → T (lt r y) → 4 * num x * (den y * den r) ^ 2 < (num y * den r + num r * den y) ^ 2 * den x
+  pub below :
+      (y : Float) → T (fits f y) → T (le (fin false 0 (pos 0)) y) → T (lt y r) →
+      (num y * den r + num r * den y) ^ 2 * den x < 4 * num x * (den y * den r) ^ 2
+  pub above :
+      (y : Float) → T (fits f y) → T (finite y) → T (lt r y) →
+      4 * num x * (den y * den r) ^ 2 < (num y * den r + num r * den y) ^ 2 * den x

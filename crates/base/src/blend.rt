@@ -79,7 +79,12 @@ fn blended_words(w: Weights, x0: u32, x1: u32) -> f32
 // Two planes of `width` words each, one after the other from `at` on, blended into `out` from
 // `base` on.
 fn blend(s: &[u8], at: usize, width: usize, w: Weights, out: &mut [f32], base: usize)
-    requires { ⌜ (at ≤ 65536) × (width ≤ 65536) × (at + 8 * width ≤ length (now s)) × (base + width ≤ length (now out)) ⌝ }
+    requires { ⌜ (
+        (at ≤ 65536)
+        × (width ≤ 65536)
+        × (at + 8 * width ≤ length (now s))
+        × (base + width ≤ length (now out))
+        ) ⌝ }
     ensures { λ _. ⌜ now (out .exit) ≡ fill (blendAt (now (s .entry)) at width w) base (now (out .entry)) width ⌝ }
 {
     let mut i = 0usize;

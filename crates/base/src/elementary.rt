@@ -140,7 +140,8 @@ struct Turned {
 // v as the nearest quarter turns, modulo 4, and what v is without them.
 fn split(v: f64) -> Turned
     requires { ⌜ T (le (absOf v) (fraction 1000 1)) ⌝ }
-    ensures { λ r. ⌜ (r .quarter ≡ quarterOf (turnsOf v)) × (r .rest ≡ reducedOf v (turnsOf v)) ⌝ }
+    ensures quarter { λ r. ⌜ r .quarter ≡ quarterOf (turnsOf v) ⌝ }
+    ensures rest { λ r. ⌜ r .rest ≡ reducedOf v (turnsOf v) ⌝ }
 {
     let y = v * 0.6366197723675814;
     Turned {

@@ -179,7 +179,10 @@ fn half_even(m: u64, n: u64) -> u64
 // The bits of the `f32` nearest to the `f64` whose bits, without the sign, are b, for either sign.
 fn magnitude(b: u64) -> u64
     requires { ⌜ b ≤ 2047 * 2 ^ 52 ⌝ }
-    ensures { λ r. ⌜ (r ≤ 255 * 2 ^ 23) × ((s : Bool) → ofBits binary32 (cond s (2 ^ 31) 0 + r) ≡ narrowOf (ofBits binary64 (cond s (2 ^ 63) 0 + b))) ⌝ }
+    ensures bound { λ r. ⌜ r ≤ 255 * 2 ^ 23 ⌝ }
+    ensures value { λ r. ⌜ (
+        (s : Bool) → ofBits binary32 (cond s (2 ^ 31) 0 + r) ≡ narrowOf (ofBits binary64 (cond s (2 ^ 63) 0 + b))
+        ) ⌝ }
 {
     let exponent = b / 0x10_0000_0000_0000;
     let digits = b % 0x10_0000_0000_0000 + 0x10_0000_0000_0000;
@@ -329,7 +332,8 @@ fn scaled_root(m: u64, f: u64) -> u64
 // The bits of the root of the positive number whose bits are b.
 fn root_bits(b: u64) -> u64
     requires { ⌜ (0 < b) × (b < 2047 * 2 ^ 52) ⌝ }
-    ensures { λ r. ⌜ (r < 2047 * 2 ^ 52) × (ofBits binary64 r ≡ sqrtOf binary64 (ofBits binary64 b)) ⌝ }
+    ensures bound { λ r. ⌜ r < 2047 * 2 ^ 52 ⌝ }
+    ensures value { λ r. ⌜ ofBits binary64 r ≡ sqrtOf binary64 (ofBits binary64 b) ⌝ }
 {
     if b < 0x10_0000_0000_0000 {
         let shift = u64::leading_zeros(b) as u64 - 11;

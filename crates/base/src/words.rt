@@ -7,14 +7,16 @@ ghost use Rattle.base.specs.Fill.{tabulate};
 ghost use Rattle.base.specs.Words.{wordOf, wordAt, integerAt, floatAt};
 
 fn wide(x: u8) -> u32
-    ensures { λ r. ⌜ (r ≡ x) × (r < 256) ⌝ }
+    ensures answer { λ r. ⌜ r ≡ x ⌝ }
+    ensures bound { λ r. ⌜ r < 256 ⌝ }
 {
     x as u32
 }
 
 // A byte, or 0 where it is not there.
 fn byte(s: &[u8], at: usize) -> u32
-    ensures { λ r. ⌜ (r ≡ getD (now (s .entry)) at 0) × (r < 256) ⌝ }
+    ensures answer { λ r. ⌜ r ≡ getD (now (s .entry)) at 0 ⌝ }
+    ensures bound { λ r. ⌜ r < 256 ⌝ }
 {
     if at < s.len() { wide(s[at]) } else { 0 }
 }
@@ -85,7 +87,9 @@ pub fn float(s: &[u8], at: usize) -> f32
 // The words from `at` on into a lent array, all of it.
 pub(crate) fn read_words(s: &[u8], at: usize, out: &mut [u32])
     requires { ⌜ at + 4 * length (now out) ≤ length (now s) ⌝ }
-    ensures { λ _. ⌜ now (out .exit) ≡ tabulate (λ i. wordAt (now (s .entry)) (at + i * 4)) (length (now (out .entry))) ⌝ }
+    ensures { λ _. ⌜ now (out .exit) ≡ tabulate
+        (λ i. wordAt (now (s .entry)) (at + i * 4))
+        (length (now (out .entry))) ⌝ }
 {
     let mut i = 0usize;
     while i < out.len() {
@@ -97,7 +101,9 @@ pub(crate) fn read_words(s: &[u8], at: usize, out: &mut [u32])
 // The same of floats.
 pub(crate) fn read_floats(s: &[u8], at: usize, out: &mut [f32])
     requires { ⌜ at + 4 * length (now out) ≤ length (now s) ⌝ }
-    ensures { λ _. ⌜ now (out .exit) ≡ tabulate (λ i. floatAt (now (s .entry)) (at + 4 * i)) (length (now (out .entry))) ⌝ }
+    ensures { λ _. ⌜ now (out .exit) ≡ tabulate
+        (λ i. floatAt (now (s .entry)) (at + 4 * i))
+        (length (now (out .entry))) ⌝ }
 {
     let mut i = 0usize;
     while i < out.len() {

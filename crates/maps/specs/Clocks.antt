@@ -109,7 +109,9 @@ movedOf time lon isw = unlessRefused (timeCheck time lon) (To (cngtimOf time lon
 -- 'The Rust's `geotim` gets each longitude times D2R'
 unfoldable pub timesOf : ℕ → Bool → Degrees → Degrees → Times
 timesOf hour local tlong rlong =
-    unlessRefused (hoursCheck hour tlong rlong) (Hours (geotimOf hour local (radiansOf tlong) (radiansOf rlong))) NoTimes
+    unlessRefused (hoursCheck hour tlong rlong)
+    (Hours (geotimOf hour local (radiansOf tlong) (radiansOf rlong)))
+    NoTimes
 
 unfoldable pub localTimeOf : Float → Degrees → LocalTime
 localTimeOf gmt lon = unlessRefused (timeCheck gmt lon) (At (timeAt gmt (radiansOf lon) ToLocal)) NoLocalTime

@@ -113,7 +113,8 @@ figuresTo h i g (suc p) = figuresTo h i g p ++ figureRow h i g p
 -- the path of a sheet
 unfoldable pub sheetPath : Inputs → PathGeometry
 sheetPath i =
-    pathOf (i .route .tlat) (i .route .tlong) (i .route .rlat) (i .route .rlong) (isLong (i .route .«long_path»)) (i .pole)
+    let p = i .route in
+    pathOf (p .tlat) (p .tlong) (p .rlat) (p .rlong) (isLong (p .«long_path»)) (i .pole)
 
 -- the 151 figures: '29 numbers for each of five points'
 unfoldable pub figuresOf : List ℕ → List ℕ → Inputs → List Float

@@ -77,7 +77,10 @@ nudgeOf rlatd = cond (lt (rlatd .0) (decimal 0 1)) (neg DDX) DDX
 
 -- `rlatd`: rlatd = tlatd - dd where the receiver sits on top of the transmitter
 unfoldable pub nudgedOf : Degrees → Degrees → Degrees → Degrees → Degrees
-nudgedOf tlatd tlongd rlatd rlongd = cond (close tlatd rlatd && close tlongd rlongd) (record { 0 = tlatd .0 ⊖ nudgeOf rlatd }) rlatd
+nudgedOf tlatd tlongd rlatd rlongd =
+    cond (close tlatd rlatd && close tlongd rlongd)
+    (record { 0 = tlatd .0 ⊖ nudgeOf rlatd })
+    rlatd
 
 -- a place, with the sine and the cosine of its latitude
 unfoldable pub placeOf : Float → Float → Place
@@ -151,7 +154,9 @@ distancesOf gcd count =
 -- `rflt` of a transmitter near a pole: tlat - sign(drf, tlat); if rflt.abs() > PIO2 { rflt = PIO2 *
 -- sign(1.0, rflt) }
 unfoldable pub downMeridian : Float → Float → Float
-downMeridian tlat drf = let rflt = tlat ⊖ signOf drf tlat in cond (lt PIO2 (absOf rflt)) (PIO2 ⊗ signOf (decimal 10 1) rflt) rflt
+downMeridian tlat drf =
+    let rflt = tlat ⊖ signOf drf tlat in
+    cond (lt PIO2 (absOf rflt)) (PIO2 ⊗ signOf (decimal 10 1) rflt) rflt
 
 -- `rflg` on the circle; the three last arguments are drf.cos(), rflt.sin() and rflt.cos()
 unfoldable pub circleLongitude : Track → Float → Float → Float → Float → Float
@@ -172,7 +177,9 @@ onCircle track drf =
 unfoldable pub sampleOf : Track → Float → Place
 sampleOf track drf =
     let tx = track .tx in
-    cond (lt (tx .cos ⊖ EPSLON) (decimal 0 1)) (placeOf (downMeridian (tx .lat) drf) (track .rlong)) (onCircle track drf)
+    cond (lt (tx .cos ⊖ EPSLON) (decimal 0 1))
+    (placeOf (downMeridian (tx .lat) drf) (track .rlong))
+    (onCircle track drf)
 
 -- ---- geomagnetic latitude
 
@@ -194,11 +201,22 @@ geomagneticOf pole lat lon = record { 0 = gmlatOf (polePlace pole) (placeOf (lat
 unfoldable pub pointOf : Track → Place → Float → ControlPoint
 pointOf track pole drf =
     let at = sampleOf track drf in
-    record { rd = record { 0 = drf }; lat = record { 0 = at .lat }; lon = record { 0 = at .lon }; gmlat = record { 0 = gmlatOf pole at } }
+    record {
+      rd = record { 0 = drf };
+      lat = record { 0 = at .lat };
+      lon = record { 0 = at .lon };
+      gmlat = record { 0 = gmlatOf pole at };
+    }
 
 -- +0.0 in every field
 unfoldable pub absent : ControlPoint
-absent = record { rd = record { 0 = decimal 0 1 }; lat = record { 0 = decimal 0 1 }; lon = record { 0 = decimal 0 1 }; gmlat = record { 0 = decimal 0 1 } }
+absent =
+    record {
+      rd = record { 0 = decimal 0 1 };
+      lat = record { 0 = decimal 0 1 };
+      lon = record { 0 = decimal 0 1 };
+      gmlat = record { 0 = decimal 0 1 };
+    }
 
 -- a point, or +0.0 where it is absent
 unfoldable pub controlPointIf : Track → Place → Float → Bool → ControlPoint
@@ -210,7 +228,12 @@ controlRow track pole gcd count i = controlPointIf track pole (getD (distancesOf
 
 unfoldable pub rowsOf : Track → Place → Float → ℕ → List ControlPoint
 rowsOf track pole gcd count =
-    controlRow track pole gcd count 0 ∷ controlRow track pole gcd count 1 ∷ controlRow track pole gcd count 2 ∷ controlRow track pole gcd count 3 ∷ controlRow track pole gcd count 4 ∷ []
+    controlRow track pole gcd count 0
+    ∷ controlRow track pole gcd count 1
+    ∷ controlRow track pole gcd count 2
+    ∷ controlRow track pole gcd count 3
+    ∷ controlRow track pole gcd count 4
+    ∷ []
 
 -- ---- the whole path
 
@@ -242,7 +265,13 @@ pathOf tlatd tlongd rlat rlongd long pole =
 
 -- what `getD` gives past the end of `points`; there are always five
 abbrev pub nowhere : ControlPoint
-nowhere = record { rd = record { 0 = nan }; lat = record { 0 = nan }; lon = record { 0 = nan }; gmlat = record { 0 = nan } }
+nowhere =
+    record {
+      rd = record { 0 = nan };
+      lat = record { 0 = nan };
+      lon = record { 0 = nan };
+      gmlat = record { 0 = nan };
+    }
 
 -- points[i].lat
 unfoldable pub latAt : PathGeometry → ℕ → Float

@@ -43,7 +43,8 @@ layersCheck month file = monthCheck month then fileCheck file
 
 -- the distance is 0.0, which no step reads
 unfoldable pub pointAt : MagneticPole → Radians → Radians → ControlPoint
-pointAt pole lat lon = record { rd = record { 0 = decimal 0 1 }; lat = lat; lon = lon; gmlat = geomagneticOf pole lat lon }
+pointAt pole lat lon =
+    record { rd = record { 0 = decimal 0 1 }; lat = lat; lon = lon; gmlat = geomagneticOf pole lat lon }
 
 unfoldable pub layersThere :
     LayerInputs → Monthly → List Float → List ℕ → List Float → MagneticPole → Radians → Radians → LayerParams

@@ -119,7 +119,9 @@ timvarOf s gmt cenlat cenlg =
 -- the map's value, or where it is below 0.36 the one of midnight
 unfoldable pub gamma6Of : Float → Float → Float
 gamma6Of gamma6 ssn =
-    cond (lt (gamma6 ⊖ decimal 36 2) (decimal 0 1)) (decimal 36 2 ⊗ sqrtOf binary32 (decimal 10 1 ⊕ decimal 98 4 ⊗ ssn)) gamma6
+    cond (lt (gamma6 ⊖ decimal 36 2) (decimal 0 1))
+    (decimal 36 2 ⊗ sqrtOf binary32 (decimal 10 1 ⊕ decimal 98 4 ⊗ ssn))
+    gamma6
 
 -- fi[0], yi[0] and hi[0]
 unfoldable pub eLayer : Float → Float → Float → Layer
@@ -221,7 +223,8 @@ retardedOf f1 ret zmax z hpf2 rat fc fi2 =
 
 -- ---- the layers at a point
 
-unfoldable pub layersOf : Monthly → Float → Float → Factors → List Float → ControlPoint → MagneticVars → Gammas → LayerParams
+unfoldable pub layersOf :
+    Monthly → Float → Float → Factors → List Float → ControlPoint → MagneticVars → Gammas → LayerParams
 layersOf m ssn gmt psc hmym pt mag g =
     let t = timvarOf (m .sun) gmt (pt .lat) (pt .lon) in
     let ef1 = ef1Of m ssn psc (mag .gmdip) (t .cycen) (g .g6) in
@@ -254,7 +257,9 @@ esindOf g psc3 = record { fs = g .g3 ⊗ psc3 ∷ g .g2 ⊗ psc3 ∷ g .g1 ⊗ p
 
 unfoldable pub groundAt : Float → Ground
 groundAt wld =
-    cond (le (decimal 0 1) wld) (record { 0 = decimal 1 3; 1 = decimal 40 1 }) (record { 0 = decimal 50 1; 1 = decimal 800 1 })
+    cond (le (decimal 0 1) wld)
+    (record { 0 = decimal 1 3; 1 = decimal 40 1 })
+    (record { 0 = decimal 50 1; 1 = decimal 800 1 })
 
 unfoldable pub groundOf : Monthly → List Float → Radians → Radians → Ground
 groundOf m fakmap lat eastLon =

@@ -47,7 +47,8 @@ CT =
     ∷ (decimal 26666667 8 ∷ decimal 2 1 ∷ o ∷ o ∷ o ∷ o ∷ o ∷ [])
     ∷ (decimal 25714286 8 ∷ decimal 22857142 8 ∷ decimal 14285714 8 ∷ o ∷ o ∷ o ∷ o ∷ [])
     ∷ (decimal 25396825 8 ∷ decimal 23809523 8 ∷ decimal 19047619 8 ∷ decimal 11111111 8 ∷ o ∷ o ∷ o ∷ [])
-    ∷ (decimal 25252525 8 ∷ decimal 24242424 8 ∷ decimal 21212121 8 ∷ decimal 16161616 8 ∷ decimal 9090909 8 ∷ o ∷ o ∷ [])
+    ∷ (decimal 25252525 8 ∷ decimal 24242424 8 ∷ decimal 21212121 8 ∷ decimal 16161616 8 ∷
+    decimal 9090909 8 ∷ o ∷ o ∷ [])
     ∷ []
 
 -- Jensen-Cain 1960 G coefficients
@@ -57,9 +58,12 @@ G =
     ∷ (decimal 304112 6 ∷ decimal 21474 6 ∷ o ∷ o ∷ o ∷ o ∷ o ∷ [])
     ∷ (decimal 24035 6 ∷ minusDecimal 51253 6 ∷ minusDecimal 13381 6 ∷ o ∷ o ∷ o ∷ o ∷ [])
     ∷ (minusDecimal 31518 6 ∷ decimal 62130 6 ∷ minusDecimal 24898 6 ∷ minusDecimal 6496 6 ∷ o ∷ o ∷ o ∷ [])
-    ∷ (minusDecimal 41794 6 ∷ minusDecimal 45298 6 ∷ minusDecimal 21795 6 ∷ decimal 7008 6 ∷ minusDecimal 2044 6 ∷ o ∷ o ∷ [])
-    ∷ (decimal 16256 6 ∷ minusDecimal 34407 6 ∷ minusDecimal 19447 6 ∷ minusDecimal 608 6 ∷ decimal 2775 6 ∷ decimal 697 6 ∷ o ∷ [])
-    ∷ (minusDecimal 19523 6 ∷ minusDecimal 4853 6 ∷ decimal 3212 6 ∷ decimal 21413 6 ∷ decimal 1051 6 ∷ decimal 227 6 ∷ decimal 1115 6 ∷ [])
+    ∷ (minusDecimal 41794 6 ∷ minusDecimal 45298 6 ∷ minusDecimal 21795 6 ∷ decimal 7008 6 ∷
+    minusDecimal 2044 6 ∷ o ∷ o ∷ [])
+    ∷ (decimal 16256 6 ∷ minusDecimal 34407 6 ∷ minusDecimal 19447 6 ∷ minusDecimal 608 6 ∷
+    decimal 2775 6 ∷ decimal 697 6 ∷ o ∷ [])
+    ∷ (minusDecimal 19523 6 ∷ minusDecimal 4853 6 ∷ decimal 3212 6 ∷ decimal 21413 6 ∷
+    decimal 1051 6 ∷ decimal 227 6 ∷ decimal 1115 6 ∷ [])
     ∷ []
 
 -- Jensen-Cain 1960 H coefficients
@@ -71,7 +75,8 @@ H =
     ∷ (o ∷ decimal 14870 6 ∷ minusDecimal 4075 6 ∷ decimal 21 5 ∷ o ∷ o ∷ o ∷ [])
     ∷ (o ∷ minusDecimal 11825 6 ∷ decimal 10006 6 ∷ decimal 43 5 ∷ decimal 1385 6 ∷ o ∷ o ∷ [])
     ∷ (o ∷ minusDecimal 796 6 ∷ minusDecimal 2 3 ∷ decimal 4597 6 ∷ decimal 2421 6 ∷ minusDecimal 1218 6 ∷ o ∷ [])
-    ∷ (o ∷ minusDecimal 5758 6 ∷ minusDecimal 8735 6 ∷ minusDecimal 3406 6 ∷ minusDecimal 118 6 ∷ minusDecimal 1116 6 ∷ minusDecimal 325 6 ∷ [])
+    ∷ (o ∷ minusDecimal 5758 6 ∷ minusDecimal 8735 6 ∷ minusDecimal 3406 6 ∷
+    minusDecimal 118 6 ∷ minusDecimal 1116 6 ∷ minusDecimal 325 6 ∷ [])
     ∷ []
 
 -- t[n][m] of a constant table
@@ -252,7 +257,11 @@ placedOf lat eastLon heightM =
 -- p[n][m] and dp[n][m], where ct is CT[n][m]
 unfoldable pub elementOf : Float → Float → Float → ℕ → ℕ → List Float → List Float → Element
 elementOf c s ct n m p dp =
-    cond (eqb n m) (record { p = s ⊗ at7 p (n - 1) (n - 1); dp = s ⊗ at7 dp (n - 1) (n - 1) ⊕ c ⊗ at7 p (n - 1) (n - 1) })
+    cond (eqb n m)
+    (record {
+      p = s ⊗ at7 p (n - 1) (n - 1);
+      dp = s ⊗ at7 dp (n - 1) (n - 1) ⊕ c ⊗ at7 p (n - 1) (n - 1);
+    })
     (cond (eqb n 1) (record { p = c; dp = neg s })
     (record {
       p = c ⊗ at7 p (n - 1) m ⊖ ct ⊗ at7 p (n - 2) m;

@@ -51,7 +51,8 @@ noisySum lm ln plane alf bet xla ceg =
 -- `noisy(plane, &[alf, bet], ratio_map, xla, ceg)`: (lm, ln) = if ratio_map { (15, 10) } else {
 -- (29, 15) }
 unfoldable pub noisyOf : List Float → Float → Float → Bool → Float → Float → Float
-noisyOf plane alf bet ratioMap xla ceg = cond ratioMap (noisySum 15 10 plane alf bet xla ceg) (noisySum 29 15 plane alf bet xla ceg)
+noisyOf plane alf bet ratioMap xla ceg =
+    cond ratioMap (noisySum 15 10 plane alf bet xla ceg) (noisySum 29 15 plane alf bet xla ceg)
 
 -- ---- the arrays on the way; past what is filled they keep the 0.0 they are made of
 

@@ -132,7 +132,8 @@ sumsOf ab i g j h k l n = record { a = sumOf ab i g n; b = sumOf ab j h n; c = s
 
 -- the maps k, k + 1 and k + 2, from their geographic functions
 unfoldable pub threeOf : List Float → List ℕ → ℕ → (ℕ → Float) → (ℕ → Float) → (ℕ → Float) → Triple
-threeOf ab index k g h l = record { a = seriesOf ab index k g; b = seriesOf ab index (k + 1) h; c = seriesOf ab index (k + 2) l }
+threeOf ab index k g h l =
+    record { a = seriesOf ab index k g; b = seriesOf ab index (k + 1) h; c = seriesOf ab index (k + 2) l }
 
 -- the same at a place: sx for the first two, sz for the third
 unfoldable pub threeAt : List Float → List ℕ → ℕ → Float → Float → Float → Float → Triple

@@ -19,6 +19,9 @@ const EPSLON: f32 = 1.0e-7;
 // A receiver that is this near in both coordinates, in degrees, is moved off its transmitter.
 const DDX: f32 = 0.03;
 
+// The control points of a path, at most.
+pub const POINTS: usize = 5;
+
 // A place on the path where the ionosphere is asked for, with its distance from the transmitter and
 // its latitude against the magnetic pole.
 pub struct ControlPoint {
@@ -39,7 +42,7 @@ pub struct PathGeometry {
     pub rlatd: Degrees,
     // How many of the points are there; the rows past them are +0.0.
     pub count: u32,
-    pub points: [ControlPoint; 5],
+    pub points: [ControlPoint; POINTS],
 }
 
 // A place in radians, with the sine and the cosine of its latitude.
@@ -247,7 +250,7 @@ fn point_count(gcd_km: f32) -> u32
 
 // The distances, nearest first: of five the outer two serve the E layer, the next two the F layer
 // and the middle one all layers.
-fn distances(gcd: f32, count: u32) -> [f32; 5]
+fn distances(gcd: f32, count: u32) -> [f32; POINTS]
     ensures { λ r. ⌜ r ≡ distancesOf gcd count ⌝ }
 {
     let r1 = 1000.0 / RZ;
@@ -360,7 +363,7 @@ fn row(track: Track, pole: Place, drf: f32, present: bool) -> ControlPoint
     }
 }
 
-fn rows(track: Track, pole: Place, gcd: f32, count: u32) -> [ControlPoint; 5]
+fn rows(track: Track, pole: Place, gcd: f32, count: u32) -> [ControlPoint; POINTS]
     ensures { λ r. ⌜ r ≡ rowsOf track pole gcd count ⌝ }
 {
     let rd = distances(gcd, count);

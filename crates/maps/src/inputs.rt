@@ -35,7 +35,8 @@ pub struct MagneticPole {
 impl MagneticPole {
     // The built-in pole: 78.5 degrees north, 69 degrees west.
     pub fn built_in() -> MagneticPole
-        ensures { λ r. ⌜ (r .lat .0 ≡ poleLat) × (r .lon .0 ≡ poleLon) ⌝ }
+        ensures latitude { λ r. ⌜ r .lat .0 ≡ poleLat ⌝ }
+        ensures longitude { λ r. ⌜ r .lon .0 ≡ poleLon ⌝ }
     {
         MagneticPole {
             lat: Degrees(78.5),

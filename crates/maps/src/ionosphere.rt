@@ -38,12 +38,11 @@ ghost use Rattle.maps.specs.Ionosphere.{hourMapsOf, gammasAt, pointAt, l
 // The coefficients of the six maps at a sunspot number and an hour into the lent array, and the
 // verdict on the files (8, 9, 10, 11). Refused, the array stays as it is.
 pub fn hour_maps(f2: &[u8], file: &[u8], ssn: f32, gmt: f32, ab: &mut TimeMaps) -> Verdict
-    ensures { λ r. ⌜ (
+    ensures answer { λ r. ⌜ r ≡ filesCheck (now (f2 .entry)) (now (file .entry)) ⌝ }
+    ensures buffer { λ _. ⌜ (
         let f = now (f2 .entry) in
         let m = now (file .entry) in
-        let v = filesCheck f m in
-        (r ≡ v)
-        × (now (ab .exit) ≡ writtenOver v (hourMapsOf f m ssn gmt) (now (ab .entry)))
+        now (ab .exit) ≡ writtenOver (filesCheck f m) (hourMapsOf f m ssn gmt) (now (ab .entry))
         ) ⌝ }
 {
     let mut index = [0u32; INDEX];
@@ -109,12 +108,14 @@ fn layer_tables(
     index: &mut IndexTable,
     hmym: &mut HeightMap,
 ) -> Verdict
-    ensures { λ r. ⌜ (
+    ensures answer { λ r. ⌜ r ≡ layersCheck month (now (file .entry)) ⌝ }
+    ensures index { λ _. ⌜ (
         let m = now (file .entry) in
-        let v = layersCheck month m in
-        (r ≡ v)
-        × (now (index .exit) ≡ writtenOver v (indexOf m) (now (index .entry)))
-        × (now (hmym .exit) ≡ writtenOver v (hmymOf m ssn) (now (hmym .entry)))
+        now (index .exit) ≡ writtenOver (layersCheck month m) (indexOf m) (now (index .entry))
+        ) ⌝ }
+    ensures hmym { λ _. ⌜ (
+        let m = now (file .entry) in
+        now (hmym .exit) ≡ writtenOver (layersCheck month m) (hmymOf m ssn) (now (hmym .entry))
         ) ⌝ }
 {
     let verdict = month_check(month);

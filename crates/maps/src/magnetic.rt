@@ -319,7 +319,10 @@ pub struct Field {
 // The degree n: its sums, weighted, go into the field's.
 fn degree(x: Place, n: usize, p: &mut [f32; 49], dp: &mut [f32; 49], b: Field) -> Field
     requires { ⌜ (1 ≤ n) × (n < 7) ⌝ }
-    ensures { λ r. ⌜ state (now (p .exit)) (now (dp .exit)) r ≡ degreeOf x n (state (now (p .entry)) (now (dp .entry)) b) ⌝ }
+    ensures { λ r. ⌜ (
+        let before = state (now (p .entry)) (now (dp .entry)) b in
+        state (now (p .exit)) (now (dp .exit)) r ≡ degreeOf x n before
+        ) ⌝ }
 {
     let v = orders(x, n, p, dp);
     let fn_ = whole(n + 1);

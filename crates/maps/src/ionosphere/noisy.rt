@@ -91,7 +91,8 @@ struct Wave {
 }
 
 fn wave_of(x: f32) -> Wave
-    ensures { λ r. ⌜ (r .sine ≡ sin32Of x) × (r .cosine ≡ cos32Of x) ⌝ }
+    ensures sine { λ r. ⌜ r .sine ≡ sin32Of x ⌝ }
+    ensures cosine { λ r. ⌜ r .cosine ≡ cos32Of x ⌝ }
 {
     Wave {
         sine: sin32(x),
@@ -113,7 +114,10 @@ fn noisy_sum(
     angle: Wave,
 ) -> f32
     requires { ⌜ (lm ≤ 29) × (ln ≤ 15) ⌝ }
-    ensures { λ r. ⌜ r ≡ latitudeSum (λ k. turnOf (angle .sine) (angle .cosine) k .sine) (zzOf (λ k. turnOf (half .sine) (half .cosine) k .sine) (now (plane .entry)) ln) lm ⊕ alf ⊕ bet ⊗ p ⌝ }
+    ensures { λ r. ⌜ (
+        let zz = zzOf (λ k. turnOf (half .sine) (half .cosine) k .sine) (now (plane .entry)) ln in
+        r ≡ latitudeSum (λ k. turnOf (angle .sine) (angle .cosine) k .sine) zz lm ⊕ alf ⊕ bet ⊗ p
+        ) ⌝ }
 {
     let sx = sines(half.sine, half.cosine, ln);
     let zz = columns(&sx, plane, ln, lm);

@@ -22,7 +22,7 @@ fill-in-requires c κs =
     let a = b .before .before .before .before .before .before .before .args in
     let file = a .file .now in
     let e = sym (b .redmap .ensures .0) ∙ d .enum-told .given .1 in
-    (good-same file (files-index (a .f2 .now) file e) (written-is (indexOf file) _ e (b .redmap .ensures .1)), search needs)
+    (good-same file (files-index (a .f2 .now) file e) (written-is (indexOf file) _ e (b .redmap .ensures .1 .0)), search needs)
 
 returns : tie.Need-returns
 unfolding shownOf figuresBuffer figuresOf hourOf
@@ -34,10 +34,10 @@ returns c =
     let f2 = a .f2 .now in
     let file = a .file .now in
     let e = sym (b .redmap .ensures .0) ∙ d .enum-told .given .1 in
-    let index = written-is (indexOf file) _ e (b .redmap .ensures .1) in
-    let cofion = written-is (cofionOf f2 file (i .ssn)) _ e (b .redmap .ensures .2) in
-    let hmym = written-is (hmymOf file (i .ssn)) _ e (b .redmap .ensures .3) in
-    let fakmap = written-is (fakmapOf file) _ e (b .redmap .ensures .4) in (
+    let index = written-is (indexOf file) _ e (b .redmap .ensures .1 .0) in
+    let cofion = written-is (cofionOf f2 file (i .ssn)) _ e (b .redmap .ensures .1 .1 .0) in
+    let hmym = written-is (hmymOf file (i .ssn)) _ e (b .redmap .ensures .1 .1 .1 .0) in
+    let fakmap = written-is (fakmapOf file) _ e (b .redmap .ensures .1 .1 .1 .1) in (
       ap Points (c .fill-in .ensures .0) ∙ sym (ap (λ (v : Verdict). pointsOr v (sheetPath i .count)) e),
       c .fill-in .ensures .1
           ∙ (λ t. figuresTo (hourFrom file (index t) (cofion t) (hmym t) (fakmap t) i) i (sheetPath i) 5)

@@ -17,10 +17,14 @@ returns c =
     let a = b .before .before .args in
     let file = a .file .now in
     let told = sym (b .month-check .ensures) ∙ c .before .before .before .before .enum-told .given .1 in
-    let e = sym (ap (λ (v : Verdict). v then fileCheck file) told) in (
+    let e = sym (ap (λ (v : Verdict). v then fileCheck file) told) in
+    let index = c .before .before .index .ensures .1 in
+    let hmym = c .hmym .ensures .1 in (
       c .hmym .ensures .0 ∙ e,
-      c .before .before .index .ensures .1 ∙ ap (λ (v : Verdict). writtenOver v (indexOf file) (a .index .now)) e,
-      c .hmym .ensures .1 ∙ ap (λ (v : Verdict). writtenOver v (hmymOf file (a .ssn)) (a .hmym .now)) e,
+      (
+        index ∙ ap (λ (v : Verdict). writtenOver v (indexOf file) (a .index .now)) e,
+        hmym ∙ ap (λ (v : Verdict). writtenOver v (hmymOf file (a .ssn)) (a .hmym .now)) e,
+      ),
     )
 
 returns-2 : tie.Need-returns-2
@@ -32,8 +36,10 @@ returns-2 c =
     let told = sym (b .month-check .ensures) ∙ c .before .verdict .given .1 in
     let e = sym (ap (λ (v : Verdict). v then fileCheck file) told) in (
       e,
-      ap (λ (v : Verdict). writtenOver v (indexOf file) (a .index .now)) e,
-      ap (λ (v : Verdict). writtenOver v (hmymOf file (a .ssn)) (a .hmym .now)) e,
+      (
+        ap (λ (v : Verdict). writtenOver v (indexOf file) (a .index .now)) e,
+        ap (λ (v : Verdict). writtenOver v (hmymOf file (a .ssn)) (a .hmym .now)) e,
+      ),
     )
 
 pub layer-tables-spec : {M : Type 1} → statement M
