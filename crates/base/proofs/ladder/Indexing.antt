@@ -82,12 +82,6 @@ module _ (month : List ℕ) (passed : indexCheck month ≡ Accepted) (k : ℕ) (
         waves = omega arith;
       }
 
--- a word below 2 ^ 31 is the signed one that the check reads
-pub signed-word :
-    (month : List ℕ) (k j : ℕ) → k < 6 → j < 10 → mapWord (indexOf month) k j < 2 ^ 31 → ikimAt month k j ≡ pos (mapWord (indexOf month) k j)
-unfolding integerAt
-signed-word month k j h l m = ap signedOf (sym (index-word month k j h l)) ∙ signed-small (mapWord (indexOf month) k j) m
-
 -- what each of the ladder's words is: equal to its predecessor, or above it by an even number and
 -- at most 75
 pub climbs-cases :

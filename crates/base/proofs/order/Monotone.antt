@@ -572,12 +572,6 @@ signed-negative s (fin t m e) h = refl
 pub round-negative : (f : Format) (s : Bool) (a c : ℕ) → 0 < c → negative (round f s a c) ≡ s
 round-negative f s a c C = ap negative (round-signed f s a c) ∙ signed-negative s (round f false a c) (round-no-nan f false a c C)
 
-pub narrow-negative : (x : Float) → negative (narrowOf x) ≡ negative x
-unfolding narrowOf negative
-narrow-negative nan = refl
-narrow-negative (inf s) = refl
-narrow-negative (fin s m e) = round-negative binary32 s (m * up e) (down e) (down-pos e)
-
 -- a sum that is not below zero has no sign, where its first operand has none
 pub add-negative : (f : Format) (x y : Float) → T (finite x) → T (finite y) → negative x ≡ false → T (le (neg y) x) → negative (add f x y) ≡ false
 unfolding negative neg sum

@@ -233,7 +233,3 @@ sqrt-mono f (fin false (suc m) e) (fin false (suc i) d) n h =
     let x = fin false (suc m) e in
     let y = fin false (suc i) d in
     rw (some-root f m e, some-root f i d) (rounded-order f (suc m * up e) (down e) (suc i * up d) (down d) (down-pos e) (down-pos d) (flat x y tt tt n (trans-le nought x y n h) h))
-
-pub sqrt-from-one : (x : Float) → T (le (fraction 1 1) x) → T (le (fraction 1 1) (sqrtOf binary64 x))
-unfolding fraction round sqrtOf le
-sqrt-from-one x h = sqrt-mono binary64 (fraction 1 1) x tt h

@@ -51,9 +51,6 @@ normal-root b l h =
     )
 
 module _ (b : ℕ) (p : 0 < b) (h : b < 2 ^ 52) where
-  pub shift : ℕ
-  shift = leadingZeros 64 b - 11
-
   pub lead : (11 ≤ leadingZeros 64 b) × (leadingZeros 64 b < 64) × (2 ^ 52 ≤ b * 2 ^ (leadingZeros 64 b - 11)) × (b * 2 ^ (leadingZeros 64 b - 11) < 2 ^ 53)
   lead =
       let t = leading-top 64 b p (omega arith) in

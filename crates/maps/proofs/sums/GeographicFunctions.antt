@@ -88,19 +88,6 @@ module _ (w v : ℕ → ℕ) (e : (i : ℕ) → i ≤ 8 → w i ≡ v i) (sx gob
 
 -- ---- the ladder's last word is inside the array
 
-top-within : (w : ℕ → ℕ) (n j : ℕ) → Climbs w n j → w j ≤ 75 → topFrom w n j ≤ 75
-unfolding topFrom
-top-within w zero j top h = h
-top-within w (suc n) j (level d) h = let e = cond-true (w j) (topFrom w n (j + 1)) (eq-eqb (w (j + 1)) (w j) d) in omega arith
-top-within w (suc n) j (up a b d c) h =
-    let e = cond-false (w j) (topFrom w n (j + 1)) (ne-eqb (w (j + 1)) (w j) (λ q. omega arith)) in
-    let m = top-within w n (j + 1) c d in
-    omega arith
-
-pub top-inside : (w : ℕ → ℕ) → w 0 ≤ 75 → Climbs w 8 0 → topOf w < 76
-unfolding topOf
-top-inside w h c = let m = top-within w 8 0 c h in omega arith
-
 -- ---- the closed form, a word at a time
 
 module _ (w : ℕ → ℕ) (sx gob clg : Float) where
