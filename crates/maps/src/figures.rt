@@ -30,7 +30,7 @@ ghost use lib.ListN.{length, getD};
 ghost use lib.Ieee.{nan};
 ghost use Rattle.base.specs.Fill.{fill};
 ghost use Rattle.maps.specs.Virtim.{GoodTable};
-ghost use Rattle.maps.specs.Figures.{hour, hourFrom, headOf, numbersOf, pointRow, figureRow, figuresTo, sheetPath, shownOf, figuresBuffer};
+ghost use Rattle.maps.specs.Figures.{hour, hourFrom, headOf, numbersOf, figureRow, figuresTo, sheetPath, shownOf, figuresBuffer};
 
 // The figures of a path.
 const HEAD: usize = 6;
@@ -110,34 +110,7 @@ fn numbers(
     ]
 }
 
-// The 29 numbers of a point.
-fn point_row(
-    i: Inputs,
-    m: Monthly,
-    ab: &TimeMaps,
-    index: &IndexTable,
-    hmym: &HeightMap,
-    fakmap: &LandMap,
-    pt: ControlPoint,
-) -> [f32; ROW]
-    requires { ⌜ GoodTable (now index) ⌝ }
-    ensures { λ r. ⌜ (
-        let h = hour (now (ab .entry)) (now (index .entry)) m (now (hmym .entry)) (now (fakmap .entry)) in
-        r ≡ pointRow h i pt
-        ) ⌝ }
-{
-    let lat = pt.lat;
-    let lon = pt.lon;
-    let psc = i.psc;
-    let mag = magnetic::magvar(lat, lon);
-    let g = ionosphere::gammas_at(ab, index, lat, lon, mag);
-    let l = layers::layer_parameters(m, i.ssn, i.gmt, psc, hmym, pt, mag, g);
-    let es = layers::esind(g, psc.es);
-    let ground = layers::ground_constants(m, fakmap, lat, mag.east_lon);
-    numbers(pt, mag, l, es, ground)
-}
-
-// The row p: a point's numbers, or zeros where there is no such point.
+// The row p: a point's 29 numbers, or zeros where there is no such point.
 fn row(
     i: Inputs,
     m: Monthly,
@@ -154,12 +127,20 @@ fn row(
         r ≡ figureRow h i g p
         ) ⌝ }
 {
-    if (p as u32) < g.count {
-        let points = g.points;
-        point_row(i, m, ab, index, hmym, fakmap, points[p])
-    } else {
-        [0.0f32; ROW]
+    if g.count <= p as u32 {
+        return [0.0f32; ROW];
     }
+    let points = g.points;
+    let pt = points[p];
+    let lat = pt.lat;
+    let lon = pt.lon;
+    let psc = i.psc;
+    let mag = magnetic::magvar(lat, lon);
+    let maps = ionosphere::gammas_at(ab, index, lat, lon, mag);
+    let l = layers::layer_parameters(m, i.ssn, i.gmt, psc, hmym, pt, mag, maps);
+    let es = layers::esind(maps, psc.es);
+    let ground = layers::ground_constants(m, fakmap, lat, mag.east_lon);
+    numbers(pt, mag, l, es, ground)
 }
 
 // The numbers of one list put into the buffer from `at` on.

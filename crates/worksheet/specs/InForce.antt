@@ -80,7 +80,11 @@ forceIn w = record { present = standingAt (w .inputs); before = standingBefore (
 
 -- 'the inputs become the earlier set, the draft's become the inputs'
 abbrev pub pushed : Commit → Force → Force
-pushed c f = record { present = record { start = f .present .start; commits = c ∷ f .present .commits }; before = f .present ∷ [] }
+pushed c f =
+    record {
+      present = record { start = f .present .start; commits = c ∷ f .present .commits };
+      before = f .present ∷ [];
+    }
 
 -- 'The earlier set returns, none is left'
 abbrev pub returnedTo : List Standing → Force → Force

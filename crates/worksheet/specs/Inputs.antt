@@ -40,7 +40,8 @@ routeCheck p =
     latitudeCheck 6 (p .rlat) then longitudeCheck 7 (p .rlong) then flagCheck (p .«long_path»)
 
 unfoldable pub factorsCheck : Factors → Verdict
-factorsCheck p = factorCheck 9 (p .e) then factorCheck 10 (p .f1) then factorCheck 11 (p .f2) then factorCheck 12 (p .es)
+factorsCheck p =
+    factorCheck 9 (p .e) then factorCheck 10 (p .f1) then factorCheck 11 (p .f2) then factorCheck 12 (p .es)
 
 -- 'pole latitude and longitude'
 unfoldable pub poleCheck : MagneticPole → Verdict
@@ -65,7 +66,8 @@ editCheck (Pole p) = poleCheck p
 
 -- 'changed fields become the numbers given, bit for bit; its other fields .. stay'
 unfoldable pub edited : Edit → Inputs → Inputs
-edited (Sunspot x) i = record { month = i .month; ssn = x; gmt = i .gmt; route = i .route; psc = i .psc; pole = i .pole }
+edited (Sunspot x) i =
+    record { month = i .month; ssn = x; gmt = i .gmt; route = i .route; psc = i .psc; pole = i .pole }
 edited (Hour x) i = record { month = i .month; ssn = i .ssn; gmt = x; route = i .route; psc = i .psc; pole = i .pole }
 edited (Path p) i = record { month = i .month; ssn = i .ssn; gmt = i .gmt; route = p; psc = i .psc; pole = i .pole }
 edited (Psc p) i = record { month = i .month; ssn = i .ssn; gmt = i .gmt; route = i .route; psc = p; pole = i .pole }
