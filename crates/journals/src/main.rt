@@ -4,7 +4,6 @@ mod files;
 mod journal;
 mod pages;
 mod sheets;
-mod tally;
 mod wanted;
 
 fn main() {

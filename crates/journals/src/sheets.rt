@@ -6,15 +6,15 @@ use crate::files::bytes;
 use crate::files::next;
 use crate::files::next_size;
 use crate::files::opened;
-use crate::tally::counted;
-use crate::tally::none;
-use crate::tally::print_line;
 use crate::wanted::say;
 use base::month_file::MONTH_FILE;
 use base::month_file::RECORD;
 use listing::answer::ANSWER;
 use listing::sheet::sheet_answer;
 use maps::inputs::FIELD_BYTES;
+use tally::counted;
+use tally::none;
+use tally::print_line;
 ghost use Prim.Native.Nat.{_≤_};
 
 // The bytes of a record and its month file, and of the longest input: the words, the two files and

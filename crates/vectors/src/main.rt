@@ -4,9 +4,9 @@ mod clocks;
 mod files;
 mod numbers;
 mod routes;
+mod row;
 mod sheets;
 mod tables;
-mod tally;
 
 fn main() {
     numbers::replay();

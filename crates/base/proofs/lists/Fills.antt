@@ -93,3 +93,7 @@ module _ {A : Type 0} where
       fill-run f 0 [] l n refl (omega arith)
       ∙ ap (λ (x : List A). tabulate f n ++ x) (drop-of-length-le l {i = n} (omega arith))
       ∙ append-nil (tabulate f n)
+
+  -- what a loop has made that filled its array to the end
+  pub filled : (f : ℕ → A) (l : List A) {out : List A} {i : ℕ} → out ≡ fill f 0 l i → i ≡ length l → out ≡ tabulate f (length l)
+  filled f l h e = h ∙ ap (fill f 0 l) e ∙ fill-all f l (length l) refl

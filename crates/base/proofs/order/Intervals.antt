@@ -41,33 +41,26 @@ between-positive c d y C D q = above-positive y d D (above-of-le c y C (q .low))
 
 -- ---- the operations: x in [a, b], y in [c, d]
 module _ (f : Format) {a b c d x y : Float} (lo hi : Float) where
-  pub add-in : T (every (finite a ∷ finite b ∷ finite c ∷ finite d ∷ le lo (add f a c) ∷ le (add f b d) hi ∷ [])) → Between a b x → Between c d y → Between lo hi (add f x y)
-  add-in t p q =
-      let h = all (finite a ∷ finite b ∷ finite c ∷ finite d ∷ le lo (add f a c) ∷ le (add f b d) hi ∷ []) t in
+  -- what is at least L and at most H of numbers whose ends are numbers
+  corners :
+      (L H z : Float) → (T (finite a) → T (finite b) → T (finite c) → T (finite d) → T (finite x) → T (finite y) → T (le L z) × T (le z H)) →
+      T (every (finite a ∷ finite b ∷ finite c ∷ finite d ∷ le lo L ∷ le H hi ∷ [])) → Between a b x → Between c d y → Between lo hi z
+  corners L H z within t p q =
+      let h = all (finite a ∷ finite b ∷ finite c ∷ finite d ∷ le lo L ∷ le H hi ∷ []) t in
       let A = h .0 in
       let B = h .1 .0 in
       let C = h .1 .1 .0 in
       let D = h .1 .1 .1 .0 in
-      let X = between-finite A B p in
-      let Y = between-finite C D q in
-      record {
-        low = trans-le lo (add f a c) (add f x y) (h .1 .1 .1 .1 .0) (add-mono f a x c y A X C Y (p .low) (q .low));
-        high = trans-le (add f x y) (add f b d) hi (add-mono f x b y d X B Y D (p .high) (q .high)) (h .1 .1 .1 .1 .1 .0);
-      }
+      let w = within A B C D (between-finite A B p) (between-finite C D q) in
+      record { low = trans-le lo L z (h .1 .1 .1 .1 .0) (w .0); high = trans-le z H hi (w .1) (h .1 .1 .1 .1 .1 .0) }
+
+  pub add-in : T (every (finite a ∷ finite b ∷ finite c ∷ finite d ∷ le lo (add f a c) ∷ le (add f b d) hi ∷ [])) → Between a b x → Between c d y → Between lo hi (add f x y)
+  add-in t p q =
+      corners (add f a c) (add f b d) (add f x y) (λ A B C D X Y. (add-mono f a x c y A X C Y (p .low) (q .low), add-mono f x b y d X B Y D (p .high) (q .high))) t p q
 
   pub sub-in : T (every (finite a ∷ finite b ∷ finite c ∷ finite d ∷ le lo (sub f a d) ∷ le (sub f b c) hi ∷ [])) → Between a b x → Between c d y → Between lo hi (sub f x y)
   sub-in t p q =
-      let h = all (finite a ∷ finite b ∷ finite c ∷ finite d ∷ le lo (sub f a d) ∷ le (sub f b c) hi ∷ []) t in
-      let A = h .0 in
-      let B = h .1 .0 in
-      let C = h .1 .1 .0 in
-      let D = h .1 .1 .1 .0 in
-      let X = between-finite A B p in
-      let Y = between-finite C D q in
-      record {
-        low = trans-le lo (sub f a d) (sub f x y) (h .1 .1 .1 .1 .0) (sub-mono f a x d y A X D Y (p .low) (q .high));
-        high = trans-le (sub f x y) (sub f b c) hi (sub-mono f x b y c X B Y C (p .high) (q .low)) (h .1 .1 .1 .1 .1 .0);
-      }
+      corners (sub f a d) (sub f b c) (sub f x y) (λ A B C D X Y. (sub-mono f a x d y A X D Y (p .low) (q .high), sub-mono f x b y c X B Y C (p .high) (q .low))) t p q
 
   -- both not below zero
   pub mul-in : T (every (finite b ∷ finite d ∷ le nought a ∷ le nought c ∷ le lo (mul f a c) ∷ le (mul f b d) hi ∷ [])) → Between a b x → Between c d y → Between lo hi (mul f x y)

@@ -1,5 +1,5 @@
--- The worksheet is always the one that a run of the calls read so far leaves: each call adds itself
--- to the run. `turns` falls, and a call has at most 28 bytes, so `at` stays small.
+-- `answer_all` leaves the worksheet that a run of the calls read so far leaves: each call adds
+-- itself to the run. `turns` falls, and a call has at most 28 bytes, so `at` stays small.
 use borrow.Author.Needs.{needs}
 use mathlib.Core.List.{List, [], _∷_, _++_}
 use mathlib.Core.Path.{_≡_, refl, sym, ap, _∙_}

@@ -85,19 +85,21 @@ module _ (F : ℕ → Strip) (f : ℕ → Float) (h : (m : ℕ) → On (F m) (f 
   row-held : (n : ℕ) → Row (row F 0 n) f
   row-held n = record { each = λ m. let e : 0 + m ≡ m = omega arith in subst (λ (i : ℕ). On (at (row F 0 n) m) (f i)) e (from-held 0 n m) }
 
+-- a list of seven, with nothing known beyond its end
+module _ {A : Type 0} (P : ℕ → A → Type 0) (d : A) (beyond : (n : ℕ) → P n d) {a0 a1 a2 a3 a4 a5 a6 : A} (h0 : P 0 a0) (h1 : P 1 a1) (h2 : P 2 a2) (h3 : P 3 a3) (h4 : P 4 a4) (h5 : P 5 a5) (h6 : P 6 a6) where
+  seven-held : (n : ℕ) → P n (getD (a0 ∷ a1 ∷ a2 ∷ a3 ∷ a4 ∷ a5 ∷ a6 ∷ []) n d)
+  seven-held zero = h0
+  seven-held (suc zero) = h1
+  seven-held (suc (suc zero)) = h2
+  seven-held (suc (suc (suc zero))) = h3
+  seven-held (suc (suc (suc (suc zero)))) = h4
+  seven-held (suc (suc (suc (suc (suc zero))))) = h5
+  seven-held (suc (suc (suc (suc (suc (suc zero)))))) = h6
+  seven-held (suc (suc (suc (suc (suc (suc (suc n))))))) = beyond _
+
 module _ (f : ℕ → ℕ → Float) {r0 r1 r2 r3 r4 r5 r6 : List Strip} (h0 : Row r0 (f 0)) (h1 : Row r1 (f 1)) (h2 : Row r2 (f 2)) (h3 : Row r3 (f 3)) (h4 : Row r4 (f 4)) (h5 : Row r5 (f 5)) (h6 : Row r6 (f 6)) where
   table-held : Table (r0 ∷ r1 ∷ r2 ∷ r3 ∷ r4 ∷ r5 ∷ r6 ∷ []) f
-  table-held = record { each = go }
-    where
-      go : (n : ℕ) → Row (getD (r0 ∷ r1 ∷ r2 ∷ r3 ∷ r4 ∷ r5 ∷ r6 ∷ []) n []) (f n)
-      go zero = h0
-      go (suc zero) = h1
-      go (suc (suc zero)) = h2
-      go (suc (suc (suc zero))) = h3
-      go (suc (suc (suc (suc zero)))) = h4
-      go (suc (suc (suc (suc (suc zero))))) = h5
-      go (suc (suc (suc (suc (suc (suc zero)))))) = h6
-      go (suc (suc (suc (suc (suc (suc (suc n))))))) = record { each = λ m. anywhere }
+  table-held = record { each = seven-held (λ n r. Row r (f n)) [] (λ n. record { each = λ m. anywhere }) h0 h1 h2 h3 h4 h5 h6 }
 
 -- tables of numbers
 unfoldable pub dotRow : List Float → List Strip
@@ -295,17 +297,7 @@ module _ (g h : List (List Strip)) where
 
 module _ (f : ℕ → Float) {i0 i1 i2 i3 i4 i5 i6 : Strip} (h0 : On i0 (f 0)) (h1 : On i1 (f 1)) (h2 : On i2 (f 2)) (h3 : On i3 (f 3)) (h4 : On i4 (f 4)) (h5 : On i5 (f 5)) (h6 : On i6 (f 6)) where
   waves-held : Row (i0 ∷ i1 ∷ i2 ∷ i3 ∷ i4 ∷ i5 ∷ i6 ∷ []) f
-  waves-held = record { each = go }
-    where
-      go : (m : ℕ) → On (at (i0 ∷ i1 ∷ i2 ∷ i3 ∷ i4 ∷ i5 ∷ i6 ∷ []) m) (f m)
-      go zero = h0
-      go (suc zero) = h1
-      go (suc (suc zero)) = h2
-      go (suc (suc (suc zero))) = h3
-      go (suc (suc (suc (suc zero)))) = h4
-      go (suc (suc (suc (suc (suc zero))))) = h5
-      go (suc (suc (suc (suc (suc (suc zero)))))) = h6
-      go (suc (suc (suc (suc (suc (suc (suc m))))))) = anywhere
+  waves-held = record { each = seven-held (λ m i. On i (f m)) all (λ m. anywhere) h0 h1 h2 h3 h4 h5 h6 }
 
 module _ (g h : List (List Strip)) (hg : Table g (entry G)) (hh : Table h (entry H)) (phi : Radians) {u v : Strip} (hu : On u (cos32Of (phi .0))) (hv : On v (sin32Of (phi .0))) where
   ts-row : (sp cp : List Strip) → Row sp (spOf phi) → Row cp (cpOf phi) → (n : ℕ) → Row (tsRow g h sp cp n) (tsOf phi n)

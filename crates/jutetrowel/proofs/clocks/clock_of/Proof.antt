@@ -1,4 +1,4 @@
--- By the answer's case.
+-- `clock_of` is `clockAnswer`, by whether the clock moved or was refused.
 use borrow.Author.Needs.{needs}
 use mathlib.Core.Path.{sym, ap, _∙_}
 use lib.Ieee.{binary32, ofBits, round}

@@ -1,4 +1,4 @@
--- By the answer's case.
+-- `hours_of` is `hoursAnswer`, by whether there are hours or a refusal.
 use borrow.Author.Needs.{needs}
 use mathlib.Core.Path.{sym, ap, _∙_}
 use lib.Ieee.{binary32, ofBits, round}

@@ -1,4 +1,4 @@
--- The clock of these numbers.
+-- `jt_cngtim_to_universal` answers `movedOf` of its numbers: what `cngtim` ensures, in `clock_of`.
 use borrow.Author.Needs.{needs}
 use mathlib.Core.Path.{ap, _∙_}
 use Rattle.jutetrowel.specs.Clocks.{clockAnswer}

@@ -1,4 +1,4 @@
--- The clock of these numbers.
+-- `jt_geotim` answers `timesOf` of its numbers: what `geotim` ensures, in `hours_of`.
 use borrow.Author.Needs.{needs}
 use mathlib.Core.Path.{ap, _∙_}
 use Rattle.jutetrowel.specs.Clocks.{hoursAnswer}

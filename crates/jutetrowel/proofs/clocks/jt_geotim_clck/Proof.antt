@@ -1,4 +1,4 @@
--- The clock of these numbers.
+-- `jt_geotim_clck` answers `localTimeOf` of its numbers: what `geotim_clck` ensures, in `local_of`.
 use borrow.Author.Needs.{needs}
 use mathlib.Core.Path.{ap, _∙_}
 use Rattle.jutetrowel.specs.Clocks.{localAnswer}

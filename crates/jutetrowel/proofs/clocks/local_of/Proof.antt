@@ -1,4 +1,4 @@
--- By the answer's case.
+-- `local_of` is `localAnswer`, by whether there is a time or a refusal.
 use borrow.Author.Needs.{needs}
 use mathlib.Core.Path.{sym, ap, _∙_}
 use lib.Ieee.{binary32, ofBits, round}

@@ -1,4 +1,4 @@
--- The change that was made, with these numbers.
+-- `jt_change_path` is `Made` of the change to this route: what `made` ensures (`changed`).
 use borrow.Author.Needs.{needs}
 use mathlib.Core.Path.{ap}
 use Rattle.worksheet.specs.declared.inputs.Edit.the-variants.{Path}

@@ -1,4 +1,5 @@
--- The change that was made, with these numbers.
+-- `jt_change_sunspot` is `Made` of the change to this sunspot number: what `made` ensures
+-- (`changed`).
 use borrow.Author.Needs.{needs}
 use mathlib.Core.Path.{refl}
 use Rattle.jutetrowel.proofs.crossing.Crossed.{changed}

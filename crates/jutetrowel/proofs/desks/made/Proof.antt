@@ -1,4 +1,5 @@
--- The step of the worksheet that the words hold, by what was handed back of it.
+-- `made` is the step of the worksheet that the words hold, by whether `make` hands back a verdict
+-- or a showing.
 use borrow.Author.Needs.{needs}
 use mathlib.Core.List.{[]}
 use mathlib.Core.Path.{ap, _∙_}

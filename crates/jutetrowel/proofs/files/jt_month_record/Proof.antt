@@ -1,4 +1,5 @@
--- By the check: an accepted month has its part from the first byte of its record.
+-- `jt_month_record` is the span of `monthPart`, by the check: an accepted month has its part from
+-- the first byte of its record.
 use borrow.Author.Needs.{needs}
 use mathlib.Core.Path.{sym, ap, _∙_}
 use native.Mathlib.Omega.{arith}

@@ -1,4 +1,4 @@
--- By the check: an accepted table has its number's part.
+-- `jt_table` is the span of `tablePart`, by the check: an accepted table has its number's part.
 use borrow.Author.Needs.{needs}
 use mathlib.Core.Path.{sym, ap, _∙_}
 use Rattle.base.specs.MonthFile.{emptyPart}

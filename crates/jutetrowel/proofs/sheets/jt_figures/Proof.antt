@@ -1,4 +1,4 @@
--- The fields become inputs, and the answer a struct.
+-- `jt_figures` is `drawnOf` of its numbers: they become inputs, and the answer a struct.
 use borrow.Author.Needs.{needs}
 use mathlib.Core.Path.{_≡_, ap, _∙_}
 use Rattle.maps.specs.declared.inputs.Inputs.{Inputs}

@@ -1,4 +1,4 @@
--- The words are filled with the others one by one.
+-- `copy` fills the words with the others. The loop's invariant: the first k are filled.
 use borrow.Author.Needs.{needs}
 use mathlib.Core.Path.{_≡_, refl, sym, ap, _∙_}
 use mathlib.Core.List.{List}

@@ -1,4 +1,4 @@
--- By the set's first word.
+-- `draft_in` is `draftIn`, by the set's first word.
 use borrow.Author.Needs.{needs}
 use borrow.Author.Tests.{eq-eqb, ne-eqb}
 use mathlib.Core.Path.{sym, ap, _∙_}

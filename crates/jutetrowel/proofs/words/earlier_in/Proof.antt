@@ -1,4 +1,4 @@
--- By the set's first word.
+-- `earlier_in` is `earlierIn`, by the set's first word.
 use borrow.Author.Needs.{needs}
 use borrow.Author.Tests.{eq-eqb, ne-eqb}
 use mathlib.Core.Path.{sym, ap, _∙_}

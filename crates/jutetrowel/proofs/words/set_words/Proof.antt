@@ -1,4 +1,4 @@
--- What the set is, and the words of the fields copied behind it.
+-- `set_words` is `setWords`: what the set is, and the words of the fields copied behind it.
 use borrow.Author.Needs.{needs}
 use mathlib.Core.List.{List}
 use mathlib.Core.Path.{ap, _∙_}

@@ -1,4 +1,5 @@
--- By the verdict.
+-- `settle` answers the verdict and writes the worksheet's words, or leaves the words, by the
+-- verdict.
 use borrow.Author.Needs.{needs}
 use mathlib.Core.Path.{sym, ap, _∙_}
 use Rattle.base.specs.Refusal.{writtenOver}

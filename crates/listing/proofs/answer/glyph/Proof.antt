@@ -1,4 +1,4 @@
--- By the digit's size.
+-- `glyph` is `glyphOf`, by whether the digit is below 10.
 use borrow.Author.Needs.{needs}
 use borrow.Author.Tests.{lt-ltb, le-ltb}
 use mathlib.Core.Path.{sym}

@@ -1,4 +1,4 @@
--- Word, number, line feed, and the lines.
+-- `points_text` puts `pointsText`: word, number, line feed and the lines, joined, which fit.
 use borrow.Author.Needs.{needs}
 use native.Mathlib.Omega.{arith}
 use Rattle.listing.specs.Answer.{pointsText}

@@ -1,4 +1,4 @@
--- The digits, then the line feed.
+-- `put_line` puts `lineOf`: the eight digits and the line feed, joined.
 use borrow.Author.Needs.{needs}
 use mathlib.Core.Path.{ap, _∙_}
 use native.Mathlib.Omega.{arith}

@@ -1,4 +1,5 @@
--- What is owed after k turns are the lines from number k on.
+-- `put_lines` puts `linesOf`. The loop's invariant: what is owed after k turns are the lines from
+-- number k on.
 use borrow.Author.Needs.{needs}
 use Prim.Native.Nat.{_+_, _≤_, _-_}
 use lib.ListN.{length, getD, drop}

@@ -1,4 +1,4 @@
--- Word, number, blank, place, line feed.
+-- `refusal_text` puts `refusalText`: word, number, blank, place and line feed, joined, which fit.
 use borrow.Author.Needs.{needs}
 use mathlib.Core.Path.{ap}
 use native.Mathlib.Omega.{arith}

@@ -1,4 +1,4 @@
--- By what a showing gives.
+-- `sheet_text` puts `sheetText`, by whether the showing gives points or a refusal.
 use borrow.Author.Needs.{needs}
 use mathlib.Core.Path.{sym, ap, _∙_}
 use native.Mathlib.Omega.{arith}

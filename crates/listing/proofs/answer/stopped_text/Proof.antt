@@ -1,4 +1,4 @@
--- Words, number, line feed.
+-- `stopped_text` puts `stoppedText`: words, number and line feed, joined, which fit.
 use borrow.Author.Needs.{needs}
 use native.Mathlib.Omega.{arith}
 use Rattle.listing.specs.Answer.{stoppedText}

@@ -1,4 +1,4 @@
--- By the verdict.
+-- `verdict_text` puts `verdictText`, by the verdict.
 use borrow.Author.Needs.{needs}
 use mathlib.Core.Path.{sym, ap, _∙_}
 use native.Mathlib.Omega.{arith}

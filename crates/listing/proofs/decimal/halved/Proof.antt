@@ -1,4 +1,5 @@
--- The last factor of two goes to the nearest.
+-- `halved` is n over 2^s to the nearest: n over all factors of two but the last, halved to the
+-- nearest.
 use borrow.Author.Needs.{needs}
 use mathlib.Core.Path.{sym, ap, _∙_}
 use Prim.Native.Nat.{ℕ, _+_, _/_, _%_, _^_}

@@ -1,4 +1,4 @@
--- By whether there is a digit here, and whether there is one after it.
+-- `leading` is `leadingOf`, by whether there is a digit here, and whether there is one after it.
 use borrow.Author.Needs.{needs}
 use mathlib.Core.Path.{sym, _∙_}
 use Rattle.base.proofs.verdicts.Picks.{cond-true, cond-false}

@@ -1,4 +1,5 @@
--- The fields are those of the float's bits, which are read back as the float.
+-- `put_float` puts `decimalText`: the fields are those of the float's bits, which are read back as
+-- the float.
 use borrow.Author.Needs.{needs}
 use mathlib.Core.Path.{ap, _∙_}
 use Prim.Native.Nat.{ℕ}

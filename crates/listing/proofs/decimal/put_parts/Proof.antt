@@ -1,4 +1,4 @@
--- By the exponent's field.
+-- `put_parts` puts `decimalText` of the float with these fields, by the exponent's field.
 use borrow.Author.Needs.{needs}
 use mathlib.Core.Path.{_≡_, sym, ap, _∙_}
 use Prim.Native.Nat.{ℕ}

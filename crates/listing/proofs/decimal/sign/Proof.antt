@@ -1,4 +1,4 @@
--- By the flag.
+-- `sign` is `signText`, by the flag.
 use mathlib.Core.Path.{sym}
 use Rattle.base.proofs.verdicts.Picks.{cond-true, cond-false}
 use Rattle.listing.specs.Decimal.{signText}

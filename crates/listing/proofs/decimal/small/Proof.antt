@@ -1,4 +1,5 @@
--- By whether there is a leading one.
+-- `small` is `decimalText` of a float below 2^24, by whether it has a leading one that its bits do
+-- not hold.
 use borrow.Author.Needs.{needs}
 use mathlib.Core.Path.{sym, ap, _∙_}
 use Prim.Native.Nat.{ℕ}

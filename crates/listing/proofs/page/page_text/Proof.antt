@@ -1,4 +1,4 @@
--- Fields, path, points.
+-- `page_text` puts `pageText`: fields, path and points, joined, which fit.
 use borrow.Author.Needs.{needs}
 use native.Mathlib.Omega.{arith}
 use Rattle.listing.specs.Page.{pageText}

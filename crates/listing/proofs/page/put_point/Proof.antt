@@ -1,4 +1,4 @@
--- Word, number, line feed, and the lines.
+-- `put_point` puts `pointText`: word, number, line feed and the lines, joined, which fit.
 use borrow.Author.Needs.{needs}
 use Prim.Native.Nat.{_+_}
 use native.Mathlib.Omega.{arith}

@@ -1,4 +1,4 @@
--- By whether the point is there.
+-- `put_point_there` puts `thereText`, by whether the point is there.
 use borrow.Author.Needs.{needs}
 use borrow.Author.Tests.{lt-ltb, le-ltb}
 use mathlib.Core.Path.{sym}

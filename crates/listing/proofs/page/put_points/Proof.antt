@@ -1,4 +1,4 @@
--- After p turns the first p points stand there.
+-- `put_points` puts the five points. The loop's invariant: after p turns the first p stand there.
 use borrow.Author.Needs.{needs}
 use mathlib.Core.Path.{_≡_, subst}
 use Prim.Native.Nat.{ℕ, _≤_, _-_}

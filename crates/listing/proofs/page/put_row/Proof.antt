@@ -1,4 +1,4 @@
--- Name, number, unit, line feed.
+-- `put_row` puts `rowText`: name, number, unit and line feed, joined, which fit.
 use borrow.Author.Needs.{needs}
 use native.Mathlib.Omega.{arith}
 use Rattle.listing.specs.Page.{rowText}

@@ -1,4 +1,5 @@
--- After k turns the lines of k numbers stand there.
+-- `put_rows` puts `rowsText`. The loop's invariant: after k turns the lines of k numbers stand
+-- there.
 use borrow.Author.Needs.{needs}
 use mathlib.Core.Path.{_≡_, subst}
 use Prim.Native.Nat.{ℕ, _≤_, _-_}

@@ -1,4 +1,4 @@
--- By whether the first letter is a blank.
+-- `put_unit` puts `unitIn`, by whether the first letter is a blank.
 use borrow.Author.Needs.{needs}
 use borrow.Author.Tests.{eq-eqb, ne-eqb}
 use mathlib.Core.Path.{sym}

@@ -1,4 +1,4 @@
--- Decimals, two blanks, bits.
+-- `put_value` puts `valueText`: decimals, two blanks and bits, joined, which fit.
 use borrow.Author.Needs.{needs}
 use mathlib.Core.Path.{ap, _∙_}
 use native.Mathlib.Omega.{arith}

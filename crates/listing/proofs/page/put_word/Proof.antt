@@ -1,4 +1,5 @@
--- What is owed after k letters is the word in what follows them.
+-- `put_word` puts `lettersIn`. The loop's invariant: what is owed after k letters is the word in
+-- what follows them.
 use borrow.Author.Needs.{needs}
 use mathlib.Core.List.{[], _∷_}
 use Prim.Native.Nat.{_+_, _≤_, _-_}

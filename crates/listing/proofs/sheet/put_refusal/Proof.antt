@@ -1,4 +1,4 @@
--- The line of the refusal, which is short, put first.
+-- `put_refusal` puts `refusalText`: the line of the refusal, which is short, put first.
 use borrow.Author.Needs.{needs}
 use mathlib.Core.Path.{_≡_, ap, _∙_}
 use native.Mathlib.Omega.{arith}

@@ -1,5 +1,5 @@
--- What is left to divide by stays owed: n over b to the power of the turns left is n over the whole
--- power from the start.
+-- `divided` is n over b^k. The loop's invariant: n over b to the power of the turns left is n over
+-- the whole power from the start.
 use borrow.Author.Needs.{needs}
 use mathlib.Core.Path.{_≡_, refl, sym, ap, _∙_}
 use Prim.Native.Nat.{ℕ, _/_, _^_, _≤_}

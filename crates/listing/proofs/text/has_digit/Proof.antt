@@ -1,4 +1,4 @@
--- By whether the place is the lowest.
+-- `has_digit` is `hasDigit`, by whether the place is the lowest.
 use borrow.Author.Needs.{needs}
 use borrow.Author.Tests.{eq-eqb, ne-eqb}
 use mathlib.Core.Path.{sym, ap, _∙_}

@@ -1,4 +1,5 @@
--- Byte by byte: at every turn the buffer is as it was but for the first bytes of the piece.
+-- `put` puts the piece byte by byte. The loop's invariant: the buffer is as it was but for the
+-- first bytes of the piece.
 use borrow.Author.Needs.{needs}
 use mathlib.Core.Path.{_≡_, _∙_}
 use Prim.Native.Nat.{_+_, _≤_, _-_}

@@ -1,4 +1,5 @@
--- What is owed with k places to go are the digits of those.
+-- `put_number` puts `decimalOf`. The loop's invariant: what is owed with k places to go are the
+-- digits of those.
 use borrow.Author.Needs.{needs}
 use Prim.Native.Nat.{_≤_, _-_}
 use native.Mathlib.Omega.{arith}

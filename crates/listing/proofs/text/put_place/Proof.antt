@@ -1,4 +1,4 @@
--- By whether there is a digit.
+-- `put_place` puts `digitAt`, by whether there is a digit.
 use borrow.Author.Needs.{needs}
 use mathlib.Core.Path.{_≡_, sym, ap, _∙_}
 use mathlib.Core.List.{[], _∷_}

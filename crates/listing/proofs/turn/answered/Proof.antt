@@ -1,4 +1,5 @@
--- What `make` hands back, as text.
+-- `answered` leaves the step's worksheet and puts the text of its answer: what `make` hands back,
+-- as text.
 use borrow.Author.Needs.{needs}
 use lib.Ieee.{ofBits, round}
 use Rattle.base.specs.Single.{decimal}

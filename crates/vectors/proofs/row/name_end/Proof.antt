@@ -1,9 +1,9 @@
--- `name_end` stays within the row.
+-- `name_end` stays within the row and ends: i rises at each turn, up to the row's length.
 use borrow.Author.Needs.{needs}
 use Prim.Native.Nat.{_≤_, _-_}
 use lib.ListN.{length}
-use Rattle.vectors.proofs.tally.name_end.Statement.{statement}
-use Rattle.vectors.proofs.tally.name_end.Tie as tie
+use Rattle.vectors.proofs.row.name_end.Statement.{statement}
+use Rattle.vectors.proofs.row.name_end.Tie as tie
 
 abbrev Inv-loop : tie.InvT-loop
 Inv-loop row from i₀ i = i ≤ length row
