@@ -54,7 +54,8 @@ fn cut_short(left: usize) -> Next
 
 fn call_at(calls: &[u8], from: usize) -> Next
     requires { ⌜ from < length (now calls) ⌝ }
-    ensures { λ r. ⌜ (1 ≤ r .size) × (from + r .size ≤ length (now (calls .entry))) ⌝ }
+    ensures some { λ r. ⌜ 1 ≤ r .size ⌝ }
+    ensures within { λ r. ⌜ from + r .size ≤ length (now (calls .entry)) ⌝ }
 {
     let left = calls.len() - from;
     if left < 4 {

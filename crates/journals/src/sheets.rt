@@ -27,7 +27,8 @@ const INPUT: usize = FIELD_BYTES + PAIR + 1000;
 const MONTH_START: usize = FIELD_BYTES + RECORD;
 
 fn min(a: usize, b: usize) -> usize
-    ensures { λ r. ⌜ (r ≤ a) × (r ≤ b) ⌝ }
+    ensures first { λ r. ⌜ r ≤ a ⌝ }
+    ensures second { λ r. ⌜ r ≤ b ⌝ }
 {
     if a < b { a } else { b }
 }

@@ -31,11 +31,8 @@ ghost use Rattle.jutetrowel.specs.Calls.{answerNumbers, Shows, wordsLeft
 // 90 words stay.
 #[no_mangle]
 pub extern "C" fn jt_open(words: &[u8], sheet: &mut [u32; SHEET_WORDS]) -> Answer
-    ensures { λ r. ⌜ (
-        let o = openedOf (now (words .entry)) in
-        (r ≡ answerOf (o .answer))
-        × (now (sheet .exit) ≡ wordsAfter o (now (sheet .entry)))
-        ) ⌝ }
+    ensures answer { λ r. ⌜ r ≡ answerOf (openedOf (now (words .entry)) .answer) ⌝ }
+    ensures sheet { λ _. ⌜ now (sheet .exit) ≡ wordsAfter (openedOf (now (words .entry))) (now (sheet .entry)) ⌝ }
 {
     let new = opened(words);
     let verdict = new.answer;
@@ -45,12 +42,11 @@ pub extern "C" fn jt_open(words: &[u8], sheet: &mut [u32; SHEET_WORDS]) -> Answe
 
 // Makes a call that needs no files. A showing has no buffer here: it is refused.
 fn made(sheet: &mut [u32; SHEET_WORDS], call: Call) -> Answer
-    ensures { λ r. ⌜ (
-        let l = now (sheet .entry) in
-        let c = called call [] in
-        (r ≡ answerNumbers (step (pair [] []) c (worksheetOf l) .answer))
-        × (now (sheet .exit) ≡ wordsLeft (pair [] []) c l)
+    ensures answer { λ r. ⌜ (
+        let s = step (pair [] []) (called call []) (worksheetOf (now (sheet .entry))) in
+        r ≡ answerNumbers (s .answer)
         ) ⌝ }
+    ensures sheet { λ _. ⌜ now (sheet .exit) ≡ wordsLeft (pair [] []) (called call []) (now (sheet .entry)) ⌝ }
 {
     let mut nothing = [0.0f32; 0];
     let next = journal::make(load(sheet), call, b"", b"", &mut nothing);

@@ -85,12 +85,11 @@ pub extern "C" fn jt_table(number: u32, f2: &[u8], month: &[u8]) -> Span
 // stays as it is.
 #[no_mangle]
 pub extern "C" fn jt_cofion(f2: &[u8], month: &[u8], ssn: f32, out: &mut SixMaps) -> Answer
-    ensures { λ r. ⌜ (
+    ensures answer { λ r. ⌜ r ≡ answerOf (filesCheck (now (f2 .entry)) (now (month .entry))) ⌝ }
+    ensures buffer { λ _. ⌜ (
         let f = now (f2 .entry) in
         let m = now (month .entry) in
-        let v = filesCheck f m in
-        (r ≡ answerOf v)
-        × (now (out .exit) ≡ writtenOver v (cofionOf f m ssn) (now (out .entry)))
+        now (out .exit) ≡ writtenOver (filesCheck f m) (cofionOf f m ssn) (now (out .entry))
         ) ⌝ }
 {
     answered(files::cofion(f2, month, ssn, out))
@@ -100,11 +99,10 @@ pub extern "C" fn jt_cofion(f2: &[u8], month: &[u8], ssn: f32, out: &mut SixMaps
 // stays as it is.
 #[no_mangle]
 pub extern "C" fn jt_hmym(month: &[u8], ssn: f32, out: &mut HeightMap) -> Answer
-    ensures { λ r. ⌜ (
+    ensures answer { λ r. ⌜ r ≡ answerOf (fileCheck (now (month .entry))) ⌝ }
+    ensures buffer { λ _. ⌜ (
         let m = now (month .entry) in
-        let v = fileCheck m in
-        (r ≡ answerOf v)
-        × (now (out .exit) ≡ writtenOver v (hmymOf m ssn) (now (out .entry)))
+        now (out .exit) ≡ writtenOver (fileCheck m) (hmymOf m ssn) (now (out .entry))
         ) ⌝ }
 {
     answered(files::hmym(month, ssn, out))

@@ -110,12 +110,11 @@ pub extern "C" fn jt_hour_maps(
     gmt: f32,
     ab: &mut TimeMaps,
 ) -> Answer
-    ensures { λ r. ⌜ (
+    ensures answer { λ r. ⌜ r ≡ answerOf (filesCheck (now (f2 .entry)) (now (file .entry))) ⌝ }
+    ensures buffer { λ _. ⌜ (
         let f = now (f2 .entry) in
         let m = now (file .entry) in
-        let v = filesCheck f m in
-        (r ≡ answerOf v)
-        × (now (ab .exit) ≡ writtenOver v (hourMapsOf f m ssn gmt) (now (ab .entry)))
+        now (ab .exit) ≡ writtenOver (filesCheck f m) (hourMapsOf f m ssn gmt) (now (ab .entry))
         ) ⌝ }
 {
     answered(ionosphere::hour_maps(f2, file, ssn, gmt, ab))

@@ -38,12 +38,17 @@ pub extern "C" fn jt_figures(
     file: &[u8],
     out: &mut [f32],
 ) -> Showing
-    ensures { λ r. ⌜ (
+    ensures answer { λ r. ⌜ (
         let i = inputsOf month ssn gmt tlat tlong rlat rlong «long_path»
         «psc_e» «psc_f1» «psc_f2» «psc_es» «pole_lat» «pole_lon» in
         let files = pair (now (f2 .entry)) (now (file .entry)) i in
-        (r ≡ showingOf (drawnOf files i (now (out .entry))))
-        × (now (out .exit) ≡ drawnBuffer files i (now (out .entry)))
+        r ≡ showingOf (drawnOf files i (now (out .entry)))
+        ) ⌝ }
+    ensures buffer { λ _. ⌜ (
+        let i = inputsOf month ssn gmt tlat tlong rlat rlong «long_path»
+        «psc_e» «psc_f1» «psc_f2» «psc_es» «pole_lat» «pole_lon» in
+        let files = pair (now (f2 .entry)) (now (file .entry)) i in
+        now (out .exit) ≡ drawnBuffer files i (now (out .entry))
         ) ⌝ }
 {
     let i = Inputs {

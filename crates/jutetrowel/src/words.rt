@@ -153,10 +153,8 @@ fn words_of(w: Worksheet) -> [u32; SHEET_WORDS]
 // A call's verdict as it crosses, with the worksheet that it leaves in the lent words; refused,
 // they stay.
 pub(crate) fn settle(sheet: &mut [u32; SHEET_WORDS], verdict: Verdict, w: Worksheet) -> Answer
-    ensures { λ r. ⌜ (
-        (r ≡ answerOf verdict)
-        × (now (sheet .exit) ≡ writtenOver verdict (sheetWords w) (now (sheet .entry)))
-        ) ⌝ }
+    ensures answer { λ r. ⌜ r ≡ answerOf verdict ⌝ }
+    ensures sheet { λ _. ⌜ now (sheet .exit) ≡ writtenOver verdict (sheetWords w) (now (sheet .entry)) ⌝ }
 {
     match verdict {
         Verdict::Accepted => {

@@ -136,7 +136,8 @@ unfoldable pub fieldsText : Inputs → List ℕ
 fieldsText i =
     let early = rowsText 0 (earlyFields i) 0 6 in
     let late = rowsText 6 (lateFields i) 0 6 in
-    ascii "month       " ++ (decimalOf (i .month) ++ (ascii "\n" ++ (early ++ (longText (isLong (i .route .«long_path»)) ++ late))))
+    let long = longText (isLong (i .route .«long_path»)) in
+    ascii "month       " ++ (decimalOf (i .month) ++ (ascii "\n" ++ (early ++ (long ++ late))))
 
 -- the point of number p, from 0 on: number k of it stands at 6 + 29 p + k
 unfoldable pub pointText : List Float → ℕ → List ℕ

@@ -66,8 +66,8 @@ fn put_lines(out: &mut [u8], at: usize, figures: &[f32]) -> usize
 
 // Writes the line of a refusal, `refused`, number, place, and gives its length in bytes.
 pub fn refusal_text(why: Refusal, out: &mut [u8; ANSWER]) -> usize
-    ensures { λ r. ⌜ take r (now (out .exit)) ≡ refusalText why ⌝ }
-    ensures { λ r. ⌜ Counts r (now (out .exit)) ⌝ }
+    ensures text { λ r. ⌜ take r (now (out .exit)) ≡ refusalText why ⌝ }
+    ensures count { λ r. ⌜ Counts r (now (out .exit)) ⌝ }
 {
     let next = put(out, 0, b"refused ");
     let next = put_number(out, next, why.number() as u64);
@@ -79,8 +79,8 @@ pub fn refusal_text(why: Refusal, out: &mut [u8; ANSWER]) -> usize
 // Writes the line of a call that shows nothing, `accepted` or the refusal's, and gives its length
 // in bytes.
 pub fn verdict_text(v: Verdict, out: &mut [u8; ANSWER]) -> usize
-    ensures { λ r. ⌜ take r (now (out .exit)) ≡ verdictText v ⌝ }
-    ensures { λ r. ⌜ Counts r (now (out .exit)) ⌝ }
+    ensures text { λ r. ⌜ take r (now (out .exit)) ≡ verdictText v ⌝ }
+    ensures count { λ r. ⌜ Counts r (now (out .exit)) ⌝ }
 {
     match v {
         Verdict::Accepted => put(out, 0, b"accepted\n"),
@@ -90,8 +90,8 @@ pub fn verdict_text(v: Verdict, out: &mut [u8; ANSWER]) -> usize
 
 // The line `points`, number, and the lines of the figures.
 fn points_text(count: u32, figures: &[f32; FIGURES], out: &mut [u8; ANSWER]) -> usize
-    ensures { λ r. ⌜ take r (now (out .exit)) ≡ pointsText count (now (figures .entry)) ⌝ }
-    ensures { λ r. ⌜ Counts r (now (out .exit)) ⌝ }
+    ensures text { λ r. ⌜ take r (now (out .exit)) ≡ pointsText count (now (figures .entry)) ⌝ }
+    ensures count { λ r. ⌜ Counts r (now (out .exit)) ⌝ }
 {
     let next = put(out, 0, b"points ");
     let next = put_number(out, next, count as u64);
@@ -102,8 +102,8 @@ fn points_text(count: u32, figures: &[f32; FIGURES], out: &mut [u8; ANSWER]) -> 
 // Writes what a showing in a journal answers, `points` and the figures' lines or the refusal's
 // line, and gives its length in bytes.
 pub fn shown_text(s: Shown, figures: &[f32; FIGURES], out: &mut [u8; ANSWER]) -> usize
-    ensures { λ r. ⌜ take r (now (out .exit)) ≡ shownText s (now (figures .entry)) ⌝ }
-    ensures { λ r. ⌜ Counts r (now (out .exit)) ⌝ }
+    ensures text { λ r. ⌜ take r (now (out .exit)) ≡ shownText s (now (figures .entry)) ⌝ }
+    ensures count { λ r. ⌜ Counts r (now (out .exit)) ⌝ }
 {
     match s {
         Shown::Points(count) => points_text(count, figures, out),
@@ -114,8 +114,8 @@ pub fn shown_text(s: Shown, figures: &[f32; FIGURES], out: &mut [u8; ANSWER]) ->
 // Writes what a sheet by itself answers, the figures' lines alone or the refusal's line, and gives
 // its length in bytes.
 pub fn sheet_text(s: Shown, figures: &[f32; FIGURES], out: &mut [u8; ANSWER]) -> usize
-    ensures { λ r. ⌜ take r (now (out .exit)) ≡ sheetText s (now (figures .entry)) ⌝ }
-    ensures { λ r. ⌜ Counts r (now (out .exit)) ⌝ }
+    ensures text { λ r. ⌜ take r (now (out .exit)) ≡ sheetText s (now (figures .entry)) ⌝ }
+    ensures count { λ r. ⌜ Counts r (now (out .exit)) ⌝ }
 {
     match s {
         Shown::Points(_) => put_lines(out, 0, figures),
@@ -126,8 +126,8 @@ pub fn sheet_text(s: Shown, figures: &[f32; FIGURES], out: &mut [u8; ANSWER]) ->
 // Writes the line where bytes make no call, with the place of the first of them, and gives its
 // length in bytes.
 pub fn stopped_text(at: u64, out: &mut [u8; ANSWER]) -> usize
-    ensures { λ r. ⌜ take r (now (out .exit)) ≡ stoppedText at ⌝ }
-    ensures { λ r. ⌜ Counts r (now (out .exit)) ⌝ }
+    ensures text { λ r. ⌜ take r (now (out .exit)) ≡ stoppedText at ⌝ }
+    ensures count { λ r. ⌜ Counts r (now (out .exit)) ⌝ }
 {
     let next = put(out, 0, b"stopped at ");
     let next = put_number(out, next, at);

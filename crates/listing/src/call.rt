@@ -32,7 +32,8 @@ const SIZES: [usize; 11] = [0, 4, 8, 8, 24, 20, 12, 4, 4, 0, 4];
 
 // How many bytes follow the operation's word; none where it is unknown.
 pub fn size_of(operation: u32) -> usize
-    ensures { λ r. ⌜ (r ≡ sizeOf operation) × (r ≤ 24) ⌝ }
+    ensures answer { λ r. ⌜ r ≡ sizeOf operation ⌝ }
+    ensures bound { λ r. ⌜ r ≤ 24 ⌝ }
 {
     if 10 < operation {
         return 0;

@@ -268,8 +268,8 @@ fn put_points(out: &mut [u8], at: usize, count: u32, figures: &[f32; FIGURES]) -
 // Writes the page, the fields, the six figures of the path and the points that are there, and gives
 // its length in bytes.
 pub fn page_text(i: Inputs, count: u32, figures: &[f32; FIGURES], out: &mut [u8; PAGE]) -> usize
-    ensures { λ r. ⌜ take r (now (out .exit)) ≡ pageText i count (now (figures .entry)) ⌝ }
-    ensures { λ r. ⌜ Counts r (now (out .exit)) ⌝ }
+    ensures text { λ r. ⌜ take r (now (out .exit)) ≡ pageText i count (now (figures .entry)) ⌝ }
+    ensures count { λ r. ⌜ Counts r (now (out .exit)) ⌝ }
 {
     let next = put_fields(out, i);
     let next = put_rows(out, next, 12, figures, 0, 6);

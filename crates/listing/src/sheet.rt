@@ -21,8 +21,10 @@ ghost use Rattle.listing.specs.Sheet.{sheetAnswer, pageFor, pageAnswer};
 // Writes the 151 lines of the worksheet that the words open, or the line of the refusal, and gives
 // the length in bytes.
 pub fn sheet_answer(words: &[u8], f2: &[u8], file: &[u8], out: &mut [u8; ANSWER]) -> usize
-    ensures { λ r. ⌜ take r (now (out .exit)) ≡ sheetAnswer (now (words .entry)) (now (f2 .entry)) (now (file .entry)) ⌝ }
-    ensures { λ r. ⌜ Counts r (now (out .exit)) ⌝ }
+    ensures text { λ r. ⌜ (
+        take r (now (out .exit)) ≡ sheetAnswer (now (words .entry)) (now (f2 .entry)) (now (file .entry))
+        ) ⌝ }
+    ensures count { λ r. ⌜ Counts r (now (out .exit)) ⌝ }
 {
     let mut figures = [0.0f32; FIGURES];
     let o = opened(words);
@@ -32,8 +34,8 @@ pub fn sheet_answer(words: &[u8], f2: &[u8], file: &[u8], out: &mut [u8; ANSWER]
 }
 
 fn page_for(i: Inputs, shown: Shown, figures: &[f32; FIGURES], out: &mut [u8; PAGE]) -> usize
-    ensures { λ r. ⌜ take r (now (out .exit)) ≡ pageFor i shown (now (figures .entry)) ⌝ }
-    ensures { λ r. ⌜ Counts r (now (out .exit)) ⌝ }
+    ensures text { λ r. ⌜ take r (now (out .exit)) ≡ pageFor i shown (now (figures .entry)) ⌝ }
+    ensures count { λ r. ⌜ Counts r (now (out .exit)) ⌝ }
 {
     match shown {
         Shown::Points(count) => page_text(i, count, figures, out),
@@ -42,8 +44,8 @@ fn page_for(i: Inputs, shown: Shown, figures: &[f32; FIGURES], out: &mut [u8; PA
 }
 
 fn put_refusal(why: Refusal, out: &mut [u8; PAGE]) -> usize
-    ensures { λ r. ⌜ take r (now (out .exit)) ≡ refusalText why ⌝ }
-    ensures { λ r. ⌜ Counts r (now (out .exit)) ⌝ }
+    ensures text { λ r. ⌜ take r (now (out .exit)) ≡ refusalText why ⌝ }
+    ensures count { λ r. ⌜ Counts r (now (out .exit)) ⌝ }
 {
     let mut line = [0u8; ANSWER];
     let n = refusal_text(why, &mut line);
@@ -53,8 +55,10 @@ fn put_refusal(why: Refusal, out: &mut [u8; PAGE]) -> usize
 // Writes the page of the worksheet that the words open, or the line of the refusal, and gives the
 // length in bytes.
 pub fn page_answer(words: &[u8], f2: &[u8], file: &[u8], out: &mut [u8; PAGE]) -> usize
-    ensures { λ r. ⌜ take r (now (out .exit)) ≡ pageAnswer (now (words .entry)) (now (f2 .entry)) (now (file .entry)) ⌝ }
-    ensures { λ r. ⌜ Counts r (now (out .exit)) ⌝ }
+    ensures text { λ r. ⌜ (
+        take r (now (out .exit)) ≡ pageAnswer (now (words .entry)) (now (f2 .entry)) (now (file .entry))
+        ) ⌝ }
+    ensures count { λ r. ⌜ Counts r (now (out .exit)) ⌝ }
 {
     let mut figures = [0.0f32; FIGURES];
     let o = opened(words);

@@ -13,7 +13,7 @@ returns c =
     let m = c .before .before .before .before .before .make .ensures in
     let h = c .handed-text .ensures in
     let t = turn-as _ _ (m .0) (m .1) (h .0) in
-    ((t .0, t .1), h .1)
+    (t .0, (t .1, h .1))
 
 pub answered-spec : {M : Type 1} → statement M
 answered-spec =
