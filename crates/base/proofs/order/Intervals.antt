@@ -41,7 +41,7 @@ between-positive c d y C D q = above-positive y d D (above-of-le c y C (q .low))
 
 -- ---- the operations: x in [a, b], y in [c, d]
 module _ (f : Format) {a b c d x y : Float} (lo hi : Float) where
-  -- what is at least L and at most H of numbers whose ends are numbers
+  -- a result between L and H, the operation at two corners of finite ends; lo and hi hold both
   corners :
       (L H z : Float) → (T (finite a) → T (finite b) → T (finite c) → T (finite d) → T (finite x) → T (finite y) → T (le L z) × T (le z H)) →
       T (every (finite a ∷ finite b ∷ finite c ∷ finite d ∷ le lo L ∷ le H hi ∷ [])) → Between a b x → Between c d y → Between lo hi z

@@ -1,11 +1,11 @@
 -- The exponential of document 01's steps is a number for every number, and finite up to 48: up to
 -- 700 in size both of its factors are finite, and beyond that it is zero or infinite. Assumes
 -- nothing.
-use mathlib.Core.Path.{_≡_, refl, sym, subst}
+use mathlib.Core.Path.{_≡_, refl, sym, ap, subst}
 use mathlib.Core.Bool.{Bool, true, false, not, cond}
 use mathlib.Core.List.{List, [], _∷_}
 use Prim.Native.Nat.{ℕ, _+_, _-_, _*_, _/_, _^_, _≤_, _<_}
-use native.Mathlib.Nat.{le-trans, min-le-left, div-lt-iff-lt-mul, mul-pos, mul-le-mul-right}
+use native.Mathlib.Nat.{le-trans, min-le-left, div-lt-iff-lt-mul, mul-pos, mul-le-mul-right, mul-one, add-mul}
 use native.Mathlib.Omega.{arith}
 use lib.Dec.{T, lit<}
 use lib.IntN.{pos, negsuc}
@@ -74,7 +74,7 @@ abbrev limit : Float
 limit = fin false 175 (pos 2)
 
 abbrev most : Float
-most = fin false 127 (pos 3)
+most = fin false 1016 (pos 0)
 
 near-in : (v : Float) → T (le (absOf v) limit) → T (le (absOf (nearOf (v ⊗ fraction 14426950408889634 (10 ^ 16)))) most)
 unfolding nearOf fraction round neg add sub mul le
@@ -87,14 +87,16 @@ near-in v h =
     le→abs (v ⊗ c ⊕ M ⊖ M) most (r .low) (r .high)
 
 -- ---- 2 ^ n
-count-le : (x : Float) → T (finite x) → T (le x most) → toUnsigned 64 x ≤ 1016
+count-within : (n : ℕ) (x : Float) → T (finite x) → T (le x (fin false n (pos 0))) → toUnsigned 64 x ≤ n
 unfolding toUnsigned
-count-le nan p h = absurd p
-count-le (inf s) p h = absurd p
-count-le (fin true m e) p h = omega arith
-count-le (fin false m e) p h =
-    let c = le→cross (fin false m e) most tt tt h in
-    let l : m * up e / down e < 1017 = div-lt-iff-lt-mul (down-pos e) .1 (omega (arith, down-pos e)) in
+count-within n nan p h = absurd p
+count-within n (inf s) p h = absurd p
+count-within n (fin true m e) p h = omega arith
+count-within n (fin false m e) p h =
+    let c = le→cross (fin false m e) (fin false n (pos 0)) tt tt h in
+    let q : n * 1 * down e ≡ n * down e = ap (λ (k : ℕ). k * down e) (mul-one n) in
+    let r : (n + 1) * down e ≡ n * down e + 1 * down e = add-mul n 1 (down e) in
+    let l : m * up e / down e < n + 1 = div-lt-iff-lt-mul (down-pos e) .1 (omega (arith, down-pos e)) in
     le-trans (min-le-left (m * up e / down e) (2 ^ 64 - 1)) (omega arith)
 
 not-below : (a c : ℕ) → 0 < c → T (le nought (round binary64 false a c))
@@ -119,7 +121,7 @@ unfolding powerOfTwo
 power-finite n h = go (negative n)
   where
     few : toUnsigned 64 (absOf n) ≤ 1016
-    few = count-le (absOf n) (finite-between nought (absOf n) most tt tt (abs-not-below n (abs-no-nan n most h)) h) h
+    few = count-within 1016 (absOf n) (finite-between nought (absOf n) most tt tt (abs-not-below n (abs-no-nan n most h)) h) h
 
     go : (b : Bool) → T (finite (cond b (fraction 1 (2 ^ toUnsigned 64 (absOf n))) (fraction (2 ^ toUnsigned 64 (absOf n)) 1)))
     go true = power-at (toUnsigned 64 (absOf n)) few .1
@@ -180,16 +182,6 @@ near-few v h =
     let r : Between (neg few) few (v ⊗ c ⊕ M ⊖ M) = sub-in binary64 (neg few) few tt s (exactly M tt) in
     le→abs (v ⊗ c ⊕ M ⊖ M) few (r .low) (r .high)
 
-few-count : (x : Float) → T (finite x) → T (le x few) → toUnsigned 64 x ≤ 70
-unfolding toUnsigned
-few-count nan p h = absurd p
-few-count (inf s) p h = absurd p
-few-count (fin true m e) p h = omega arith
-few-count (fin false m e) p h =
-    let c = le→cross (fin false m e) few tt tt h in
-    let l : m * up e / down e < 71 = div-lt-iff-lt-mul (down-pos e) .1 (omega (arith, down-pos e)) in
-    le-trans (min-le-left (m * up e / down e) (2 ^ 64 - 1)) (omega arith)
-
 top-is : (fraction (2 ^ 70) 1 ≡ fin false 1 (pos 70)) × T (le (fraction 1 1) (fin false 1 (pos 70)))
 unfolding fraction round le
 top-is = (refl, tt)
@@ -208,7 +200,7 @@ unfolding powerOfTwo
 few-power n h = go (negative n)
   where
     least : toUnsigned 64 (absOf n) ≤ 70
-    least = few-count (absOf n) (finite-between nought (absOf n) few tt tt (abs-not-below n (abs-no-nan n few h)) h) h
+    least = count-within 70 (absOf n) (finite-between nought (absOf n) few tt tt (abs-not-below n (abs-no-nan n few h)) h) h
 
     go : (b : Bool) → Between nought (fin false 1 (pos 70)) (cond b (fraction 1 (2 ^ toUnsigned 64 (absOf n))) (fraction (2 ^ toUnsigned 64 (absOf n)) 1))
     go true = few-at (toUnsigned 64 (absOf n)) least .1

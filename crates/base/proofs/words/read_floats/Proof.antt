@@ -1,4 +1,4 @@
--- The array is filled with the words, all of it.
+-- `read_floats` fills the array with the floats. The loop's invariant: the first i are filled.
 use borrow.Author.Needs.{needs}
 use Prim.Native.Nat.{ℕ, _+_, _*_, _≤_, _-_}
 use mathlib.Core.Path.{_≡_, refl, sym}
