@@ -1,0 +1,71 @@
+-- Inputs that the worksheet accepts have every field in range, each by the check of its own: the
+-- 14 fields' check is one after the other. Assumes nothing.
+use mathlib.Core.Path.{_≡_, sym, subst}
+use mathlib.Core.Bool.{true}
+use Prim.Native.Nat.{ℕ}
+use lib.Dec.{T}
+use lib.Ieee.{Float}
+use Rattle.base.specs.declared.angle.Degrees.{Degrees}
+use Rattle.base.specs.declared.refusal.Refusal.the-variants.{Month, Hour, Latitude, Longitude, Sunspot, Factor}
+use Rattle.base.specs.declared.refusal.Verdict.the-variants.{Accepted}
+use Rattle.base.specs.Refusal.{_then_}
+use Rattle.base.specs.Single.{decimal, minusDecimal}
+use Rattle.base.specs.Ranges.{isTo, isMonth, monthCheck, hourCheck, latitudeCheck, longitudeCheck}
+use Rattle.base.proofs.layout.Readers.{then-both}
+use Rattle.maps.specs.declared.inputs.Inputs.{Inputs}
+use Rattle.maps.specs.declared.inputs.MagneticPole.{MagneticPole}
+use Rattle.maps.specs.declared.inputs.Factors.{Factors}
+use Rattle.maps.specs.declared.inputs.Route.{Route}
+use Rattle.worksheet.specs.Inputs.{sunspotCheck, factorCheck, flagCheck, routeCheck, factorsCheck, poleCheck, inputsCheck}
+use Rattle.worksheet.proofs.drafts.Effects.{passed}
+use Rattle.results.specs.FiniteOrNot.{PlaceInRange, RouteInRange, FieldsInRange}
+
+place-in : (m n : ℕ) (lat lon : Degrees) → latitudeCheck m lat ≡ Accepted → longitudeCheck n lon ≡ Accepted → PlaceInRange lat lon
+unfolding latitudeCheck longitudeCheck
+place-in m n lat lon h k = record {
+  latitude = subst T (sym (passed (isTo (minusDecimal 90 0) (decimal 90 0) (lat .0)) (Latitude m) h)) tt;
+  longitude = subst T (sym (passed (isTo (minusDecimal 180 0) (decimal 180 0) (lon .0)) (Longitude n) k)) tt;
+}
+
+factor-in : (n : ℕ) (x : Float) → factorCheck n x ≡ Accepted → T (isTo (decimal 125 3) (decimal 8 0) x)
+unfolding factorCheck
+factor-in n x h = subst T (sym (passed (isTo (decimal 125 3) (decimal 8 0) x) (Factor n) h)) tt
+
+ends-in : (r : Route) → routeCheck r ≡ Accepted → PlaceInRange (r .tlat) (r .tlong) × PlaceInRange (r .rlat) (r .rlong)
+unfolding routeCheck
+ends-in r h =
+    let a = then-both (latitudeCheck 4 (r .tlat)) (longitudeCheck 5 (r .tlong) then latitudeCheck 6 (r .rlat) then longitudeCheck 7 (r .rlong) then flagCheck (r .«long_path»)) h in
+    let b = then-both (longitudeCheck 5 (r .tlong)) (latitudeCheck 6 (r .rlat) then longitudeCheck 7 (r .rlong) then flagCheck (r .«long_path»)) (a .1) in
+    let c = then-both (latitudeCheck 6 (r .rlat)) (longitudeCheck 7 (r .rlong) then flagCheck (r .«long_path»)) (b .1) in
+    let d = then-both (longitudeCheck 7 (r .rlong)) (flagCheck (r .«long_path»)) (c .1) in
+    (place-in 4 5 (r .tlat) (r .tlong) (a .0) (b .0), place-in 6 7 (r .rlat) (r .rlong) (c .0) (d .0))
+
+pole-in : (p : MagneticPole) → poleCheck p ≡ Accepted → PlaceInRange (p .lat) (p .lon)
+unfolding poleCheck
+pole-in p h = let a = then-both (latitudeCheck 13 (p .lat)) (longitudeCheck 14 (p .lon)) h in place-in 13 14 (p .lat) (p .lon) (a .0) (a .1)
+
+pub accepted-in-range : (i : Inputs) → inputsCheck i ≡ Accepted → RouteInRange i × FieldsInRange i × T (isMonth (i .month))
+unfolding inputsCheck factorsCheck sunspotCheck hourCheck monthCheck
+accepted-in-range i h =
+    let p = i .psc in
+    let last = poleCheck (i .pole) in
+    let a = then-both (monthCheck (i .month)) (sunspotCheck (i .ssn) then hourCheck (i .gmt) then routeCheck (i .route) then factorsCheck p then last) h in
+    let b = then-both (sunspotCheck (i .ssn)) (hourCheck (i .gmt) then routeCheck (i .route) then factorsCheck p then last) (a .1) in
+    let c = then-both (hourCheck (i .gmt)) (routeCheck (i .route) then factorsCheck p then last) (b .1) in
+    let d = then-both (routeCheck (i .route)) (factorsCheck p then last) (c .1) in
+    let e = then-both (factorsCheck p) last (d .1) in
+    let f = then-both (factorCheck 9 (p .e)) (factorCheck 10 (p .f1) then factorCheck 11 (p .f2) then factorCheck 12 (p .es)) (e .0) in
+    let g = then-both (factorCheck 10 (p .f1)) (factorCheck 11 (p .f2) then factorCheck 12 (p .es)) (f .1) in
+    let k = then-both (factorCheck 11 (p .f2)) (factorCheck 12 (p .es)) (g .1) in
+    let r = ends-in (i .route) (d .0) in (
+      record { transmitter = r .0; receiver = r .1; pole = pole-in (i .pole) (e .1) },
+      record {
+        sunspots = subst T (sym (passed (isTo (decimal 0 1) (decimal 300 0) (i .ssn)) Sunspot (b .0))) tt;
+        hour = subst T (sym (passed (isTo (decimal 0 1) (decimal 24 0) (i .gmt)) Hour (c .0))) tt;
+        e = factor-in 9 (p .e) (f .0);
+        f1 = factor-in 10 (p .f1) (g .0);
+        f2 = factor-in 11 (p .f2) (k .0);
+        es = factor-in 12 (p .es) (k .1);
+      },
+      subst T (sym (passed (isMonth (i .month)) Month (a .0))) tt,
+    )
