@@ -72,7 +72,8 @@ isRead table = cond (eqb table xfm3cf) true (leb anew table)
 -- each word of the F2 planes and of those tables is a number of at most 65,536 in size
 pub record Bounded (f2 file : List ℕ) : Type 0 where
   pub inF2 : (n : ℕ) → n < wordsOf xf2cof → UpToPower 16 (floatAt f2 (4 * n))
-  pub inMonth : (table n : ℕ) → T (isRead table) → n < wordsOf table → UpToPower 16 (floatAt file (startOf table + 4 * n))
+  pub inMonth :
+      (table n : ℕ) → T (isRead table) → n < wordsOf table → UpToPower 16 (floatAt file (startOf table + 4 * n))
 
 -- what the layers need: every field but the month in range, an index table that passes, and bounded
 -- words
@@ -101,19 +102,26 @@ sheetField i p = magvarOf (sheetPoint i p .lat) (sheetPoint i p .lon)
 
 abbrev pub sheetMaps : List ℕ → List ℕ → Inputs → ℕ → Gammas
 sheetMaps f2 file i p =
-    gammasAt (hourOf f2 file i .ab) (hourOf f2 file i .index) (sheetPoint i p .lat) (sheetPoint i p .lon) (sheetField i p)
+    let h = hourOf f2 file i in
+    gammasAt (h .ab) (h .index) (sheetPoint i p .lat) (sheetPoint i p .lon) (sheetField i p)
 
 abbrev pub sheetLayers : List ℕ → List ℕ → Inputs → ℕ → LayerParams
 sheetLayers f2 file i p =
-    layersOf (hourOf f2 file i .monthly) (i .ssn) (i .gmt) (i .psc) (hourOf f2 file i .hmym) (sheetPoint i p)
-    (sheetField i p) (sheetMaps f2 file i p)
+    let h = hourOf f2 file i in
+    layersOf (h .monthly) (i .ssn) (i .gmt) (i .psc) (h .hmym) (sheetPoint i p) (sheetField i p) (sheetMaps f2 file i p)
 
 abbrev pub sheetEs : List ℕ → List ℕ → Inputs → ℕ → EsParams
 sheetEs f2 file i p = esindOf (sheetMaps f2 file i p) (i .psc .es)
 
 abbrev pub sheetGround : List ℕ → List ℕ → Inputs → ℕ → Ground
 sheetGround f2 file i p =
-    groundOf (hourOf f2 file i .monthly) (hourOf f2 file i .fakmap) (sheetPoint i p .lat) (sheetField i p .«east_lon»)
+    let h = hourOf f2 file i in groundOf (h .monthly) (h .fakmap) (sheetPoint i p .lat) (sheetField i p .«east_lon»)
+
+-- these in document 01's order
+abbrev pub sheetRow : List ℕ → List ℕ → Inputs → ℕ → List Float
+sheetRow f2 file i p =
+    let l = sheetLayers f2 file i p in
+    numbersOf (sheetPoint i p) (sheetField i p) l (sheetEs f2 file i p) (sheetGround f2 file i p)
 
 -- the cosine whose arc cosine `cycen` is: sin * sin + cos * cos * cos
 unfoldable pub zenithCosine : Radians → Radians → Float → Radians → Float
@@ -123,17 +131,16 @@ zenithCosine cenlat cenlg ssp ssl =
 -- that cosine at the point p
 abbrev pub sheetCosine : Inputs → ℕ → Float
 sheetCosine i p =
-    zenithCosine (sheetPoint i p .lat) (sheetPoint i p .lon) (sspOf (sunOf (i .month)) (sheetPoint i p .lat)) (sslOf (i .gmt))
+    let pt = sheetPoint i p in zenithCosine (pt .lat) (pt .lon) (sspOf (sunOf (i .month)) (pt .lat)) (sslOf (i .gmt))
 
 -- ---- demand 2, the figures: what the names below are among the 151
 
--- Number k of a point that is there is number k of document 01's list: the point's four, the three
--- of the field, the 16 of the layers, the four of Es and the ground pair.
+-- Number k of a point that is there is number k of the point's four, the three of the field, the 16
+-- of the layers, the four of Es and the ground pair, in this order.
 abbrev pub PointNumbers : Type 0
 PointNumbers =
     (f2 file : List ℕ) (i : Inputs) (p k : ℕ) → PointThere i p → k < 29 →
-    pointNumber f2 file i p k
-    ≡ getD (numbersOf (sheetPoint i p) (sheetField i p) (sheetLayers f2 file i p) (sheetEs f2 file i p) (sheetGround f2 file i p)) k nan
+    pointNumber f2 file i p k ≡ getD (sheetRow f2 file i p) k nan
 
 -- Inputs that the worksheet accepts have every field in range.
 abbrev pub AcceptedInRange : Type 0
@@ -160,9 +167,11 @@ FieldNotZero =
     T (isTo (fin false 0 (pos 0)) (fin false 101 (negsuc 3)) (phi .0)) →
     let s = sqrtOf binary32 (decimal 10 1 ⊖ c ⊗ c) in
     let ar = HC ⊘ (HC ⊕ decimal 3000000 1) in
-    T (le (fin false 1 (negsuc 5)) (absOf (bvOf c s phi ar))) ⊎ T (le (fin false 1 (negsuc 5)) (absOf (bnOf c s phi ar)))
+    T (le (fin false 1 (negsuc 5)) (absOf (bvOf c s phi ar)))
+    ⊎ T (le (fin false 1 (negsuc 5)) (absOf (bnOf c s phi ar)))
 
--- So, at every latitude that is a number, `magfin` gives an up or a north of 1/64 at least in size.
+-- So at every latitude that is a number, and at each such longitude, `magfin` gives an up or a
+-- north of 1/64 at least in size.
 abbrev pub UneNotZero : Type 0
 UneNotZero =
     (lat eastLon : Radians) → T (not (isNan (lat .0))) →
@@ -189,12 +198,14 @@ GroundPair =
 -- Numbers 27 and 28 of every point that is there are finite, in range or not.
 abbrev pub SheetGroundFinite : Type 0
 SheetGroundFinite =
-    (f2 file : List ℕ) (i : Inputs) (p : ℕ) → PointThere i p → (k : ℕ) → k < 2 → T (finite (pointNumber f2 file i p (27 + k)))
+    (f2 file : List ℕ) (i : Inputs) (p : ℕ) → PointThere i p →
+    (k : ℕ) → k < 2 → T (finite (pointNumber f2 file i p (27 + k)))
 
 -- The E layer's semithickness is 20 km and its height 110 km, of all arguments.
 abbrev pub EHeight : Type 0
 EHeight =
-    (m : Monthly) (ssn gmt : Float) (psc : Factors) (hmym : List Float) (pt : ControlPoint) (mag : MagneticVars) (g : Gammas) →
+    (m : Monthly) (ssn gmt : Float) (psc : Factors) (hmym : List Float)
+    (pt : ControlPoint) (mag : MagneticVars) (g : Gammas) →
     let l = layersOf m ssn gmt psc hmym pt mag g in
     (getD (l .yi) 0 nan ≡ decimal 200 1) × (getD (l .hi) 0 nan ≡ decimal 1100 1)
 
@@ -216,7 +227,8 @@ pub record MapsBounded (g : Gammas) : Type 0 where
 -- The six map values are finite, at most 2 ^ 50 in size.
 abbrev pub PointMapped : Type 0
 PointMapped =
-    (f2 file : List ℕ) (i : Inputs) (p : ℕ) → SoundSheet f2 file i → PointThere i p → MapsBounded (sheetMaps f2 file i p)
+    (f2 file : List ℕ) (i : Inputs) (p : ℕ) → SoundSheet f2 file i → PointThere i p →
+    MapsBounded (sheetMaps f2 file i p)
 
 -- Numbers 23 to 26, the three frequencies of Es and its height, are finite.
 abbrev pub SheetEsFinite : Type 0
@@ -240,7 +252,8 @@ EClear l = T (le (getD (l .fi) 0 nan) (decimal 560 1))
 abbrev pub CosineClear : Float → Type 0
 CosineClear c = T (le (absOf c) (fraction 1 1))
 
--- what is known of each figure of the layers l, where the cosine is c; yi[0] and hi[0] are constants
+-- what is known of each figure of the layers l, where the cosine is c; yi[0] and hi[0] are
+-- constants
 pub record LayerFigures (c : Float) (l : LayerParams) : Type 0 where
   -- finite
   pub clck : T (finite (l .clck))
@@ -288,39 +301,43 @@ SheetFinite =
 -- `zenang` is NaN,
 abbrev pub BeyondNone : Type 0
 BeyondNone =
-    (f2 file : List ℕ) (i : Inputs) (p : ℕ) → RouteInRange i → FieldsInRange i → T (isMonth (i .month)) → PointThere i p →
-    T (lt (fraction 1 1) (absOf (sheetCosine i p))) → sheetLayers f2 file i p .zenang .0 ≡ nan
+    (f2 file : List ℕ) (i : Inputs) (p : ℕ) → RouteInRange i → FieldsInRange i → T (isMonth (i .month)) →
+    PointThere i p → T (lt (fraction 1 1) (absOf (sheetCosine i p))) → sheetLayers f2 file i p .zenang .0 ≡ nan
 
 -- and nowhere else.
 abbrev pub NoneBeyond : Type 0
 NoneBeyond =
-    (f2 file : List ℕ) (i : Inputs) (p : ℕ) → RouteInRange i → FieldsInRange i → T (isMonth (i .month)) → PointThere i p →
-    sheetLayers f2 file i p .zenang .0 ≡ nan → T (lt (fraction 1 1) (absOf (sheetCosine i p)))
+    (f2 file : List ℕ) (i : Inputs) (p : ℕ) → RouteInRange i → FieldsInRange i → T (isMonth (i .month)) →
+    PointThere i p → sheetLayers f2 file i p .zenang .0 ≡ nan → T (lt (fraction 1 1) (absOf (sheetCosine i p)))
 
 -- It happens: there is no zenith angle at any point of longitude 0 and latitude -14.83 degrees, in
 -- April at hour 0, whatever the rest.
 abbrev pub ZenangExample : Type 0
 ZenangExample =
-    (file : List ℕ) (ssn : Float) (psc : Factors) (hmym : List Float) (pt : ControlPoint) (mag : MagneticVars) (g : Gammas) →
+    (file : List ℕ) (ssn : Float) (psc : Factors) (hmym : List Float)
+    (pt : ControlPoint) (mag : MagneticVars) (g : Gammas) →
     pt .lat ≡ radiansOf (record { 0 = minusDecimal 1483 2 }) → pt .lon ≡ record { 0 = decimal 0 1 } →
     layersOf (monthlyOf file 4 ssn) ssn (decimal 0 1) psc hmym pt mag g .zenang .0 ≡ nan
 
 -- Of all arguments: where `zenang` is NaN, so is `rat`,
 abbrev pub RatNan : Type 0
 RatNan =
-    (m : Monthly) (ssn gmt : Float) (psc : Factors) (hmym : List Float) (pt : ControlPoint) (mag : MagneticVars) (g : Gammas) →
+    (m : Monthly) (ssn gmt : Float) (psc : Factors) (hmym : List Float)
+    (pt : ControlPoint) (mag : MagneticVars) (g : Gammas) →
     let l = layersOf m ssn gmt psc hmym pt mag g in l .zenang .0 ≡ nan → l .rat ≡ nan
 
 -- and so is yi[2].
 abbrev pub Yi2Nan : Type 0
 Yi2Nan =
-    (m : Monthly) (ssn gmt : Float) (psc : Factors) (hmym : List Float) (pt : ControlPoint) (mag : MagneticVars) (g : Gammas) →
+    (m : Monthly) (ssn gmt : Float) (psc : Factors) (hmym : List Float)
+    (pt : ControlPoint) (mag : MagneticVars) (g : Gammas) →
     let l = layersOf m ssn gmt psc hmym pt mag g in l .zenang .0 ≡ nan → getD (l .yi) 2 nan ≡ nan
 
 -- Of all arguments: where f2m3 is a zero, `hpf2` is the infinity of its sign.
 abbrev pub Hpf2AtZero : Type 0
 Hpf2AtZero =
-    (m : Monthly) (ssn gmt : Float) (psc : Factors) (hmym : List Float) (pt : ControlPoint) (mag : MagneticVars) (g : Gammas) →
+    (m : Monthly) (ssn gmt : Float) (psc : Factors) (hmym : List Float)
+    (pt : ControlPoint) (mag : MagneticVars) (g : Gammas) →
     let l = layersOf m ssn gmt psc hmym pt mag g in (s : Bool) (e : ℤ) → l .f2m3 ≡ fin s 0 e → l .hpf2 ≡ inf s
 
 -- the layers of a month that there is not
@@ -339,11 +356,13 @@ pub record NoSun (l : LayerParams) : Type 0 where
 -- A month out of 1 to 12 gives such layers, of all other arguments,
 abbrev pub NoSunLayers : Type 0
 NoSunLayers =
-    (file : List ℕ) (month : ℕ) (ssn gmt : Float) (psc : Factors) (hmym : List Float) (pt : ControlPoint) (mag : MagneticVars)
-    (g : Gammas) → (month ≡ 0) ⊎ (12 < month) → NoSun (layersOf (monthlyOf file month ssn) ssn gmt psc hmym pt mag g)
+    (file : List ℕ) (month : ℕ) (ssn gmt : Float) (psc : Factors) (hmym : List Float)
+    (pt : ControlPoint) (mag : MagneticVars) (g : Gammas) →
+    (month ≡ 0) ⊎ (12 < month) → NoSun (layersOf (monthlyOf file month ssn) ssn gmt psc hmym pt mag g)
 
 -- and so in the row of every point `zenang`, `rat` and yi[2], numbers 21, 18 and 12, are NaN.
 abbrev pub NoSunRow : Type 0
 NoSunRow =
     (f2 file : List ℕ) (i : Inputs) (pt : ControlPoint) → (i .month ≡ 0) ⊎ (12 < i .month) →
-    let row = pointRow (hourOf f2 file i) i pt in (getD row 21 nan ≡ nan) × (getD row 18 nan ≡ nan) × (getD row 12 nan ≡ nan)
+    let row = pointRow (hourOf f2 file i) i pt in
+    (getD row 21 nan ≡ nan) × (getD row 18 nan ≡ nan) × (getD row 12 nan ≡ nan)

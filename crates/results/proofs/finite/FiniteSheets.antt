@@ -3,7 +3,7 @@
 -- the files; all 29 numbers of a point besides where it is ordinary. What the laws of a point ask
 -- (`Placed`) every control point of such a route has. Assumes nothing.
 use mathlib.Core.Path.{_≡_, refl, sym, subst}
-use mathlib.Core.Bool.{false}
+use mathlib.Core.Bool.{Bool, false}
 use mathlib.Core.List.{List, [], _∷_}
 use Prim.Native.Nat.{ℕ, zero, suc, _+_, _-_, _≤_, _<_}
 use native.Mathlib.Nat.{le-of-suc-le-suc, not-suc-le-zero}
@@ -35,6 +35,7 @@ use Rattle.results.specs.FiniteOrNot.{
   sheetLayers,
   sheetEs,
   sheetGround,
+  sheetRow,
   zenithCosine,
   sheetCosine,
   MapsBounded,
@@ -46,13 +47,22 @@ use Rattle.maps.specs.declared.inputs.Inputs.{Inputs}
 use Rattle.maps.specs.declared.geometry.PathGeometry.{PathGeometry}
 use Rattle.maps.specs.Inputs.{isLong}
 use Rattle.maps.specs.Layers.{monthlyOf}
-use Rattle.maps.specs.Figures.{hourFrom, hourOf, headOf, numbersOf, pointRow, sheetPath, figuresOf}
+use Rattle.maps.specs.Figures.{SheetHour, hourFrom, hourOf, headOf, numbersOf, pointRow, sheetPath, figuresOf}
 use Rattle.results.proofs.path.Longitudes.{Typed}
 use Rattle.results.proofs.path.PointRows.{most}
 use Rattle.results.proofs.finite.FinitePath.{FinitePoint, FinitePath, points-located, path-finite}
 use Rattle.results.proofs.finite.FiniteField.{FiniteMagnetic, gyrofrequency-sized}
 use Rattle.results.proofs.finite.MagneticFinite.{gmdip-sized, points-magnetic}
-use Rattle.results.proofs.finite.FiniteLayers.{Fields, Placed, EsFinite, cosineOf, ground-finite, e-height, beyond-none as beyond-none-at, none-beyond as none-beyond-at}
+use Rattle.results.proofs.finite.FiniteLayers.{
+  Fields,
+  Placed,
+  EsFinite,
+  cosineOf,
+  ground-finite,
+  e-height,
+  beyond-none as beyond-none-at,
+  none-beyond as none-beyond-at,
+}
 use Rattle.results.proofs.finite.FiniteFigures.{point-mapped as mapped-at, point-es, point-layers}
 use Rattle.results.proofs.sheet.FigurePlaces.{head-at, present-at}
 
@@ -96,6 +106,9 @@ head-finite : (g : PathGeometry) → FinitePath g → Finite (headOf g)
 unfolding headOf
 head-finite g p = (p .gcd, (p .«gcd_km», (p .btr, (p .brt, (p .rlatd, (p .alatd, tt))))))
 
+abbrev longWay : Inputs → Bool
+longWay i = isLong (i .route .«long_path»)
+
 module _ (i : Inputs) (r : RouteInRange i) where
   tx : Typed (i .route .tlat) (i .route .tlong)
   tx = typed _ _ (r .transmitter)
@@ -111,7 +124,9 @@ module _ (i : Inputs) (r : RouteInRange i) where
   unfolding sheetPath headOf
   sheet-path-finite f2 file k b =
       subst (λ (x : Float). T (finite x)) (sym (head-at f2 file i k b))
-      (finite-at (headOf (sheetPath i)) (head-finite (sheetPath i) (path-finite _ _ _ _ tx rx (isLong (i .route .«long_path»)) (i .pole) pole-in)) k b)
+      (finite-at (headOf (sheetPath i))
+      (head-finite (sheetPath i) (path-finite _ _ _ _ tx rx (longWay i) (i .pole) pole-in))
+      k b)
 
   module _ (p : ℕ) (t : PointThere i p) where
     at-most : p - 1 < 5
@@ -119,22 +134,22 @@ module _ (i : Inputs) (r : RouteInRange i) where
     at-most =
         let a = t .first in
         let b = t .last in
-        let m = most (i .route .tlat) (i .route .tlong) (i .route .rlat) (i .route .rlong) (isLong (i .route .«long_path»)) (i .pole) in
+        let m = most (i .route .tlat) (i .route .tlong) (i .route .rlat) (i .route .rlong) (longWay i) (i .pole) in
         omega arith
 
     point-finite : FinitePoint (sheetPoint i p)
     unfolding sheetPath
-    point-finite = path-finite _ _ _ _ tx rx (isLong (i .route .«long_path»)) (i .pole) pole-in .points (p - 1) at-most
+    point-finite = path-finite _ _ _ _ tx rx (longWay i) (i .pole) pole-in .points (p - 1) at-most
 
     field-finite : FiniteMagnetic (sheetField i p)
     unfolding sheetPath
-    field-finite = points-magnetic _ _ _ _ tx rx (isLong (i .route .«long_path»)) (i .pole) pole-in (p - 1) at-most
+    field-finite = points-magnetic _ _ _ _ tx rx (longWay i) (i .pole) pole-in (p - 1) at-most
 
     -- what `FiniteFigures` asks of a point
     point-placed : Placed (sheetPoint i p) (sheetField i p)
     unfolding sheetPath le
     point-placed =
-        let w = points-located _ _ _ _ tx rx (isLong (i .route .«long_path»)) (i .pole) pole-in (p - 1) at-most in
+        let w = points-located _ _ _ _ tx rx (longWay i) (i .pole) pole-in (p - 1) at-most in
         record {
           lat = w .lat;
           lon = w .lon;
@@ -144,9 +159,12 @@ module _ (i : Inputs) (r : RouteInRange i) where
         }
 
 module _ (f2 file : List ℕ) (i : Inputs) (p : ℕ) where
+  abbrev h : SheetHour
+  h = hourOf f2 file i
+
   -- the names of a row in their places
   pub point-numbers : (k : ℕ) → PointThere i p → k < 29
-      → pointNumber f2 file i p k ≡ getD (numbersOf (sheetPoint i p) (sheetField i p) (sheetLayers f2 file i p) (sheetEs f2 file i p) (sheetGround f2 file i p)) k nan
+      → pointNumber f2 file i p k ≡ getD (sheetRow f2 file i p) k nan
   unfolding pointRow
   point-numbers k t b = present-at f2 file i p k (t .first) (t .last) b
 
@@ -155,18 +173,21 @@ module _ (f2 file : List ℕ) (i : Inputs) (p : ℕ) where
   unfolding hourOf hourFrom monthlyOf
   cosine-is = refl
 
-  constants : T (finite (getD (sheetLayers f2 file i p .yi) 0 nan)) × T (finite (getD (sheetLayers f2 file i p .hi) 0 nan))
+  constants :
+      T (finite (getD (sheetLayers f2 file i p .yi) 0 nan)) × T (finite (getD (sheetLayers f2 file i p .hi) 0 nan))
   unfolding decimal round
   constants =
-      let k = e-height (hourOf f2 file i .monthly) (i .ssn) (i .gmt) (i .psc) (hourOf f2 file i .hmym) (sheetPoint i p) (sheetField i p) (sheetMaps f2 file i p) in
+      let k =
+      e-height (h .monthly) (i .ssn) (i .gmt) (i .psc) (h .hmym) (sheetPoint i p) (sheetField i p) (sheetMaps f2 file i p) in
       (subst (λ (x : Float). T (finite x)) (sym (k .0)) tt, subst (λ (x : Float). T (finite x)) (sym (k .1)) tt)
 
   row-finite :
-      FinitePoint (sheetPoint i p) → FiniteMagnetic (sheetField i p) → LayerFigures (sheetCosine i p) (sheetLayers f2 file i p) → Ordinary (sheetCosine i p) (sheetLayers f2 file i p) → EsFinite (sheetEs f2 file i p)
-      → Finite (pointRow (hourOf f2 file i) i (sheetPoint i p))
+      FinitePoint (sheetPoint i p) → FiniteMagnetic (sheetField i p) →
+      LayerFigures (sheetCosine i p) (sheetLayers f2 file i p) → Ordinary (sheetCosine i p) (sheetLayers f2 file i p) →
+      EsFinite (sheetEs f2 file i p) → Finite (pointRow h i (sheetPoint i p))
   unfolding pointRow numbersOf decimal round
   row-finite a b c o d =
-      let g = ground-finite (hourOf f2 file i .monthly) (hourOf f2 file i .fakmap) (sheetPoint i p .lat) (sheetField i p .«east_lon») in (
+      let g = ground-finite (h .monthly) (h .fakmap) (sheetPoint i p .lat) (sheetField i p .«east_lon») in (
         a .rd,
         (
           a .lat,
@@ -246,9 +267,9 @@ module _ (f2 file : List ℕ) (i : Inputs) (p : ℕ) where
         (two k b)
       where
         g : T (finite (sheetGround f2 file i p .0)) × T (finite (sheetGround f2 file i p .1))
-        g = ground-finite (hourOf f2 file i .monthly) (hourOf f2 file i .fakmap) (sheetPoint i p .lat) (sheetField i p .«east_lon»)
+        g = ground-finite (h .monthly) (h .fakmap) (sheetPoint i p .lat) (sheetField i p .«east_lon»)
 
-        two : (k : ℕ) → k < 2 → T (finite (getD (numbersOf (sheetPoint i p) (sheetField i p) (sheetLayers f2 file i p) (sheetEs f2 file i p) (sheetGround f2 file i p)) (27 + k) nan))
+        two : (k : ℕ) → k < 2 → T (finite (getD (sheetRow f2 file i p) (27 + k) nan))
         two zero h = g .0
         two (suc zero) h = g .1
         two (suc (suc k)) h = absurd (omega arith)
@@ -267,7 +288,7 @@ module _ (f2 file : List ℕ) (i : Inputs) (p : ℕ) where
         f : FiniteMagnetic (sheetField i p)
         f = field-finite i r p t
 
-        seven : (k : ℕ) → k < 7 → T (finite (getD (numbersOf (sheetPoint i p) (sheetField i p) (sheetLayers f2 file i p) (sheetEs f2 file i p) (sheetGround f2 file i p)) k nan))
+        seven : (k : ℕ) → k < 7 → T (finite (getD (sheetRow f2 file i p) k nan))
         seven zero h = a .rd
         seven (suc zero) h = a .lat
         seven (suc (suc zero)) h = a .lon
@@ -287,13 +308,15 @@ module _ (f2 file : List ℕ) (i : Inputs) (p : ℕ) where
 
       pub beyond-none : T (lt (fraction 1 1) (absOf (sheetCosine i p))) → sheetLayers f2 file i p .zenang .0 ≡ nan
       unfolding hourOf hourFrom monthlyOf
-      beyond-none h =
-          beyond-none-at file (i .month) (i .ssn) (i .gmt) (i .psc) (hourOf f2 file i .hmym) (sheetPoint i p) (sheetField i p) (sheetMaps f2 file i p) (months .0) (months .1) (fields-in i f .hour) (point-placed i r p t) h
+      beyond-none e =
+          beyond-none-at file (i .month) (i .ssn) (i .gmt) (i .psc) (h .hmym) (sheetPoint i p) (sheetField i p)
+          (sheetMaps f2 file i p) (months .0) (months .1) (fields-in i f .hour) (point-placed i r p t) e
 
       pub none-beyond : sheetLayers f2 file i p .zenang .0 ≡ nan → T (lt (fraction 1 1) (absOf (sheetCosine i p)))
       unfolding hourOf hourFrom monthlyOf
-      none-beyond h =
-          none-beyond-at file (i .month) (i .ssn) (i .gmt) (i .psc) (hourOf f2 file i .hmym) (sheetPoint i p) (sheetField i p) (sheetMaps f2 file i p) (months .0) (months .1) (fields-in i f .hour) (point-placed i r p t) h
+      none-beyond e =
+          none-beyond-at file (i .month) (i .ssn) (i .gmt) (i .psc) (h .hmym) (sheetPoint i p) (sheetField i p)
+          (sheetMaps f2 file i p) (months .0) (months .1) (fields-in i f .hour) (point-placed i r p t) e
 
     -- ---- of a sound sheet
     module _ (s : SoundSheet f2 file i) where
@@ -306,7 +329,14 @@ module _ (f2 file : List ℕ) (i : Inputs) (p : ℕ) where
       pub point-mapped : MapsBounded (sheetMaps f2 file i p)
       point-mapped =
           let g = mapped-at f2 file i (s .bounded) (s .index) fields (sheetPoint i p) placed in
-          record { g1 = g .g1 .size; g2 = g .g2 .size; g3 = g .g3 .size; g4 = g .g4 .size; g5 = g .g5 .size; g6 = g .g6 .size }
+          record {
+            g1 = g .g1 .size;
+            g2 = g .g2 .size;
+            g3 = g .g3 .size;
+            g4 = g .g4 .size;
+            g5 = g .g5 .size;
+            g6 = g .g6 .size;
+          }
 
       es-finite : EsFinite (sheetEs f2 file i p)
       es-finite = point-es f2 file i (s .bounded) (s .index) fields (sheetPoint i p) placed
@@ -318,7 +348,7 @@ module _ (f2 file : List ℕ) (i : Inputs) (p : ℕ) where
           subst (λ (x : Float). T (finite x)) (sym (point-numbers (23 + k) t (omega arith)))
           (four k b)
         where
-          four : (k : ℕ) → k < 4 → T (finite (getD (numbersOf (sheetPoint i p) (sheetField i p) (sheetLayers f2 file i p) (sheetEs f2 file i p) (sheetGround f2 file i p)) (23 + k) nan))
+          four : (k : ℕ) → k < 4 → T (finite (getD (sheetRow f2 file i p) (23 + k) nan))
           four zero h = es-finite .fs0
           four (suc zero) h = es-finite .fs1
           four (suc (suc zero)) h = es-finite .fs2
@@ -327,12 +357,16 @@ module _ (f2 file : List ℕ) (i : Inputs) (p : ℕ) where
 
       -- each figure of the layers
       pub sheet-layers : LayerFigures (sheetCosine i p) (sheetLayers f2 file i p)
-      sheet-layers = subst (λ (c : Float). LayerFigures c (sheetLayers f2 file i p)) cosine-is (point-layers f2 file i (s .bounded) (s .index) fields (sheetPoint i p) placed)
+      sheet-layers =
+          subst (λ (c : Float). LayerFigures c (sheetLayers f2 file i p)) cosine-is
+          (point-layers f2 file i (s .bounded) (s .index) fields (sheetPoint i p) placed)
 
       -- ALL 29 NUMBERS of an ordinary point
-      pub sheet-finite : Ordinary (sheetCosine i p) (sheetLayers f2 file i p) → (k : ℕ) → k < 29 → T (finite (pointNumber f2 file i p k))
+      pub sheet-finite :
+          Ordinary (sheetCosine i p) (sheetLayers f2 file i p) →
+          (k : ℕ) → k < 29 → T (finite (pointNumber f2 file i p k))
       sheet-finite o k b =
           subst (λ (x : Float). T (finite x)) (sym (present-at f2 file i p k (t .first) (t .last) b))
-          (finite-at (pointRow (hourOf f2 file i) i (sheetPoint i p))
+          (finite-at (pointRow h i (sheetPoint i p))
           (row-finite (point-finite i (s .route) p t) (field-finite i (s .route) p t) sheet-layers o es-finite)
           k (unfold pointRow numbersOf in b))
