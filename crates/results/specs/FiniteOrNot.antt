@@ -49,16 +49,24 @@ pub record PlaceInRange (latd lond : Degrees) : Type 0 where
   pub latitude : T (isTo (minusDecimal 90 0) (decimal 90 0) (latd .0))
   pub longitude : T (isTo (minusDecimal 180 0) (decimal 180 0) (lond .0))
 
--- both ends of a sheet's route and its pole are in range; the flag may be any word
-pub record RouteInRange (i : Inputs) : Type 0 where
+-- both ends of a sheet's route are in range; the flag may be any word
+pub record EndsInRange (i : Inputs) : Type 0 where
   pub transmitter : PlaceInRange (i .route .tlat) (i .route .tlong)
   pub receiver : PlaceInRange (i .route .rlat) (i .route .rlong)
+
+-- and so is the pole
+pub record RouteInRange (i : Inputs) : Type 0 where
+  pub ends : EndsInRange i
   pub pole : PlaceInRange (i .pole .lat) (i .pole .lon)
 
--- 'sunspot number 0 to 300; hour 0 to 24 (GMT)', 'four factors 0.125 to 8'
+-- 'hour 0 to 24 (GMT)'
+abbrev pub HourInRange : Inputs → Type 0
+HourInRange i = T (isTo (decimal 0 1) (decimal 24 0) (i .gmt))
+
+-- with the hour 'sunspot number 0 to 300' and 'four factors 0.125 to 8'
 pub record FieldsInRange (i : Inputs) : Type 0 where
   pub sunspots : T (isTo (decimal 0 1) (decimal 300 0) (i .ssn))
-  pub hour : T (isTo (decimal 0 1) (decimal 24 0) (i .gmt))
+  pub hour : HourInRange i
   pub e : T (isTo (decimal 125 3) (decimal 8 0) (i .psc .e))
   pub f1 : T (isTo (decimal 125 3) (decimal 8 0) (i .psc .f1))
   pub f2 : T (isTo (decimal 125 3) (decimal 8 0) (i .psc .f2))
@@ -148,12 +156,13 @@ AcceptedInRange = (i : Inputs) → inputsCheck i ≡ Accepted → RouteInRange i
 
 -- ---- demand 2, the path and the field: no NaN and no infinity, whatever the files
 
--- With both ends and the pole in range the six figures of the path are finite.
+-- With both ends in range the six figures of the path are finite, whatever the pole.
 abbrev pub SheetPathFinite : Type 0
 SheetPathFinite =
-    (f2 file : List ℕ) (i : Inputs) → RouteInRange i → (k : ℕ) → k < 6 → T (finite (getD (figuresOf f2 file i) k nan))
+    (f2 file : List ℕ) (i : Inputs) → EndsInRange i → (k : ℕ) → k < 6 → T (finite (getD (figuresOf f2 file i) k nan))
 
--- So are the first seven numbers of every point that is there: its own four and the field's three.
+-- With the pole in range too, so are the first seven numbers of every point that is there: its own
+-- four and the field's three.
 abbrev pub SheetPointFinite : Type 0
 SheetPointFinite =
     (f2 file : List ℕ) (i : Inputs) (p : ℕ) → RouteInRange i → PointThere i p →
@@ -297,17 +306,17 @@ SheetFinite =
 
 -- ---- demand 2, where a figure is NaN or infinite
 
--- With every field in range, and whatever the files: where the cosine came out beyond 1 in size,
--- `zenang` is NaN,
+-- With both ends, hour and month in range, and whatever the rest: where the cosine came out beyond 1
+-- in size, `zenang` is NaN,
 abbrev pub BeyondNone : Type 0
 BeyondNone =
-    (f2 file : List ℕ) (i : Inputs) (p : ℕ) → RouteInRange i → FieldsInRange i → T (isMonth (i .month)) →
+    (f2 file : List ℕ) (i : Inputs) (p : ℕ) → EndsInRange i → HourInRange i → T (isMonth (i .month)) →
     PointThere i p → T (lt (fraction 1 1) (absOf (sheetCosine i p))) → sheetLayers f2 file i p .zenang .0 ≡ nan
 
 -- and nowhere else.
 abbrev pub NoneBeyond : Type 0
 NoneBeyond =
-    (f2 file : List ℕ) (i : Inputs) (p : ℕ) → RouteInRange i → FieldsInRange i → T (isMonth (i .month)) →
+    (f2 file : List ℕ) (i : Inputs) (p : ℕ) → EndsInRange i → HourInRange i → T (isMonth (i .month)) →
     PointThere i p → sheetLayers f2 file i p .zenang .0 ≡ nan → T (lt (fraction 1 1) (absOf (sheetCosine i p)))
 
 -- It happens: there is no zenith angle at any point of longitude 0 and latitude -14.83 degrees, in

@@ -82,7 +82,7 @@ accepted-in-range i h =
     let g = then-both x (y then z) (f .1) in
     let k = then-both y z (g .1) in
     let r = ends-in (i .route) (d .0) in (
-      record { transmitter = r .0; receiver = r .1; pole = pole-in (i .pole) (e .1) },
+      record { ends = record { transmitter = r .0; receiver = r .1 }; pole = pole-in (i .pole) (e .1) },
       record {
         sunspots = subst T (sym (passed (isTo (decimal 0 1) (decimal 300 0) (i .ssn)) Sunspot (b .0))) tt;
         hour = subst T (sym (passed (isTo (decimal 0 1) (decimal 24 0) (i .gmt)) Hour (c .0))) tt;

@@ -1154,13 +1154,13 @@ beyond-not q h t = go (le (absOf q) (fraction 1 1)) refl
         let p : T (finite (absOf q)) = finite-between nought (absOf q) (twoTo 3) tt tt (abs-not-below q (sized-number h)) (h .size) in
         absurd (lt-not-le (fraction 1 1) (absOf q) (one-number .1) p t (subst T (sym e) tt))
 
-module _ (file : List ℕ) (month : ℕ) (ssn gmt : Float) (psc : Factors) (hmym : List Float) (pt : ControlPoint) (mag : MagneticVars) (g : Gammas) (first : 1 ≤ month) (last : month ≤ 12) (b : Hour gmt) (Q : Placed pt mag) where
+module _ (file : List ℕ) (month : ℕ) (ssn gmt : Float) (psc : Factors) (hmym : List Float) (pt : ControlPoint) (mag : MagneticVars) (g : Gammas) (first : 1 ≤ month) (last : month ≤ 12) (b : Hour gmt) (h : Sized (twoTo 5) (pt .lat .0)) (o : Longitude (pt .lon .0)) where
   abbrev cosine : Float
   cosine = cosineOf (monthlyOf file month ssn) gmt pt
 
   known : Sized (twoTo 3) cosine
   unfolding monthlyOf
-  known = cosine-sized month gmt (pt .lat) (pt .lon) first last b (Q .lat) (Q .lon)
+  known = cosine-sized month gmt (pt .lat) (pt .lon) first last b h o
 
   -- beyond 1 in size, no zenith angle
   pub beyond-none : T (lt (fraction 1 1) (absOf (cosineOf (monthlyOf file month ssn) gmt pt))) → layersOf (monthlyOf file month ssn) ssn gmt psc hmym pt mag g .zenang .0 ≡ nan

@@ -24,7 +24,9 @@ use Rattle.base.proofs.order.Monotone.{abs-finite}
 use Rattle.results.specs.FiniteOrNot.{
   UpToPower,
   PlaceInRange,
+  EndsInRange,
   RouteInRange,
+  HourInRange,
   FieldsInRange,
   SoundSheet,
   PointThere,
@@ -42,15 +44,16 @@ use Rattle.results.specs.FiniteOrNot.{
   LayerFigures,
   Ordinary,
 }
-use Rattle.results.proofs.numbers.Sizes.{range-between, larger}
+use Rattle.results.proofs.numbers.Sizes.{Sized, range-between, larger}
+use Rattle.results.proofs.clock.Clock.{Hour, Longitude}
 use Rattle.maps.specs.declared.inputs.Inputs.{Inputs}
 use Rattle.maps.specs.declared.geometry.PathGeometry.{PathGeometry}
 use Rattle.maps.specs.Inputs.{isLong}
 use Rattle.maps.specs.Layers.{monthlyOf}
 use Rattle.maps.specs.Figures.{SheetHour, hourFrom, hourOf, headOf, numbersOf, pointRow, sheetPath, figuresOf}
-use Rattle.results.proofs.path.Longitudes.{Typed}
+use Rattle.results.proofs.path.Longitudes.{Typed, point-longitude}
 use Rattle.results.proofs.path.PointRows.{most}
-use Rattle.results.proofs.finite.FinitePath.{FinitePoint, FinitePath, points-located, path-finite}
+use Rattle.results.proofs.finite.FinitePath.{FinitePoint, FiniteHead, points-located, points-finite, head-finite, latitude-there}
 use Rattle.results.proofs.finite.FiniteField.{FiniteMagnetic, gyrofrequency-sized}
 use Rattle.results.proofs.finite.MagneticFinite.{gmdip-sized, points-magnetic}
 use Rattle.results.proofs.finite.FiniteLayers.{
@@ -75,10 +78,14 @@ typed latd lond h = record {
   longitude = range-between (minusDecimal 180 0) (decimal 180 0) (lond .0) (h .longitude);
 }
 
+hour-in : (i : Inputs) → HourInRange i → Hour (i .gmt)
+unfolding decimal round
+hour-in i h = range-between (decimal 0 1) (decimal 24 0) (i .gmt) h
+
 fields-in : (i : Inputs) → FieldsInRange i → Fields (i .ssn) (i .gmt) (i .psc)
 unfolding decimal round
 fields-in i h = record {
-  hour = range-between (decimal 0 1) (decimal 24 0) (i .gmt) (h .hour);
+  hour = hour-in i (h .hour);
   sunspots = range-between (decimal 0 1) (decimal 300 0) (i .ssn) (h .sunspots);
   e = range-between (decimal 125 3) (decimal 8 0) (i .psc .e) (h .e);
   f1 = range-between (decimal 125 3) (decimal 8 0) (i .psc .f1) (h .f1);
@@ -102,22 +109,27 @@ finite-at [] h k b = absurd (not-suc-le-zero b)
 finite-at (x ∷ xs) h zero b = h .0
 finite-at (x ∷ xs) h (suc k) b = finite-at xs (h .1) k (le-of-suc-le-suc b)
 
-head-finite : (g : PathGeometry) → FinitePath g → Finite (headOf g)
+six-finite : (g : PathGeometry) → FiniteHead g → Finite (headOf g)
 unfolding headOf
-head-finite g p = (p .gcd, (p .«gcd_km», (p .btr, (p .brt, (p .rlatd, (p .alatd, tt))))))
+six-finite g p = (p .gcd, (p .«gcd_km», (p .btr, (p .brt, (p .rlatd, (p .alatd, tt))))))
 
 abbrev longWay : Inputs → Bool
 longWay i = isLong (i .route .«long_path»)
 
-module _ (i : Inputs) (r : RouteInRange i) where
+at-most : (i : Inputs) (p : ℕ) → PointThere i p → p - 1 < 5
+unfolding sheetPath
+at-most i p t =
+    let a = t .first in
+    let b = t .last in
+    let m = most (i .route .tlat) (i .route .tlong) (i .route .rlat) (i .route .rlong) (longWay i) (i .pole) in
+    omega arith
+
+module _ (i : Inputs) (r : EndsInRange i) where
   tx : Typed (i .route .tlat) (i .route .tlong)
   tx = typed _ _ (r .transmitter)
 
   rx : Typed (i .route .rlat) (i .route .rlong)
   rx = typed _ _ (r .receiver)
-
-  pole-in : Typed (i .pole .lat) (i .pole .lon)
-  pole-in = typed _ _ (r .pole)
 
   -- NO NaN ON THE PATH: its six figures, of any files
   pub sheet-path-finite : (f2 file : List ℕ) (k : ℕ) → k < 6 → T (finite (getD (figuresOf f2 file i) k nan))
@@ -125,31 +137,36 @@ module _ (i : Inputs) (r : RouteInRange i) where
   sheet-path-finite f2 file k b =
       subst (λ (x : Float). T (finite x)) (sym (head-at f2 file i k b))
       (finite-at (headOf (sheetPath i))
-      (head-finite (sheetPath i) (path-finite _ _ _ _ tx rx (longWay i) (i .pole) pole-in))
+      (six-finite (sheetPath i) (head-finite _ _ _ _ tx rx (longWay i) (i .pole)))
       k b)
 
   module _ (p : ℕ) (t : PointThere i p) where
-    at-most : p - 1 < 5
+    lat-there : Sized (fin false 1 (pos 5)) (sheetPoint i p .lat .0)
     unfolding sheetPath
-    at-most =
-        let a = t .first in
-        let b = t .last in
-        let m = most (i .route .tlat) (i .route .tlong) (i .route .rlat) (i .route .rlong) (longWay i) (i .pole) in
-        omega arith
+    lat-there = latitude-there _ _ _ _ tx rx (longWay i) (i .pole) (p - 1) (at-most i p t)
 
+    lon-there : Longitude (sheetPoint i p .lon .0)
+    unfolding sheetPath
+    lon-there = point-longitude _ _ _ _ tx rx (longWay i) (i .pole) (p - 1) (at-most i p t)
+
+module _ (i : Inputs) (r : RouteInRange i) where
+  pole-in : Typed (i .pole .lat) (i .pole .lon)
+  pole-in = typed _ _ (r .pole)
+
+  module _ (p : ℕ) (t : PointThere i p) where
     point-finite : FinitePoint (sheetPoint i p)
     unfolding sheetPath
-    point-finite = path-finite _ _ _ _ tx rx (longWay i) (i .pole) pole-in .points (p - 1) at-most
+    point-finite = points-finite _ _ _ _ (tx i (r .ends)) (rx i (r .ends)) (longWay i) (i .pole) pole-in (p - 1) (at-most i p t)
 
     field-finite : FiniteMagnetic (sheetField i p)
     unfolding sheetPath
-    field-finite = points-magnetic _ _ _ _ tx rx (longWay i) (i .pole) pole-in (p - 1) at-most
+    field-finite = points-magnetic _ _ _ _ (tx i (r .ends)) (rx i (r .ends)) (longWay i) (i .pole) pole-in (p - 1) (at-most i p t)
 
     -- what `FiniteFigures` asks of a point
     point-placed : Placed (sheetPoint i p) (sheetField i p)
     unfolding sheetPath le
     point-placed =
-        let w = points-located _ _ _ _ tx rx (longWay i) (i .pole) pole-in (p - 1) at-most in
+        let w = points-located _ _ _ _ (tx i (r .ends)) (rx i (r .ends)) (longWay i) (i .pole) pole-in (p - 1) (at-most i p t) in
         record {
           lat = w .lat;
           lon = w .lon;
@@ -299,7 +316,7 @@ module _ (f2 file : List ℕ) (i : Inputs) (p : ℕ) where
         seven (suc (suc (suc (suc (suc (suc (suc k))))))) h = absurd (omega arith)
 
     -- NO ZENITH ANGLE exactly where the cosine came out beyond 1 in size, of any files
-    module _ (r : RouteInRange i) (f : FieldsInRange i) (month : T (isMonth (i .month))) where
+    module _ (r : EndsInRange i) (f : HourInRange i) (month : T (isMonth (i .month))) where
       months : (1 ≤ i .month) × (i .month ≤ 12)
       months =
           let a = leb 1 (i .month) in
@@ -310,13 +327,13 @@ module _ (f2 file : List ℕ) (i : Inputs) (p : ℕ) where
       unfolding hourOf hourFrom monthlyOf
       beyond-none e =
           beyond-none-at file (i .month) (i .ssn) (i .gmt) (i .psc) (h .hmym) (sheetPoint i p) (sheetField i p)
-          (sheetMaps f2 file i p) (months .0) (months .1) (fields-in i f .hour) (point-placed i r p t) e
+          (sheetMaps f2 file i p) (months .0) (months .1) (hour-in i f) (lat-there i r p t) (lon-there i r p t) e
 
       pub none-beyond : sheetLayers f2 file i p .zenang .0 ≡ nan → T (lt (fraction 1 1) (absOf (sheetCosine i p)))
       unfolding hourOf hourFrom monthlyOf
       none-beyond e =
           none-beyond-at file (i .month) (i .ssn) (i .gmt) (i .psc) (h .hmym) (sheetPoint i p) (sheetField i p)
-          (sheetMaps f2 file i p) (months .0) (months .1) (fields-in i f .hour) (point-placed i r p t) e
+          (sheetMaps f2 file i p) (months .0) (months .1) (hour-in i f) (lat-there i r p t) (lon-there i r p t) e
 
     -- ---- of a sound sheet
     module _ (s : SoundSheet f2 file i) where
