@@ -63,7 +63,7 @@ pub record RouteInRange (i : Inputs) : Type 0 where
 abbrev pub HourInRange : Inputs → Type 0
 HourInRange i = T (isTo (decimal 0 1) (decimal 24 0) (i .gmt))
 
--- with the hour 'sunspot number 0 to 300' and 'four factors 0.125 to 8'
+-- 'sunspot number 0 to 300', the hour, 'four factors 0.125 to 8'
 pub record FieldsInRange (i : Inputs) : Type 0 where
   pub sunspots : T (isTo (decimal 0 1) (decimal 300 0) (i .ssn))
   pub hour : HourInRange i

@@ -150,8 +150,8 @@ unfolding poleLat poleLon decimal minusDecimal round le
 built-in = record { latitude = record { low = tt; high = tt }; longitude = record { low = tt; high = tt } }
 
 module _ (tlat tlong rlat rlong : Degrees) (a : Typed tlat tlong) (b : Typed rlat rlong) (long : Bool) (pole : MagneticPole) where
-  pub head-finite : FiniteHead (pathOf tlat tlong rlat rlong long pole)
-  head-finite =
+  pub path-finite : FiniteHead (pathOf tlat tlong rlat rlong long pole)
+  path-finite =
       let s = pole-only tlat tlong rlat rlong long builtIn pole in
       let p = head-in-range tlat tlong rlat rlong a b long builtIn built-in in
       record {

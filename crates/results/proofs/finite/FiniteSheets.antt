@@ -53,7 +53,7 @@ use Rattle.maps.specs.Layers.{monthlyOf}
 use Rattle.maps.specs.Figures.{SheetHour, hourFrom, hourOf, headOf, numbersOf, pointRow, sheetPath, figuresOf}
 use Rattle.results.proofs.path.Longitudes.{Typed, point-longitude}
 use Rattle.results.proofs.path.PointRows.{most}
-use Rattle.results.proofs.finite.FinitePath.{FinitePoint, FiniteHead, points-located, points-finite, head-finite, latitude-there}
+use Rattle.results.proofs.finite.FinitePath.{FinitePoint, FiniteHead, points-located, points-finite, path-finite, latitude-there}
 use Rattle.results.proofs.finite.FiniteField.{FiniteMagnetic, gyrofrequency-sized}
 use Rattle.results.proofs.finite.MagneticFinite.{gmdip-sized, points-magnetic}
 use Rattle.results.proofs.finite.FiniteLayers.{
@@ -137,7 +137,7 @@ module _ (i : Inputs) (r : EndsInRange i) where
   sheet-path-finite f2 file k b =
       subst (λ (x : Float). T (finite x)) (sym (head-at f2 file i k b))
       (finite-at (headOf (sheetPath i))
-      (six-finite (sheetPath i) (head-finite _ _ _ _ tx rx (longWay i) (i .pole)))
+      (six-finite (sheetPath i) (path-finite _ _ _ _ tx rx (longWay i) (i .pole)))
       k b)
 
   module _ (p : ℕ) (t : PointThere i p) where
