@@ -7,3 +7,4 @@ pub mod series
 pub mod clock
 pub mod finite
 pub mod sheet
+pub mod FiniteOrNot

@@ -6,5 +6,6 @@ pub mod ExpNumbers
 pub mod FiniteMaps
 pub mod FiniteLayers
 pub mod FiniteFigures
+pub mod AcceptedFields
 pub mod FiniteSheets
 pub mod NoSun

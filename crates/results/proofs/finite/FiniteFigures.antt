@@ -1,6 +1,6 @@
--- The 22 figures of a point that the layers, Es and the ground give, all finite: what a sheet's
--- files and fields give to `FiniteMaps` and `FiniteLayers`, put together. Assumes nothing.
-use mathlib.Core.Path.{_≡_, refl, sym, subst}
+-- What is known of each figure of the layers, and Es finite, at a point: what a sheet's files and
+-- fields give to `FiniteMaps` and `FiniteLayers`, put together. Assumes nothing.
+use mathlib.Core.Path.{_≡_, refl}
 use mathlib.Core.Bool.{Bool, true, false, cond}
 use mathlib.Core.List.{List}
 use Prim.Native.Nat.{ℕ}
@@ -8,7 +8,6 @@ use lib.Dec.{T}
 use lib.IntN.{pos, negsuc}
 use lib.ListN.{getD}
 use lib.Ieee.{Float, nan, fin, round, neg, add, mul, sub, lt, le}
-use lib.Ieee.Scale.{finite}
 use Rattle.base.specs.declared.angle.Radians.{Radians}
 use Rattle.base.specs.declared.refusal.Verdict.the-variants.{Accepted}
 use Rattle.base.specs.Single.{_⊕_, decimal}
@@ -18,8 +17,7 @@ use Rattle.base.specs.Angle.{radiansOf}
 use Rattle.base.specs.Elementary.{cos32Of}
 use Rattle.base.specs.Index.{indexOf, indexCheck}
 use Rattle.base.specs.Blend.{cofionOf}
-use Rattle.base.proofs.order.Order.{between-finite}
-use Rattle.results.proofs.numbers.Sizes.{Sized, plus-sized, between-sized, larger, sized-finite}
+use Rattle.results.proofs.numbers.Sizes.{Sized, plus-sized, between-sized, between-range, larger}
 use Rattle.results.proofs.numbers.SineSizes.{cos32-sized}
 use Rattle.maps.specs.declared.inputs.Inputs.{Inputs}
 use Rattle.maps.specs.declared.inputs.Factors.{Factors}
@@ -34,65 +32,42 @@ use Rattle.maps.specs.Ionosphere.{gammasAt}
 use Rattle.maps.specs.Figures.{hourFrom, hourOf}
 use Rattle.results.proofs.clock.Clock.{farthest, Longitude}
 use Rattle.maps.proofs.sheet.Checks.{good-same}
-use Rattle.results.proofs.finite.FiniteMaps.{Bounded, Plane, Full, Mapped, gammas, noises, cofion-sized, hmym-sized, virtim-sized, gammas-sized}
-use Rattle.results.proofs.finite.FiniteLayers.{Fields, Placed, Months, Within, OffZero, EsFinite, cosineOf, monthly-sized, zenang-range, e-height, clck-finite, zenmax-finite, fi0-range, fi1-sized, fi2-sized, f2m3-sized, hpf2-finite, rat-finite, abiy-sized, yi1-sized, hi1-sized, hi2-sized, yi2-sized, es-finite}
+use Rattle.results.specs.FiniteOrNot.{Bounded, FactorClear, F1Clear, LayerFigures}
+use Rattle.results.proofs.field.Sines.{above-away}
+use Rattle.results.proofs.finite.FiniteMaps.{Plane, Full, Mapped, cofion-sized, hmym-sized, virtim-sized, gammas-sized}
+use Rattle.results.proofs.finite.FiniteLayers.{Fields, Placed, Months, OffZero, EsFinite, cosineOf, monthly-sized, zenang-range, clck-finite, zenmax-sized, fi0-range, fi1-sized, fi2-sized, f2m3-sized, hpf2-number, hpf2-finite, rat-finite, abiy-number, abiy-sized, yi1-sized, hi1-sized, hi2-sized, yi2-sized, es-finite}
 
-pub record LayersFinite (l : LayerParams) : Type 0 where
-  pub fi0 : T (finite (getD (l .fi) 0 nan))
-  pub fi1 : T (finite (getD (l .fi) 1 nan))
-  pub fi2 : T (finite (getD (l .fi) 2 nan))
-  pub yi0 : T (finite (getD (l .yi) 0 nan))
-  pub yi1 : T (finite (getD (l .yi) 1 nan))
-  pub yi2 : T (finite (getD (l .yi) 2 nan))
-  pub hi0 : T (finite (getD (l .hi) 0 nan))
-  pub hi1 : T (finite (getD (l .hi) 1 nan))
-  pub hi2 : T (finite (getD (l .hi) 2 nan))
-  pub f2m3 : T (finite (l .f2m3))
-  pub hpf2 : T (finite (l .hpf2))
-  pub rat : T (finite (l .rat))
-  pub abiy : T (finite (l .abiy))
-  pub clck : T (finite (l .clck))
-  pub zenang : T (finite (l .zenang .0))
-  pub zenmax : T (finite (l .zenmax .0))
+module _ (m : Monthly) (ssn gmt : Float) (psc : Factors) (hmym : List Float) (pt : ControlPoint) (mag : MagneticVars) (g : Gammas) where
+  abbrev l : LayerParams
+  l = layersOf m ssn gmt psc hmym pt mag g
 
--- What has to be asked of a point beyond the ranges and the files' bounds: the cosine of the zenith
--- angle has not come out beyond 1 in size, f2m3 is not within 2 ^ -60 of zero, F1's frequency is
--- not above zero within 2 ^ -40 of it, and E's is at most 56 MHz.
-pub record Ordinary (m : Monthly) (gmt : Float) (pt : ControlPoint) (g : Gammas) (l : LayerParams) : Type 0 where
-  pub cosine : Within (cosineOf m gmt pt)
-  pub f2m3 : T (le (fin false 1 (negsuc 59)) (absOf (g .g5)))
-  pub f1 : OffZero (getD (l .fi) 1 nan)
-  pub e : T (le (getD (l .fi) 0 nan) (decimal 560 1))
+  -- f2m3 is a map's value
+  factor-off : FactorClear l → T (le (fin false 1 (negsuc 59)) (absOf (g .g5)))
+  unfolding layersOf
+  factor-off t = t
 
-heights-finite : T (finite (decimal 200 1)) × T (finite (decimal 1100 1))
-unfolding decimal round
-heights-finite = (tt, tt)
+  f1-off : F1Clear l → OffZero (getD (l .fi) 1 nan)
+  f1-off u t = above-away _ _ (u t)
 
-pub layers-finite :
-    (m : Monthly) (ssn gmt : Float) (psc : Factors) (hmym : List Float) (pt : ControlPoint) (mag : MagneticVars) (g : Gammas) →
-    Fields ssn gmt psc → Months m → Plane hmym → Placed pt mag → Mapped g → Ordinary m gmt pt g (layersOf m ssn gmt psc hmym pt mag g) →
-    LayersFinite (layersOf m ssn gmt psc hmym pt mag g)
-unfolding decimal round
-layers-finite m ssn gmt psc hmym pt mag g F K L Q G c =
-    let k = e-height m ssn gmt psc hmym pt mag g in
-    record {
-      fi0 = between-finite {lo = fin false 1 (negsuc 4)} {hi = fin false 1 (pos 53)} tt tt (fi0-range m ssn gmt psc hmym pt mag g F K L Q G);
-      fi1 = sized-finite {a = fin false 1 (pos 55)} tt (fi1-sized m ssn gmt psc hmym pt mag g F K L Q G);
-      fi2 = sized-finite {a = fin false 1 (pos 54)} tt (fi2-sized m ssn gmt psc hmym pt mag g F K L Q G);
-      yi0 = subst (λ (x : Float). T (finite x)) (sym (k .0)) tt;
-      yi1 = sized-finite {a = fin false 1 (pos 126)} tt (yi1-sized m ssn gmt psc hmym pt mag g F K L Q G (c .f2m3) (c .f1));
-      yi2 = sized-finite {a = fin false 1 (pos 126)} tt (yi2-sized m ssn gmt psc hmym pt mag g F K L Q G (c .f2m3) (c .f1) (c .cosine));
-      hi0 = subst (λ (x : Float). T (finite x)) (sym (k .1)) tt;
-      hi1 = sized-finite {a = fin false 1 (pos 126)} tt (hi1-sized m ssn gmt psc hmym pt mag g F K L Q G (c .f2m3) (c .f1));
-      hi2 = sized-finite {a = fin false 1 (pos 126)} tt (hi2-sized m ssn gmt psc hmym pt mag g F K L Q G (c .f2m3) (c .f1));
-      f2m3 = sized-finite {a = gammas} tt (f2m3-sized m ssn gmt psc hmym pt mag g F K L Q G);
-      hpf2 = sized-finite {a = fin false 1 (pos 71)} tt (hpf2-finite m ssn gmt psc hmym pt mag g F K L Q G (c .f2m3));
-      rat = between-finite {lo = fin false 1 (pos 0)} {hi = noises} tt tt (rat-finite m ssn gmt psc hmym pt mag g F K L Q G (c .cosine));
-      abiy = sized-finite {a = fin false 1 (pos 125)} tt (abiy-sized m ssn gmt psc hmym pt mag g F K L Q G (c .e));
-      clck = clck-finite m ssn gmt psc hmym pt mag g (F .hour) (Q .lon);
-      zenang = between-finite {lo = decimal 0 1} {hi = decimal 2300 1} tt tt (zenang-range m ssn gmt psc hmym pt mag g (c .cosine));
-      zenmax = zenmax-finite m ssn gmt psc hmym pt mag g F K L Q G;
-    }
+  pub layer-figures : Fields ssn gmt psc → Months m → Plane hmym → Placed pt mag → Mapped g → LayerFigures (cosineOf m gmt pt) (layersOf m ssn gmt psc hmym pt mag g)
+  layer-figures F K L Q G = record {
+    clck = clck-finite m ssn gmt psc hmym pt mag g (F .hour) (Q .lon);
+    zenmax = zenmax-sized m ssn gmt psc hmym pt mag g K (Q .gmdip) .size;
+    fi0 = between-range (fi0-range m ssn gmt psc hmym pt mag g F K L Q G);
+    fi1 = fi1-sized m ssn gmt psc hmym pt mag g F K L Q G .size;
+    fi2 = fi2-sized m ssn gmt psc hmym pt mag g F K L Q G .size;
+    f2m3 = f2m3-sized m ssn gmt psc hmym pt mag g F K L Q G .size;
+    zenang = λ w. between-range (zenang-range m ssn gmt psc hmym pt mag g w);
+    rat = λ w. between-range (rat-finite m ssn gmt psc hmym pt mag g F K L Q G w);
+    hpf2-number = hpf2-number m ssn gmt psc hmym pt mag g F K L Q G;
+    abiy-number = abiy-number m ssn gmt psc hmym pt mag g F K L Q G;
+    hpf2 = λ t. hpf2-finite m ssn gmt psc hmym pt mag g F K L Q G (factor-off t) .size;
+    abiy = λ t. abiy-sized m ssn gmt psc hmym pt mag g F K L Q G t .size;
+    yi1 = λ t u. yi1-sized m ssn gmt psc hmym pt mag g F K L Q G (factor-off t) (f1-off u) .size;
+    hi1 = λ t u. hi1-sized m ssn gmt psc hmym pt mag g F K L Q G (factor-off t) (f1-off u) .size;
+    hi2 = λ t u. hi2-sized m ssn gmt psc hmym pt mag g F K L Q G (factor-off t) (f1-off u) .size;
+    yi2 = λ w t u. yi2-sized m ssn gmt psc hmym pt mag g F K L Q G (factor-off t) (f1-off u) w .size;
+  }
 
 -- ---- over a sheet's files
 
@@ -138,9 +113,9 @@ module _ (f2 file : List ℕ) (i : Inputs) (held : Bounded f2 file) (passed : in
     pub point-es : EsFinite (esindOf at (i .psc .es))
     point-es = es-finite at (i .psc .es) point-mapped (F .es)
 
-    -- the layers: finite where the point is ordinary
+    -- the layers
     pub point-layers :
-        Ordinary (hourOf f2 file i .monthly) (i .gmt) pt at (layersOf (hourOf f2 file i .monthly) (i .ssn) (i .gmt) (i .psc) (hourOf f2 file i .hmym) pt (magvarOf (pt .lat) (pt .lon)) at) →
-        LayersFinite (layersOf (hourOf f2 file i .monthly) (i .ssn) (i .gmt) (i .psc) (hourOf f2 file i .hmym) pt (magvarOf (pt .lat) (pt .lon)) at)
-    point-layers c =
-        layers-finite (hourOf f2 file i .monthly) (i .ssn) (i .gmt) (i .psc) (hourOf f2 file i .hmym) pt (magvarOf (pt .lat) (pt .lon)) at F hour-months hour-plane Q point-mapped c
+        LayerFigures (cosineOf (hourOf f2 file i .monthly) (i .gmt) pt)
+        (layersOf (hourOf f2 file i .monthly) (i .ssn) (i .gmt) (i .psc) (hourOf f2 file i .hmym) pt (magvarOf (pt .lat) (pt .lon)) at)
+    point-layers =
+        layer-figures (hourOf f2 file i .monthly) (i .ssn) (i .gmt) (i .psc) (hourOf f2 file i .hmym) pt (magvarOf (pt .lat) (pt .lon)) at F hour-months hour-plane Q point-mapped

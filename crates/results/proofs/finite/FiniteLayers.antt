@@ -9,7 +9,7 @@ use mathlib.Core.List.{List, [], _∷_}
 use Prim.Native.Nat.{ℕ, zero, suc, _+_, _*_, _≤_}
 use native.Mathlib.Omega.{arith}
 use lib.Dec.{T, lt→ltb}
-use lib.IntN.{pos, negsuc}
+use lib.IntN.{ℤ, pos, negsuc}
 use lib.ListN.{getD}
 use lib.Ieee.{Float, nan, inf, fin, binary32, round, neg, add, sub, mul, div, lt, le, isNan, toUnsigned}
 use lib.Ieee.Fits.{div-fits}
@@ -47,7 +47,8 @@ use Rattle.maps.specs.declared.ionosphere.layers.Ground.{Ground}
 use Rattle.maps.specs.Layers.{termOf, abmapAt, monthlyOf, sspOf, sslOf, zenithOf, timvarOf, gamma6Of, eLayer, f1Layer, ef1Of, ratOf, retardOf, atLeastXf1, halfOver, twilightOf, mergedOf, eRetardation, belowF2, retardedOf, layersOf, abiyOf, clockOf, SUN, sunOf, esindOf, groundAt, groundOf}
 use Rattle.maps.specs.Noisy.{inPlane, turnOf, columnOf, zzOf, latitudeSum, noisySum, noisyOf}
 use Rattle.results.proofs.clock.Clock.{lt-not-le, not-le→lt, farthest, Hour, Longitude, OnClock, clock-range, layer-clock}
-use Rattle.results.proofs.finite.FiniteMaps.{word, Bounded, Sunspots, Plane, degrees, noises, gammas, Mapped, noisy-sized}
+use Rattle.results.specs.FiniteOrNot.{Bounded, zenithCosine, landPair, seaPair}
+use Rattle.results.proofs.finite.FiniteMaps.{word, in-month, Sunspots, Plane, degrees, noises, gammas, Mapped, noisy-sized}
 
 -- 2 ^ n
 abbrev twoTo : ℕ → Float
@@ -100,22 +101,18 @@ module _ (f2 file : List ℕ) (held : Bounded f2 file) (ssn : Float) (b : Sunspo
   pub monthly-sized : (month : ℕ) → Months (monthlyOf file month ssn)
   unfolding monthlyOf abmapAt
   monthly-sized month = record {
-    chi0 = term-sized achi bchi 0 (held .inMonth achi 0 tt (omega arith)) (held .inMonth bchi 0 tt (omega arith));
-    chi1 = term-sized achi bchi 1 (held .inMonth achi 1 tt (omega arith)) (held .inMonth bchi 1 tt (omega arith));
-    new0 = term-sized anew bnew 0 (held .inMonth anew 0 tt (omega arith)) (held .inMonth bnew 0 tt (omega arith));
-    new1 = term-sized anew bnew 1 (held .inMonth anew 1 tt (omega arith)) (held .inMonth bnew 1 tt (omega arith));
-    new2 = term-sized anew bnew 2 (held .inMonth anew 2 tt (omega arith)) (held .inMonth bnew 2 tt (omega arith));
-    alf = held .inMonth abmap (1 * 2 + 0) tt (omega arith);
-    bet = held .inMonth abmap (1 * 2 + 1) tt (omega arith);
+    chi0 = term-sized achi bchi 0 (in-month held achi 0 tt (omega arith)) (in-month held bchi 0 tt (omega arith));
+    chi1 = term-sized achi bchi 1 (in-month held achi 1 tt (omega arith)) (in-month held bchi 1 tt (omega arith));
+    new0 = term-sized anew bnew 0 (in-month held anew 0 tt (omega arith)) (in-month held bnew 0 tt (omega arith));
+    new1 = term-sized anew bnew 1 (in-month held anew 1 tt (omega arith)) (in-month held bnew 1 tt (omega arith));
+    new2 = term-sized anew bnew 2 (in-month held anew 2 tt (omega arith)) (in-month held bnew 2 tt (omega arith));
+    alf = in-month held abmap (1 * 2 + 0) tt (omega arith);
+    bet = in-month held abmap (1 * 2 + 1) tt (omega arith);
   }
 
 -- ---- the zenith angle
 
--- sin * sin + cos * cos * cos, whose arc cosine it is
-unfoldable pub zenithCosine : Radians → Radians → Float → Radians → Float
-zenithCosine cenlat cenlg ssp ssl =
-    sin32Of (cenlat .0) ⊗ sin32Of ssp ⊕ cos32Of (cenlat .0) ⊗ cos32Of ssp ⊗ cos32Of (cenlg .0 ⊖ ssl .0)
-
+-- the cosine whose arc cosine it is
 abbrev pub cosineOf : Monthly → Float → ControlPoint → Float
 cosineOf m gmt pt = zenithCosine (pt .lat) (pt .lon) (sspOf (m .sun) (pt .lat)) (sslOf gmt)
 
@@ -190,24 +187,16 @@ es-height g psc3 = refl
 
 -- ---- the ground: always one of two pairs
 
--- (0.001, 4.0)
-abbrev pub land : Ground
-land = record { 0 = decimal 1 3; 1 = decimal 40 1 }
-
--- (5.0, 80.0)
-abbrev pub sea : Ground
-sea = record { 0 = decimal 50 1; 1 = decimal 800 1 }
-
-either : (b : Bool) → (cond b land sea ≡ land) ⊎ (cond b land sea ≡ sea)
+either : (b : Bool) → (cond b landPair seaPair ≡ landPair) ⊎ (cond b landPair seaPair ≡ seaPair)
 either true = inl refl
 either false = inr refl
 
-pair-at : (wld : Float) → (groundAt wld ≡ land) ⊎ (groundAt wld ≡ sea)
+pair-at : (wld : Float) → (groundAt wld ≡ landPair) ⊎ (groundAt wld ≡ seaPair)
 unfolding groundAt
 pair-at wld = either (le (decimal 0 1) wld)
 
 -- whatever the files and the place are
-pub ground-pair : (m : Monthly) (fakmap : List Float) (lat east : Radians) → (groundOf m fakmap lat east ≡ land) ⊎ (groundOf m fakmap lat east ≡ sea)
+pub ground-pair : (m : Monthly) (fakmap : List Float) (lat east : Radians) → (groundOf m fakmap lat east ≡ landPair) ⊎ (groundOf m fakmap lat east ≡ seaPair)
 unfolding groundOf
 ground-pair m fakmap lat east = pair-at _
 
@@ -816,9 +805,16 @@ height-number : (g5 : Float) → T (finite g5) → T (not (isNan (decimal 14900 
 height-number g5 p = less-number (decimal 14900 1 ⊘ g5) (quotient-number g5 p)
 
 -- at zero it is infinite, with zero's sign
-pub hpf2-at-zero : (decimal 14900 1 ⊘ fin false 0 (pos 0) ⊖ decimal 1760 1 ≡ inf false) × (decimal 14900 1 ⊘ fin true 0 (pos 0) ⊖ decimal 1760 1 ≡ inf true)
+at-zero : (s : Bool) (e : ℤ) → decimal 14900 1 ⊘ fin s 0 e ⊖ decimal 1760 1 ≡ inf s
 unfolding decimal round neg add sub div
-hpf2-at-zero = (refl, refl)
+at-zero false e = refl
+at-zero true e = refl
+
+pub hpf2-at-zero :
+    (m : Monthly) (ssn gmt : Float) (psc : Factors) (hmym : List Float) (pt : ControlPoint) (mag : MagneticVars) (g : Gammas) (s : Bool) (e : ℤ) →
+    layersOf m ssn gmt psc hmym pt mag g .f2m3 ≡ fin s 0 e → layersOf m ssn gmt psc hmym pt mag g .hpf2 ≡ inf s
+unfolding layersOf
+hpf2-at-zero m ssn gmt psc hmym pt mag g s e h = ap (λ (x : Float). decimal 14900 1 ⊘ x ⊖ decimal 1760 1) h ∙ at-zero s e
 
 -- ---- without a zenith angle there is no height ratio
 
@@ -1059,9 +1055,9 @@ module _ (m : Monthly) (ssn gmt : Float) (psc : Factors) (hmym : List Float) (pt
 
 -- where the cosine comes out beyond 1 in size, the height ratio is NaN too, and with it yi[2]
 module _ (m : Monthly) (ssn gmt : Float) (psc : Factors) (hmym : List Float) (pt : ControlPoint) (mag : MagneticVars) (g : Gammas) (beyond : le (absOf (cosineOf m gmt pt)) (fraction 1 1) ≡ false) where
-  pub rat-nan : layersOf m ssn gmt psc hmym pt mag g .rat ≡ nan
+  ratio-none : layersOf m ssn gmt psc hmym pt mag g .rat ≡ nan
   unfolding layersOf ef1Of timvarOf zenithOf zenithCosine
-  rat-nan = ap (λ (x : Float). ratOf m hmym (pt .gmlat) (record { 0 = x }) (clockOf gmt (pt .lon))) (angle-nan (cosineOf m gmt pt) beyond) ∙ ratio-nan m hmym (pt .gmlat) (clockOf gmt (pt .lon))
+  ratio-none = ap (λ (x : Float). ratOf m hmym (pt .gmlat) (record { 0 = x }) (clockOf gmt (pt .lon))) (angle-nan (cosineOf m gmt pt) beyond) ∙ ratio-nan m hmym (pt .gmlat) (clockOf gmt (pt .lon))
 
   div-nan : (x : Float) → x ⊘ nan ≡ nan
   unfolding div
@@ -1073,8 +1069,27 @@ module _ (m : Monthly) (ssn gmt : Float) (psc : Factors) (hmym : List Float) (pt
   unfolding layersOf
   thick-is = refl
 
+  thickness-none : getD (layersOf m ssn gmt psc hmym pt mag g .yi) 2 nan ≡ nan
+  thickness-none = thick-is ∙ ap (λ (x : Float). getD (layersOf m ssn gmt psc hmym pt mag g .hi) 2 nan ⊘ x) ratio-none ∙ div-nan (getD (layersOf m ssn gmt psc hmym pt mag g .hi) 2 nan)
+
+nan-below : T (le (decimal 0 1) nan) → ⊥
+unfolding decimal round isNan
+nan-below h = le-right (decimal 0 1) nan h
+
+module _ (m : Monthly) (ssn gmt : Float) (psc : Factors) (hmym : List Float) (pt : ControlPoint) (mag : MagneticVars) (g : Gammas) (none : layersOf m ssn gmt psc hmym pt mag g .zenang .0 ≡ nan) where
+  -- a zenith angle that is NaN has such a cosine
+  cosine-none : le (absOf (cosineOf m gmt pt)) (fraction 1 1) ≡ false
+  cosine-none = go (le (absOf (cosineOf m gmt pt)) (fraction 1 1)) refl
+    where
+      go : (c : Bool) → le (absOf (cosineOf m gmt pt)) (fraction 1 1) ≡ c → c ≡ false
+      go false e = refl
+      go true e = absurd (nan-below (subst (λ (x : Float). T (le (decimal 0 1) x)) none (zenang-range m ssn gmt psc hmym pt mag g (subst T (sym e) tt) .low)))
+
+  pub rat-nan : layersOf m ssn gmt psc hmym pt mag g .rat ≡ nan
+  rat-nan = ratio-none m ssn gmt psc hmym pt mag g cosine-none
+
   pub yi2-nan : getD (layersOf m ssn gmt psc hmym pt mag g .yi) 2 nan ≡ nan
-  yi2-nan = thick-is ∙ ap (λ (x : Float). getD (layersOf m ssn gmt psc hmym pt mag g .hi) 2 nan ⊘ x) rat-nan ∙ div-nan (getD (layersOf m ssn gmt psc hmym pt mag g .hi) 2 nan)
+  yi2-nan = thickness-none m ssn gmt psc hmym pt mag g cosine-none
 
 -- ---- the cosine itself is a number, in every month, so that the zenith angle is NaN exactly where
 -- that is beyond 1 in size
@@ -1139,17 +1154,13 @@ beyond-not q h t = go (le (absOf q) (fraction 1 1)) refl
         let p : T (finite (absOf q)) = finite-between nought (absOf q) (twoTo 3) tt tt (abs-not-below q (sized-number h)) (h .size) in
         absurd (lt-not-le (fraction 1 1) (absOf q) (one-number .1) p t (subst T (sym e) tt))
 
-nan-below : T (le (decimal 0 1) nan) → ⊥
-unfolding decimal round isNan
-nan-below h = le-right (decimal 0 1) nan h
-
-module _ (file : List ℕ) (month : ℕ) (ssn gmt : Float) (psc : Factors) (hmym : List Float) (pt : ControlPoint) (mag : MagneticVars) (g : Gammas) (first : 1 ≤ month) (last : month ≤ 12) (b : Hour gmt) (Q : Placed pt mag) where
+module _ (file : List ℕ) (month : ℕ) (ssn gmt : Float) (psc : Factors) (hmym : List Float) (pt : ControlPoint) (mag : MagneticVars) (g : Gammas) (first : 1 ≤ month) (last : month ≤ 12) (b : Hour gmt) (h : Sized (twoTo 5) (pt .lat .0)) (o : Longitude (pt .lon .0)) where
   abbrev cosine : Float
   cosine = cosineOf (monthlyOf file month ssn) gmt pt
 
   known : Sized (twoTo 3) cosine
   unfolding monthlyOf
-  known = cosine-sized month gmt (pt .lat) (pt .lon) first last b (Q .lat) (Q .lon)
+  known = cosine-sized month gmt (pt .lat) (pt .lon) first last b h o
 
   -- beyond 1 in size, no zenith angle
   pub beyond-none : T (lt (fraction 1 1) (absOf (cosineOf (monthlyOf file month ssn) gmt pt))) → layersOf (monthlyOf file month ssn) ssn gmt psc hmym pt mag g .zenang .0 ≡ nan
@@ -1157,11 +1168,7 @@ module _ (file : List ℕ) (month : ℕ) (ssn gmt : Float) (psc : Factors) (hmym
 
   -- and no zenith angle, beyond 1 in size
   pub none-beyond : layersOf (monthlyOf file month ssn) ssn gmt psc hmym pt mag g .zenang .0 ≡ nan → T (lt (fraction 1 1) (absOf (cosineOf (monthlyOf file month ssn) gmt pt)))
-  none-beyond e = go (le (absOf cosine) (fraction 1 1)) refl
-    where
-      go : (c : Bool) → le (absOf cosine) (fraction 1 1) ≡ c → T (lt (fraction 1 1) (absOf cosine))
-      go false d = beyond-is cosine known d
-      go true d = absurd (nan-below (subst (λ (x : Float). T (le (decimal 0 1) x)) e (zenang-range (monthlyOf file month ssn) ssn gmt psc hmym pt mag g (subst T (sym d) tt) .low)))
+  none-beyond e = beyond-is cosine known (cosine-none (monthlyOf file month ssn) ssn gmt psc hmym pt mag g e)
 
 -- So there is none, whatever the files are, in April at hour 0 at longitude 0 and 14.83 degrees
 -- south.

@@ -24,7 +24,7 @@ use Rattle.base.specs.Angle.{radiansOf}
 use Rattle.base.specs.Elementary.{sinOf, sin32Of, cos32Of}
 use Rattle.base.specs.Fill.{fill}
 use Rattle.base.specs.Words.{floatAt}
-use Rattle.base.specs.Tables.{startOf, wordsOf, planeOf, xf2cof, anew, xfm3cf, xesmcf, xpmap, xeslcf, xesucf, xercof, fakmap}
+use Rattle.base.specs.Tables.{startOf, wordsOf, planeOf, xf2cof, xfm3cf, xesmcf, xpmap, xeslcf, xesucf, xercof, fakmap}
 use Rattle.base.specs.Blend.{blendOf, blendAt, f2Weights, eWeights, heightWeights, eslcofOf, esmcofOf, esucofOf, f2cofOf, fm3cofOf, ercofOf, hmymOf, fakmapOf, cofionMaps, cofionOf, IA, IB, IC}
 use Rattle.base.specs.Index.{mapWord, rows}
 use Rattle.base.proofs.order.Order.{nought, Between}
@@ -42,6 +42,7 @@ use Rattle.maps.specs.Virtim.{GoodTable, timeOf, Wave, waveOf, hourWave, valueO
 use Rattle.maps.specs.Versy.{sxPower, raised, cxOf, tOf, cosWave, sinWave, harmonicOf, geographicFrom, geographicOf, gammaOf, seriesOf, versyOf, gammasOf}
 use Rattle.maps.specs.Noisy.{Turn, turnOf, columnOf, zzOf, latitudeSum, noisySum, noisyOf}
 use Rattle.results.proofs.clock.Clock.{Hour}
+use Rattle.results.specs.FiniteOrNot.{isRead, Bounded}
 
 -- ---- the files
 
@@ -50,16 +51,13 @@ use Rattle.results.proofs.clock.Clock.{Hour}
 abbrev pub word : Float
 word = fin false 1 (pos 16)
 
--- the tables that figures are made of: `xfm3cf`, and `anew` to `xercof` (a number above 20 has no
--- words)
-abbrev pub isRead : ℕ → Bool
-isRead table = cond (eqb table xfm3cf) true (leb anew table)
+-- the words of bounded files
+module _ {f2 month : List ℕ} (held : Bounded f2 month) where
+  in-f2 : (i : ℕ) → i < wordsOf xf2cof → Sized word (floatAt f2 (4 * i))
+  in-f2 i h = record { size = held .inF2 i h }
 
--- every f32 word of the F2 planes and of those tables, read or not, is a number of at most 65,536
--- in size
-pub record Bounded (f2 month : List ℕ) : Type 0 where
-  pub inF2 : (i : ℕ) → i < 2 * planeOf xf2cof → Sized word (floatAt f2 (4 * i))
-  pub inMonth : (table i : ℕ) → T (isRead table) → i < wordsOf table → Sized word (floatAt month (startOf table + 4 * i))
+  pub in-month : (table i : ℕ) → T (isRead table) → i < wordsOf table → Sized word (floatAt month (startOf table + 4 * i))
+  in-month table i t h = record { size = held .inMonth table i t h }
 
 -- 'sunspot number 0 to 300'
 abbrev pub Sunspots : Float → Type 0
@@ -116,10 +114,10 @@ module _ (f2 month : List ℕ) (held : Bounded f2 month) where
   table-sized : (table : ℕ) (w : Weights) → T (isRead table) → Weighed w → (i : ℕ) → i < planeOf table → Sized blended (blendAt month (startOf table) (planeOf table) w i)
   unfolding blendAt
   table-sized table w t k i h =
-      blend-sized w _ _ k (held .inMonth table i t (omega arith)) (held .inMonth table (planeOf table + i) t (omega arith))
+      blend-sized w _ _ k (in-month held table i t (omega arith)) (in-month held table (planeOf table + i) t (omega arith))
 
   f2-word : (i : ℕ) → i < 2 * planeOf xf2cof → Sized word (floatAt f2 (0 + 4 * i))
-  f2-word i h = subst (λ (p : ℕ). Sized word (floatAt f2 p)) (sym (zero-add (4 * i))) (held .inF2 i h)
+  f2-word i h = subst (λ (p : ℕ). Sized word (floatAt f2 p)) (sym (zero-add (4 * i))) (in-f2 held i h)
 
   f2-sized : (w : Weights) → Weighed w → (i : ℕ) → i < planeOf xf2cof → Sized blended (blendAt f2 (startOf xf2cof) (planeOf xf2cof) w i)
   unfolding blendAt
@@ -151,7 +149,7 @@ module _ (f2 month : List ℕ) (held : Bounded f2 month) (s : Float) (b : Sunspo
 
   pub fakmap-sized : (i : ℕ) → i < 464 → Sized blended (getD (fakmapOf month) i nan)
   unfolding fakmapOf le
-  fakmap-sized i h = subst (Sized blended) (sym (run-at _ 464 i nan h)) (larger blended tt (held .inMonth fakmap i tt h))
+  fakmap-sized i h = subst (Sized blended) (sym (run-at _ 464 i nan h)) (larger blended tt (in-month held fakmap i tt h))
 
 -- ---- the waves of an hour
 

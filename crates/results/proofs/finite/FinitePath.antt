@@ -1,6 +1,7 @@
--- No NaN and no infinity on a path: with both ends and the magnetic pole in range its six figures
--- and the four numbers of each control point are finite, since each has a bound (`Longitudes`).
--- Assumes nothing.
+-- No NaN and no infinity on a path: with both ends in range its six figures are finite, and with
+-- the magnetic pole in range too the four numbers of each control point, since each has a bound
+-- (`Longitudes`). Assumes nothing.
+use mathlib.Core.Path.{subst}
 use mathlib.Core.Bool.{Bool, true, false, cond}
 use mathlib.Core.List.{[], _∷_}
 use Prim.Native.Nat.{ℕ, zero, suc, _<_}
@@ -11,8 +12,9 @@ use lib.Ieee.{Float, fin, binary32, round, neg, add, sub, mul, div, le}
 use lib.Ieee.Scale.{finite}
 use lib.ListN.{getD}
 use Rattle.base.specs.declared.angle.Degrees.{Degrees}
+use Rattle.base.specs.declared.angle.Radians.{Radians}
 use Rattle.maps.specs.declared.inputs.MagneticPole.{MagneticPole}
-use Rattle.base.specs.Single.{_⊕_, _⊖_, _⊗_, _⊘_, decimal}
+use Rattle.base.specs.Single.{_⊕_, _⊖_, _⊗_, _⊘_, decimal, minusDecimal}
 use Rattle.base.specs.Number.{negative, absOf}
 use Rattle.base.specs.Constants.{D2R, R2D, RZ, PI, PI2}
 use Rattle.base.specs.Angle.{radiansOf, degreesOf}
@@ -23,8 +25,10 @@ use Rattle.maps.specs.declared.geometry.ControlPoint.{ControlPoint}
 use Rattle.maps.specs.declared.geometry.PathGeometry.{PathGeometry}
 use Rattle.maps.specs.declared.geometry.Place.{Place}
 use Rattle.maps.specs.declared.geometry.Track.{Track}
+use Rattle.maps.specs.Inputs.{poleLat, poleLon}
 use Rattle.maps.specs.Geometry.{nudgedOf, endOf, polePlace, circleOf, trackOf, gmlatOf, pointOf, absent, controlPointIf, controlRow, rowsOf, pathOf, nowhere, latAt, meanLatitude, alatdOf}
 use Rattle.results.proofs.clock.Clock.{farthest, Longitude, typed-longitude}
+use Rattle.results.proofs.path.PointRows.{pole-only, alatd-same}
 use Rattle.results.proofs.path.Longitudes.{one, two, four, eight, angle, hundred, farther, Known, placed-known, D2R-sized, typed-latitude, nudged-latitude, cos-between, lon-sized, gcd-in, bearings, Tracked, abs-sized, latitude-sized, sample-known, zero-sized, zero-longitude, distance-sized, whole-sized, Typed, transmitter, receiver, tracked}
 
 -- ---- a control point
@@ -93,15 +97,14 @@ pub record FinitePoint (pt : ControlPoint) : Type 0 where
   pub lon : T (finite (pt .lon .0))
   pub gmlat : T (finite (pt .gmlat .0))
 
--- the six figures, and the five rows
-pub record FinitePath (g : PathGeometry) : Type 0 where
+-- the six figures
+pub record FiniteHead (g : PathGeometry) : Type 0 where
   pub gcd : T (finite (g .gcd .0))
   pub «gcd_km» : T (finite (g .«gcd_km»))
   pub btr : T (finite (g .btr .0))
   pub brt : T (finite (g .brt .0))
   pub rlatd : T (finite (g .rlatd .0))
   pub alatd : T (finite (alatdOf g .0))
-  pub points : (i : ℕ) → i < 5 → FinitePoint (getD (g .points) i nowhere)
 
 located-finite : (pt : ControlPoint) → Located pt → FinitePoint pt
 located-finite pt h = record { rd = sized-finite tt (h .rd); lat = sized-finite tt (h .lat); lon = sized-finite tt (lon-sized (h .lon)); gmlat = sized-finite tt (h .gmlat) }
@@ -119,8 +122,11 @@ module _ (tlat tlong rlat rlong : Degrees) (a : Typed tlat tlong) (b : Typed rla
   unfolding pathOf
   points-located i h = rows-located _ _ _ _ (tracked tlat tlong rlat rlong a b long pole) (pole-known pole c) (gcd-in _ _ (transmitter tlat tlong rlat rlong a b long pole) (receiver tlat tlong rlat rlong a b long pole) long) i h
 
-  pub path-finite : FinitePath (pathOf tlat tlong rlat rlong long pole)
-  path-finite =
+  pub points-finite : (i : ℕ) → i < 5 → FinitePoint (getD (pathOf tlat tlong rlat rlong long pole .points) i nowhere)
+  points-finite i h = located-finite _ (points-located i h)
+
+  head-in-range : FiniteHead (pathOf tlat tlong rlat rlong long pole)
+  head-in-range =
       let t = transmitter tlat tlong rlat rlong a b long pole in
       let u = receiver tlat tlong rlat rlong a b long pole in
       let g = whole-sized _ (gcd-in _ _ t u long) in
@@ -132,5 +138,32 @@ module _ (tlat tlong rlat rlong : Degrees) (a : Typed tlat tlong) (b : Typed rla
         brt = unfold pathOf in sized-finite tt (w .1);
         rlatd = unfold pathOf in sized-finite tt (nudged-latitude tlat tlong rlat rlong (typed-latitude (a .latitude)) (typed-latitude (b .latitude)));
         alatd = alatd-finite _ points-located;
-        points = λ i h. located-finite _ (points-located i h);
       }
+
+-- ---- whatever the pole, which enters nothing but the geomagnetic latitudes: the built-in one is in
+-- range
+abbrev builtIn : MagneticPole
+builtIn = record { lat = record { 0 = poleLat }; lon = record { 0 = poleLon } }
+
+built-in : Typed (builtIn .lat) (builtIn .lon)
+unfolding poleLat poleLon decimal minusDecimal round le
+built-in = record { latitude = record { low = tt; high = tt }; longitude = record { low = tt; high = tt } }
+
+module _ (tlat tlong rlat rlong : Degrees) (a : Typed tlat tlong) (b : Typed rlat rlong) (long : Bool) (pole : MagneticPole) where
+  pub path-finite : FiniteHead (pathOf tlat tlong rlat rlong long pole)
+  path-finite =
+      let s = pole-only tlat tlong rlat rlong long builtIn pole in
+      let p = head-in-range tlat tlong rlat rlong a b long builtIn built-in in
+      record {
+        gcd = subst (λ (x : Radians). T (finite (x .0))) (s .gcd) (p .gcd);
+        «gcd_km» = subst (λ (x : Float). T (finite x)) (s .«gcd_km») (p .«gcd_km»);
+        btr = subst (λ (x : Radians). T (finite (x .0))) (s .btr) (p .btr);
+        brt = subst (λ (x : Radians). T (finite (x .0))) (s .brt) (p .brt);
+        rlatd = subst (λ (x : Degrees). T (finite (x .0))) (s .rlatd) (p .rlatd);
+        alatd = subst (λ (x : Degrees). T (finite (x .0))) (alatd-same _ _ s) (p .alatd);
+      }
+
+  pub latitude-there : (i : ℕ) → i < 5 → Sized angle (getD (pathOf tlat tlong rlat rlong long pole .points) i nowhere .lat .0)
+  latitude-there i h =
+      subst (λ (x : Radians). Sized angle (x .0)) (pole-only tlat tlong rlat rlong long builtIn pole .points i .lat)
+      (points-located tlat tlong rlat rlong a b long builtIn built-in i h .lat)

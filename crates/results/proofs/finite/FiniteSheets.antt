@@ -3,40 +3,103 @@
 -- the files; all 29 numbers of a point besides where it is ordinary. What the laws of a point ask
 -- (`Placed`) every control point of such a route has. Assumes nothing.
 use mathlib.Core.Path.{_≡_, refl, sym, subst}
-use mathlib.Core.Bool.{false}
+use mathlib.Core.Bool.{Bool, false}
 use mathlib.Core.List.{List, [], _∷_}
-use Prim.Native.Nat.{ℕ, zero, suc, _+_, _-_, _*_, _≤_, _<_}
+use Prim.Native.Nat.{ℕ, zero, suc, _+_, _-_, _≤_, _<_}
 use native.Mathlib.Nat.{le-of-suc-le-suc, not-suc-le-zero}
 use native.Mathlib.Omega.{arith}
-use lib.Dec.{T}
-use lib.IntN.{pos}
+use lib.Dec.{T, leb, leb→le}
+use lib.IntN.{pos, negsuc}
 use lib.ListN.{length, getD}
-use lib.Ieee.{Float, nan, fin, le}
+use lib.Ieee.{Float, nan, fin, round, lt, le}
 use lib.Ieee.Scale.{finite}
-use Rattle.base.specs.declared.refusal.Verdict.the-variants.{Accepted}
-use Rattle.base.specs.Index.{indexCheck}
-use Rattle.results.proofs.numbers.Sizes.{larger}
+use lib.Ieee.Fits.{and-l, and-r}
+use Rattle.base.specs.declared.angle.Degrees.{Degrees}
+use Rattle.base.specs.Single.{decimal, minusDecimal}
+use Rattle.base.specs.Double.{fraction}
+use Rattle.base.specs.Number.{absOf}
+use Rattle.base.specs.Ranges.{isTo, isMonth}
+use Rattle.base.proofs.order.Order.{finite-between}
+use Rattle.base.proofs.order.Monotone.{abs-finite}
+use Rattle.results.specs.FiniteOrNot.{
+  UpToPower,
+  PlaceInRange,
+  EndsInRange,
+  RouteInRange,
+  HourInRange,
+  FieldsInRange,
+  SoundSheet,
+  PointThere,
+  pointNumber,
+  sheetPoint,
+  sheetField,
+  sheetMaps,
+  sheetLayers,
+  sheetEs,
+  sheetGround,
+  sheetRow,
+  zenithCosine,
+  sheetCosine,
+  MapsBounded,
+  LayerFigures,
+  Ordinary,
+}
+use Rattle.results.proofs.numbers.Sizes.{Sized, range-between, larger}
+use Rattle.results.proofs.clock.Clock.{Hour, Longitude}
 use Rattle.maps.specs.declared.inputs.Inputs.{Inputs}
-use Rattle.maps.specs.declared.geometry.ControlPoint.{ControlPoint}
 use Rattle.maps.specs.declared.geometry.PathGeometry.{PathGeometry}
-use Rattle.maps.specs.declared.magnetic.MagneticVars.{MagneticVars}
-use Rattle.maps.specs.declared.ionosphere.versy.Gammas.{Gammas}
-use Rattle.maps.specs.declared.ionosphere.layers.LayerParams.{LayerParams}
 use Rattle.maps.specs.Inputs.{isLong}
-use Rattle.maps.specs.Magnetic.{magvarOf}
-use Rattle.maps.specs.Geometry.{pathOf, nowhere}
-use Rattle.maps.specs.Layers.{layersOf, esindOf, groundOf}
-use Rattle.maps.specs.Ionosphere.{gammasAt}
-use Rattle.maps.specs.Figures.{hourOf, headOf, numbersOf, pointRow, sheetPath, figuresOf}
-use Rattle.results.proofs.path.Longitudes.{Typed}
-use Rattle.results.proofs.finite.FinitePath.{FinitePoint, FinitePath, points-located, path-finite}
+use Rattle.maps.specs.Layers.{monthlyOf}
+use Rattle.maps.specs.Figures.{SheetHour, hourFrom, hourOf, headOf, numbersOf, pointRow, sheetPath, figuresOf}
+use Rattle.results.proofs.path.Longitudes.{Typed, point-longitude}
+use Rattle.results.proofs.path.PointRows.{most}
+use Rattle.results.proofs.finite.FinitePath.{FinitePoint, FiniteHead, points-located, points-finite, path-finite, latitude-there}
 use Rattle.results.proofs.finite.FiniteField.{FiniteMagnetic, gyrofrequency-sized}
 use Rattle.results.proofs.finite.MagneticFinite.{gmdip-sized, points-magnetic}
-use Rattle.results.proofs.finite.FiniteMaps.{Bounded}
-use Rattle.results.proofs.finite.FiniteLayers.{Fields, Placed, EsFinite, ground-finite}
-use Rattle.results.proofs.finite.FiniteFigures.{LayersFinite, Ordinary, point-es, point-layers}
+use Rattle.results.proofs.finite.FiniteLayers.{
+  Fields,
+  Placed,
+  EsFinite,
+  cosineOf,
+  ground-finite,
+  e-height,
+  beyond-none as beyond-none-at,
+  none-beyond as none-beyond-at,
+}
+use Rattle.results.proofs.finite.FiniteFigures.{point-mapped as mapped-at, point-es, point-layers}
 use Rattle.results.proofs.sheet.FigurePlaces.{head-at, present-at}
 
+-- ---- ranges as tests
+
+typed : (latd lond : Degrees) → PlaceInRange latd lond → Typed latd lond
+unfolding decimal minusDecimal round
+typed latd lond h = record {
+  latitude = range-between (minusDecimal 90 0) (decimal 90 0) (latd .0) (h .latitude);
+  longitude = range-between (minusDecimal 180 0) (decimal 180 0) (lond .0) (h .longitude);
+}
+
+hour-in : (i : Inputs) → HourInRange i → Hour (i .gmt)
+unfolding decimal round
+hour-in i h = range-between (decimal 0 1) (decimal 24 0) (i .gmt) h
+
+fields-in : (i : Inputs) → FieldsInRange i → Fields (i .ssn) (i .gmt) (i .psc)
+unfolding decimal round
+fields-in i h = record {
+  hour = hour-in i (h .hour);
+  sunspots = range-between (decimal 0 1) (decimal 300 0) (i .ssn) (h .sunspots);
+  e = range-between (decimal 125 3) (decimal 8 0) (i .psc .e) (h .e);
+  f1 = range-between (decimal 125 3) (decimal 8 0) (i .psc .f1) (h .f1);
+  f2 = range-between (decimal 125 3) (decimal 8 0) (i .psc .f2) (h .f2);
+  es = range-between (decimal 125 3) (decimal 8 0) (i .psc .es) (h .es);
+}
+
+up-to-finite : (n : ℕ) (x : Float) → UpToPower n x → T (finite x)
+up-to-finite n x h = abs-finite x (fin false 1 (pos n)) tt h
+
+ranged-finite : (lo hi x : Float) → T (finite lo) → T (finite hi) → T (isTo lo hi x) → T (finite x)
+ranged-finite lo hi x a b t = finite-between lo x hi a b (and-l (le lo x) (le x hi) t) (and-r (le lo x) (le x hi) t)
+
+-- ---- lists of finite numbers
 abbrev Finite : List Float → Type 0
 Finite [] = Unit
 Finite (x ∷ xs) = T (finite x) × Finite xs
@@ -46,48 +109,64 @@ finite-at [] h k b = absurd (not-suc-le-zero b)
 finite-at (x ∷ xs) h zero b = h .0
 finite-at (x ∷ xs) h (suc k) b = finite-at xs (h .1) k (le-of-suc-le-suc b)
 
-head-finite : (g : PathGeometry) → FinitePath g → Finite (headOf g)
+six-finite : (g : PathGeometry) → FiniteHead g → Finite (headOf g)
 unfolding headOf
-head-finite g p = (p .gcd, (p .«gcd_km», (p .btr, (p .brt, (p .rlatd, (p .alatd, tt))))))
+six-finite g p = (p .gcd, (p .«gcd_km», (p .btr, (p .brt, (p .rlatd, (p .alatd, tt))))))
 
--- route and pole of a sheet are in range
-pub record InRange (i : Inputs) : Type 0 where
-  pub transmitter : Typed (i .route .tlat) (i .route .tlong)
-  pub receiver : Typed (i .route .rlat) (i .route .rlong)
-  pub pole : Typed (i .pole .lat) (i .pole .lon)
+abbrev longWay : Inputs → Bool
+longWay i = isLong (i .route .«long_path»)
 
--- the point p of a sheet, counted from 1, and the field there
-abbrev pub spot : Inputs → ℕ → ControlPoint
-spot i p = getD (sheetPath i .points) (p - 1) nowhere
+at-most : (i : Inputs) (p : ℕ) → PointThere i p → p - 1 < 5
+unfolding sheetPath
+at-most i p t =
+    let a = t .first in
+    let b = t .last in
+    let m = most (i .route .tlat) (i .route .tlong) (i .route .rlat) (i .route .rlong) (longWay i) (i .pole) in
+    omega arith
 
-abbrev pub fieldAt : Inputs → ℕ → MagneticVars
-fieldAt i p = magvarOf (spot i p .lat) (spot i p .lon)
+module _ (i : Inputs) (r : EndsInRange i) where
+  tx : Typed (i .route .tlat) (i .route .tlong)
+  tx = typed _ _ (r .transmitter)
 
-module _ (i : Inputs) (r : InRange i) where
+  rx : Typed (i .route .rlat) (i .route .rlong)
+  rx = typed _ _ (r .receiver)
+
   -- NO NaN ON THE PATH: its six figures, of any files
   pub sheet-path-finite : (f2 file : List ℕ) (k : ℕ) → k < 6 → T (finite (getD (figuresOf f2 file i) k nan))
   unfolding sheetPath headOf
   sheet-path-finite f2 file k b =
       subst (λ (x : Float). T (finite x)) (sym (head-at f2 file i k b))
-      (finite-at (headOf (sheetPath i)) (head-finite (sheetPath i) (path-finite _ _ _ _ (r .transmitter) (r .receiver) (isLong (i .route .«long_path»)) (i .pole) (r .pole))) k b)
+      (finite-at (headOf (sheetPath i))
+      (six-finite (sheetPath i) (path-finite _ _ _ _ tx rx (longWay i) (i .pole)))
+      k b)
 
-  module _ (p : ℕ) (l : 1 ≤ p) (m : p ≤ 5) where
-    at-most : p - 1 < 5
-    at-most = omega arith
-
-    point-finite : FinitePoint (spot i p)
+  module _ (p : ℕ) (t : PointThere i p) where
+    lat-there : Sized (fin false 1 (pos 5)) (sheetPoint i p .lat .0)
     unfolding sheetPath
-    point-finite = path-finite _ _ _ _ (r .transmitter) (r .receiver) (isLong (i .route .«long_path»)) (i .pole) (r .pole) .points (p - 1) at-most
+    lat-there = latitude-there _ _ _ _ tx rx (longWay i) (i .pole) (p - 1) (at-most i p t)
 
-    field-finite : FiniteMagnetic (fieldAt i p)
+    lon-there : Longitude (sheetPoint i p .lon .0)
     unfolding sheetPath
-    field-finite = points-magnetic _ _ _ _ (r .transmitter) (r .receiver) (isLong (i .route .«long_path»)) (i .pole) (r .pole) (p - 1) at-most
+    lon-there = point-longitude _ _ _ _ tx rx (longWay i) (i .pole) (p - 1) (at-most i p t)
+
+module _ (i : Inputs) (r : RouteInRange i) where
+  pole-in : Typed (i .pole .lat) (i .pole .lon)
+  pole-in = typed _ _ (r .pole)
+
+  module _ (p : ℕ) (t : PointThere i p) where
+    point-finite : FinitePoint (sheetPoint i p)
+    unfolding sheetPath
+    point-finite = points-finite _ _ _ _ (tx i (r .ends)) (rx i (r .ends)) (longWay i) (i .pole) pole-in (p - 1) (at-most i p t)
+
+    field-finite : FiniteMagnetic (sheetField i p)
+    unfolding sheetPath
+    field-finite = points-magnetic _ _ _ _ (tx i (r .ends)) (rx i (r .ends)) (longWay i) (i .pole) pole-in (p - 1) (at-most i p t)
 
     -- what `FiniteFigures` asks of a point
-    pub point-placed : Placed (spot i p) (fieldAt i p)
+    point-placed : Placed (sheetPoint i p) (sheetField i p)
     unfolding sheetPath le
     point-placed =
-        let w = points-located _ _ _ _ (r .transmitter) (r .receiver) (isLong (i .route .«long_path»)) (i .pole) (r .pole) (p - 1) at-most in
+        let w = points-located _ _ _ _ (tx i (r .ends)) (rx i (r .ends)) (longWay i) (i .pole) pole-in (p - 1) (at-most i p t) in
         record {
           lat = w .lat;
           lon = w .lon;
@@ -97,21 +176,35 @@ module _ (i : Inputs) (r : InRange i) where
         }
 
 module _ (f2 file : List ℕ) (i : Inputs) (p : ℕ) where
-  abbrev gammas : Gammas
-  gammas = gammasAt (hourOf f2 file i .ab) (hourOf f2 file i .index) (spot i p .lat) (spot i p .lon) (fieldAt i p)
+  abbrev h : SheetHour
+  h = hourOf f2 file i
 
-  -- the layers of the point p
-  abbrev layers : LayerParams
-  layers = layersOf (hourOf f2 file i .monthly) (i .ssn) (i .gmt) (i .psc) (hourOf f2 file i .hmym) (spot i p) (fieldAt i p) gammas
+  -- the names of a row in their places
+  pub point-numbers : (k : ℕ) → PointThere i p → k < 29
+      → pointNumber f2 file i p k ≡ getD (sheetRow f2 file i p) k nan
+  unfolding pointRow
+  point-numbers k t b = present-at f2 file i p k (t .first) (t .last) b
 
-  -- nothing has come out beyond what the layers' laws hold for
-  abbrev pub OrdinaryAt : Type 0
-  OrdinaryAt = Ordinary (hourOf f2 file i .monthly) (i .gmt) (spot i p) gammas layers
+  -- the cosine of the layers is that of the month
+  cosine-is : cosineOf (hourOf f2 file i .monthly) (i .gmt) (sheetPoint i p) ≡ sheetCosine i p
+  unfolding hourOf hourFrom monthlyOf
+  cosine-is = refl
 
-  row-finite : FinitePoint (spot i p) → FiniteMagnetic (fieldAt i p) → LayersFinite layers → EsFinite (esindOf gammas (i .psc .es)) → Finite (pointRow (hourOf f2 file i) i (spot i p))
-  unfolding pointRow numbersOf
-  row-finite a b c d =
-      let g = ground-finite (hourOf f2 file i .monthly) (hourOf f2 file i .fakmap) (spot i p .lat) (fieldAt i p .«east_lon») in (
+  constants :
+      T (finite (getD (sheetLayers f2 file i p .yi) 0 nan)) × T (finite (getD (sheetLayers f2 file i p .hi) 0 nan))
+  unfolding decimal round
+  constants =
+      let k =
+      e-height (h .monthly) (i .ssn) (i .gmt) (i .psc) (h .hmym) (sheetPoint i p) (sheetField i p) (sheetMaps f2 file i p) in
+      (subst (λ (x : Float). T (finite x)) (sym (k .0)) tt, subst (λ (x : Float). T (finite x)) (sym (k .1)) tt)
+
+  row-finite :
+      FinitePoint (sheetPoint i p) → FiniteMagnetic (sheetField i p) →
+      LayerFigures (sheetCosine i p) (sheetLayers f2 file i p) → Ordinary (sheetCosine i p) (sheetLayers f2 file i p) →
+      EsFinite (sheetEs f2 file i p) → Finite (pointRow h i (sheetPoint i p))
+  unfolding pointRow numbersOf decimal round
+  row-finite a b c o d =
+      let g = ground-finite (h .monthly) (h .fakmap) (sheetPoint i p .lat) (sheetField i p .«east_lon») in (
         a .rd,
         (
           a .lat,
@@ -126,37 +219,37 @@ module _ (f2 file : List ℕ) (i : Inputs) (p : ℕ) where
                   (
                     b .«east_lon»,
                     (
-                      c .fi0,
+                      ranged-finite (fin false 1 (negsuc 4)) (fin false 1 (pos 53)) _ tt tt (c .fi0),
                       (
-                        c .fi1,
+                        up-to-finite 55 _ (c .fi1),
                         (
-                          c .fi2,
+                          up-to-finite 54 _ (c .fi2),
                           (
-                            c .yi0,
+                            constants .0,
                             (
-                              c .yi1,
+                              up-to-finite 126 _ (c .yi1 (o .f2m3) (o .f1)),
                               (
-                                c .yi2,
+                                up-to-finite 126 _ (c .yi2 (o .cosine) (o .f2m3) (o .f1)),
                                 (
-                                  c .hi0,
+                                  constants .1,
                                   (
-                                    c .hi1,
+                                    up-to-finite 126 _ (c .hi1 (o .f2m3) (o .f1)),
                                     (
-                                      c .hi2,
+                                      up-to-finite 126 _ (c .hi2 (o .f2m3) (o .f1)),
                                       (
-                                        c .f2m3,
+                                        up-to-finite 50 _ (c .f2m3),
                                         (
-                                          c .hpf2,
+                                          up-to-finite 71 _ (c .hpf2 (o .f2m3)),
                                           (
-                                            c .rat,
+                                            ranged-finite (fin false 1 (pos 0)) (fin false 1 (pos 111)) _ tt tt (c .rat (o .cosine)),
                                             (
-                                              c .abiy,
+                                              up-to-finite 125 _ (c .abiy (o .e)),
                                               (
                                                 c .clck,
                                                 (
-                                                  c .zenang,
+                                                  ranged-finite (decimal 0 1) (decimal 2300 1) _ tt tt (c .zenang (o .cosine)),
                                                   (
-                                                    c .zenmax,
+                                                    up-to-finite 27 _ (c .zenmax),
                                                     (d .fs0, (d .fs1, (d .fs2, (d .hs, (g .0, (g .1, tt)))))),
                                                   ),
                                                 ),
@@ -182,22 +275,37 @@ module _ (f2 file : List ℕ) (i : Inputs) (p : ℕ) where
         ),
       )
 
-  module _ (r : InRange i) (l : 1 ≤ p) (c : p ≤ sheetPath i .count) (m : p ≤ 5) where
+  module _ (t : PointThere i p) where
+    -- the ground pair, of any inputs and files
+    pub sheet-ground-finite : (k : ℕ) → k < 2 → T (finite (pointNumber f2 file i p (27 + k)))
+    unfolding numbersOf
+    sheet-ground-finite k b =
+        subst (λ (x : Float). T (finite x)) (sym (point-numbers (27 + k) t (omega arith)))
+        (two k b)
+      where
+        g : T (finite (sheetGround f2 file i p .0)) × T (finite (sheetGround f2 file i p .1))
+        g = ground-finite (h .monthly) (h .fakmap) (sheetPoint i p .lat) (sheetField i p .«east_lon»)
+
+        two : (k : ℕ) → k < 2 → T (finite (getD (sheetRow f2 file i p) (27 + k) nan))
+        two zero h = g .0
+        two (suc zero) h = g .1
+        two (suc (suc k)) h = absurd (omega arith)
+
     -- NO NaN ON THE PATH: the seven numbers of each point that is there and of the field there, of
     -- any files
-    pub sheet-point-finite : (k : ℕ) → k < 7 → T (finite (getD (figuresOf f2 file i) (6 + 29 * (p - 1) + k) nan))
-    unfolding pointRow numbersOf
-    sheet-point-finite k b =
-        subst (λ (x : Float). T (finite x)) (sym (present-at f2 file i p k l c (omega arith)))
+    pub sheet-point-finite : RouteInRange i → (k : ℕ) → k < 7 → T (finite (pointNumber f2 file i p k))
+    unfolding numbersOf
+    sheet-point-finite r k b =
+        subst (λ (x : Float). T (finite x)) (sym (point-numbers k t (omega arith)))
         (seven k b)
       where
-        a : FinitePoint (spot i p)
-        a = point-finite i r p l m
+        a : FinitePoint (sheetPoint i p)
+        a = point-finite i r p t
 
-        f : FiniteMagnetic (fieldAt i p)
-        f = field-finite i r p l m
+        f : FiniteMagnetic (sheetField i p)
+        f = field-finite i r p t
 
-        seven : (k : ℕ) → k < 7 → T (finite (getD (pointRow (hourOf f2 file i) i (spot i p)) k nan))
+        seven : (k : ℕ) → k < 7 → T (finite (getD (sheetRow f2 file i p) k nan))
         seven zero h = a .rd
         seven (suc zero) h = a .lat
         seven (suc (suc zero)) h = a .lon
@@ -207,49 +315,75 @@ module _ (f2 file : List ℕ) (i : Inputs) (p : ℕ) where
         seven (suc (suc (suc (suc (suc (suc zero)))))) h = f .«east_lon»
         seven (suc (suc (suc (suc (suc (suc (suc k))))))) h = absurd (omega arith)
 
-    -- the ground pair, of any files
-    pub sheet-ground-finite : (k : ℕ) → k < 2 → T (finite (getD (figuresOf f2 file i) (6 + 29 * (p - 1) + (27 + k)) nan))
-    unfolding pointRow numbersOf
-    sheet-ground-finite k b =
-        subst (λ (x : Float). T (finite x)) (sym (present-at f2 file i p (27 + k) l c (omega arith)))
-        (two k b)
-      where
-        g : T (finite (groundOf (hourOf f2 file i .monthly) (hourOf f2 file i .fakmap) (spot i p .lat) (fieldAt i p .«east_lon») .0)) × T (finite (groundOf (hourOf f2 file i .monthly) (hourOf f2 file i .fakmap) (spot i p .lat) (fieldAt i p .«east_lon») .1))
-        g = ground-finite (hourOf f2 file i .monthly) (hourOf f2 file i .fakmap) (spot i p .lat) (fieldAt i p .«east_lon»)
+    -- NO ZENITH ANGLE exactly where the cosine came out beyond 1 in size, of any files
+    module _ (r : EndsInRange i) (f : HourInRange i) (month : T (isMonth (i .month))) where
+      months : (1 ≤ i .month) × (i .month ≤ 12)
+      months =
+          let a = leb 1 (i .month) in
+          let b = leb (i .month) 12 in
+          (leb→le 1 (i .month) (and-l a b month), leb→le (i .month) 12 (and-r a b month))
 
-        two : (k : ℕ) → k < 2 → T (finite (getD (pointRow (hourOf f2 file i) i (spot i p)) (27 + k) nan))
-        two zero h = g .0
-        two (suc zero) h = g .1
-        two (suc (suc k)) h = absurd (omega arith)
+      pub beyond-none : T (lt (fraction 1 1) (absOf (sheetCosine i p))) → sheetLayers f2 file i p .zenang .0 ≡ nan
+      unfolding hourOf hourFrom monthlyOf
+      beyond-none e =
+          beyond-none-at file (i .month) (i .ssn) (i .gmt) (i .psc) (h .hmym) (sheetPoint i p) (sheetField i p)
+          (sheetMaps f2 file i p) (months .0) (months .1) (hour-in i f) (lat-there i r p t) (lon-there i r p t) e
 
-    -- sporadic E, where the fields are in range, the index check passed and the files' words are
-    -- bounded
-    pub sheet-es-finite :
-        Fields (i .ssn) (i .gmt) (i .psc) → Bounded f2 file → indexCheck file ≡ Accepted →
-        (k : ℕ) → k < 4 → T (finite (getD (figuresOf f2 file i) (6 + 29 * (p - 1) + (23 + k)) nan))
-    unfolding pointRow numbersOf
-    sheet-es-finite F held passed k b =
-        subst (λ (x : Float). T (finite x)) (sym (present-at f2 file i p (23 + k) l c (omega arith)))
-        (four k b)
-      where
-        e : EsFinite (esindOf gammas (i .psc .es))
-        e = point-es f2 file i held passed F (spot i p) (point-placed i r p l m)
+      pub none-beyond : sheetLayers f2 file i p .zenang .0 ≡ nan → T (lt (fraction 1 1) (absOf (sheetCosine i p)))
+      unfolding hourOf hourFrom monthlyOf
+      none-beyond e =
+          none-beyond-at file (i .month) (i .ssn) (i .gmt) (i .psc) (h .hmym) (sheetPoint i p) (sheetField i p)
+          (sheetMaps f2 file i p) (months .0) (months .1) (hour-in i f) (lat-there i r p t) (lon-there i r p t) e
 
-        four : (k : ℕ) → k < 4 → T (finite (getD (pointRow (hourOf f2 file i) i (spot i p)) (23 + k) nan))
-        four zero h = e .fs0
-        four (suc zero) h = e .fs1
-        four (suc (suc zero)) h = e .fs2
-        four (suc (suc (suc zero))) h = e .hs
-        four (suc (suc (suc (suc k)))) h = absurd (omega arith)
+    -- ---- of a sound sheet
+    module _ (s : SoundSheet f2 file i) where
+      placed : Placed (sheetPoint i p) (sheetField i p)
+      placed = point-placed i (s .route) p t
 
-    -- ALL 29 NUMBERS of an ordinary point, where the fields are in range, the index check passed
-    -- and the files' words are bounded
-    pub sheet-finite :
-        Fields (i .ssn) (i .gmt) (i .psc) → Bounded f2 file → indexCheck file ≡ Accepted → OrdinaryAt →
-        (k : ℕ) → k < 29 → T (finite (getD (figuresOf f2 file i) (6 + 29 * (p - 1) + k) nan))
-    sheet-finite F held passed o k b =
-        let q = point-placed i r p l m in
-        subst (λ (x : Float). T (finite x)) (sym (present-at f2 file i p k l c b))
-        (finite-at (pointRow (hourOf f2 file i) i (spot i p))
-        (row-finite (point-finite i r p l m) (field-finite i r p l m) (point-layers f2 file i held passed F (spot i p) q o) (point-es f2 file i held passed F (spot i p) q))
-        k (unfold pointRow numbersOf in b))
+      fields : Fields (i .ssn) (i .gmt) (i .psc)
+      fields = fields-in i (s .fields)
+
+      pub point-mapped : MapsBounded (sheetMaps f2 file i p)
+      point-mapped =
+          let g = mapped-at f2 file i (s .bounded) (s .index) fields (sheetPoint i p) placed in
+          record {
+            g1 = g .g1 .size;
+            g2 = g .g2 .size;
+            g3 = g .g3 .size;
+            g4 = g .g4 .size;
+            g5 = g .g5 .size;
+            g6 = g .g6 .size;
+          }
+
+      es-finite : EsFinite (sheetEs f2 file i p)
+      es-finite = point-es f2 file i (s .bounded) (s .index) fields (sheetPoint i p) placed
+
+      -- sporadic E
+      pub sheet-es-finite : (k : ℕ) → k < 4 → T (finite (pointNumber f2 file i p (23 + k)))
+      unfolding numbersOf
+      sheet-es-finite k b =
+          subst (λ (x : Float). T (finite x)) (sym (point-numbers (23 + k) t (omega arith)))
+          (four k b)
+        where
+          four : (k : ℕ) → k < 4 → T (finite (getD (sheetRow f2 file i p) (23 + k) nan))
+          four zero h = es-finite .fs0
+          four (suc zero) h = es-finite .fs1
+          four (suc (suc zero)) h = es-finite .fs2
+          four (suc (suc (suc zero))) h = es-finite .hs
+          four (suc (suc (suc (suc k)))) h = absurd (omega arith)
+
+      -- each figure of the layers
+      pub sheet-layers : LayerFigures (sheetCosine i p) (sheetLayers f2 file i p)
+      sheet-layers =
+          subst (λ (c : Float). LayerFigures c (sheetLayers f2 file i p)) cosine-is
+          (point-layers f2 file i (s .bounded) (s .index) fields (sheetPoint i p) placed)
+
+      -- ALL 29 NUMBERS of an ordinary point
+      pub sheet-finite :
+          Ordinary (sheetCosine i p) (sheetLayers f2 file i p) →
+          (k : ℕ) → k < 29 → T (finite (pointNumber f2 file i p k))
+      sheet-finite o k b =
+          subst (λ (x : Float). T (finite x)) (sym (present-at f2 file i p k (t .first) (t .last) b))
+          (finite-at (pointRow h i (sheetPoint i p))
+          (row-finite (point-finite i (s .route) p t) (field-finite i (s .route) p t) sheet-layers o es-finite)
+          k (unfold pointRow numbersOf in b))

@@ -36,22 +36,9 @@ use Rattle.maps.specs.declared.inputs.Inputs.{Inputs}
 use Rattle.maps.specs.Magnetic.{magvarOf}
 use Rattle.maps.specs.Ionosphere.{gammasAt}
 use Rattle.maps.specs.Figures.{numbersOf, pointRow, hourFrom, hourOf}
+use Rattle.results.specs.FiniteOrNot.{NoSun}
 use Rattle.maps.specs.Noisy.{turnOf, inPlane, columnOf, zzOf, latitudeSum, noisySum, noisyOf}
 use Rattle.maps.specs.Layers.{SUN, sun, sunOf, monthlyOf, sspOf, sslOf, zenithOf, timvarOf, f1Layer, ef1Of, ratOf, eRetardation, belowF2, retardedOf, layersOf}
-
--- ---- what holds of the layers then
-
-pub record NoSun (l : LayerParams) : Type 0 where
-  -- no zenith angle, no height ratio, and so no semithickness of F2
-  pub zenang : l .zenang .0 ≡ nan
-  pub rat : l .rat ≡ nan
-  pub yi2 : getD (l .yi) 2 nan ≡ nan
-  -- no F1 layer: its frequency is 0.0, or that of F2 less 0.2 where this is below, and so never
-  -- above 0; its semithickness and height are 0.0
-  pub fi1 : getD (l .fi) 1 nan ≡ minOf (decimal 0 1) (getD (l .fi) 2 nan ⊖ decimal 2 1)
-  pub none : lt (decimal 0 1) (getD (l .fi) 1 nan) ≡ false
-  pub yi1 : getD (l .yi) 1 nan ≡ decimal 0 1
-  pub hi1 : getD (l .hi) 1 nan ≡ decimal 0 1
 
 -- ---- the month
 

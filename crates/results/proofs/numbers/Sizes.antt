@@ -5,8 +5,10 @@ use mathlib.Core.List.{[], _∷_}
 use lib.Dec.{T}
 use lib.Ieee.{Float, binary32, neg, le, isNan}
 use lib.Ieee.Scale.{finite}
+use lib.Ieee.Fits.{and-i, and-l, and-r}
 use Rattle.base.specs.Single.{_⊕_, _⊖_, _⊗_}
 use Rattle.base.specs.Number.{absOf}
+use Rattle.base.specs.Ranges.{isTo}
 use Rattle.base.proofs.order.Order.{Between, trans-le, le→abs, abs-no-nan}
 use Rattle.base.proofs.order.Monotone.{add-size, sub-size, mul-size, abs-finite}
 use Rattle.base.proofs.order.Intervals.{every, all}
@@ -27,6 +29,13 @@ module _ {a b x y : Float} (c : Float) where
 
 pub between-sized : {lo hi x : Float} (a : Float) → T (every (le (neg a) lo ∷ le hi a ∷ [])) → Between lo hi x → Sized a x
 between-sized {lo} {hi} {x} a t b = let w = all (le (neg a) lo ∷ le hi a ∷ []) t in record { size = le→abs x a (trans-le (neg a) lo x (w .0) (b .low)) (trans-le x hi a (b .high) (w .1 .0)) }
+
+-- the same range as a test
+pub range-between : (lo hi x : Float) → T (isTo lo hi x) → Between lo hi x
+range-between lo hi x t = record { low = and-l (le lo x) (le x hi) t; high = and-r (le lo x) (le x hi) t }
+
+pub between-range : {lo hi x : Float} → Between lo hi x → T (isTo lo hi x)
+between-range {lo} {hi} {x} b = and-i (le lo x) (le x hi) (b .low) (b .high)
 
 pub larger : {a x : Float} (c : Float) → T (le a c) → Sized a x → Sized c x
 larger {a} {x} c t h = record { size = trans-le (absOf x) a c (h .size) t }
