@@ -7,3 +7,5 @@ pub mod series
 pub mod clock
 pub mod finite
 pub mod sheet
+pub mod Insurer
+pub mod CancelledEdits

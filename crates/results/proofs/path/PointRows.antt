@@ -19,6 +19,7 @@ use Rattle.maps.specs.declared.geometry.PathGeometry.{PathGeometry}
 use Rattle.maps.specs.declared.geometry.Place.{Place}
 use Rattle.maps.specs.declared.geometry.Track.{Track}
 use Rattle.maps.specs.Geometry.{EPSLON, placeOf, downMeridian, onCircle, sampleOf, polePlace, gmlatOf, geomagneticOf, pointOf, absent, controlPointIf, controlRow, rowsOf, distancesOf, pathOf, nowhere, latAt, meanLatitude, alatdOf}
+use Rattle.results.specs.SamePaths.{SamePlace, SamePath}
 use Rattle.results.proofs.path.PointCounts.{CountRule, one, three, five, count-rule}
 
 -- ---- five rows, by number
@@ -94,20 +95,6 @@ module _ (tlat tlong rlat rlong : Degrees) (long : Bool) (pole : MagneticPole) w
       (point-gmlat _ pole _)
 
 -- ---- the pole enters `gmlat` only
-pub record SamePlace (a b : ControlPoint) : Type 0 where
-  pub rd : a .rd ≡ b .rd
-  pub lat : a .lat ≡ b .lat
-  pub lon : a .lon ≡ b .lon
-
-pub record SamePath (g h : PathGeometry) : Type 0 where
-  pub gcd : g .gcd ≡ h .gcd
-  pub «gcd_km» : g .«gcd_km» ≡ h .«gcd_km»
-  pub btr : g .btr ≡ h .btr
-  pub brt : g .brt ≡ h .brt
-  pub rlatd : g .rlatd ≡ h .rlatd
-  pub count : g .count ≡ h .count
-  pub points : (i : ℕ) → SamePlace (getD (g .points) i nowhere) (getD (h .points) i nowhere)
-
 row-same : (t : Track) (p q : Place) (d : Float) (b : Bool) → SamePlace (controlPointIf t p d b) (controlPointIf t q d b)
 unfolding controlPointIf pointOf
 row-same t p q d true = record { rd = refl; lat = refl; lon = refl }
