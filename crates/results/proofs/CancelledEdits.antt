@@ -9,7 +9,7 @@ use Rattle.jutetrowel.specs.Words.{worksheetOf}
 use Rattle.jutetrowel.proofs.lists.Carried as Carried
 use Rattle.jutetrowel.proofs.crossing.Unopened as Unopened
 use Rattle.results.specs.CancelledEdits.{DemandThree, DemandThreeOver, DemandThreeLent, DemandThreeOverLent, KeptInOrder, JustBefore, NothingElse, RefusedBuffer, OpenRefused, SheetRefused}
-use Rattle.results.proofs.Insurer.{at-rest}
+use Rattle.results.proofs.sheet.ClosedDesks.{at-rest}
 
 pub demand-3 : DemandThree
 demand-3 = Rules.demand-3

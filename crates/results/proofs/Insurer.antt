@@ -1,28 +1,14 @@
 -- The insurer's question: each statement of specs/Insurer.antt, from where the work is done.
 -- Assumes nothing.
-use mathlib.Core.Path.{_≡_, sym}
-use Rattle.worksheet.specs.declared.desks.Worksheet.{Worksheet}
-use Rattle.worksheet.proofs.drafts.Drafts.{atRest}
 use Rattle.worksheet.proofs.force.Insured as Line
 use Rattle.worksheet.proofs.force.Lasting as Lasting
 use Rattle.worksheet.proofs.force.Unbroken as Unbroken
 use Rattle.jutetrowel.specs.Words.{worksheetOf}
 use Rattle.jutetrowel.proofs.lists.InsuredOver as Over
-use Rattle.results.specs.Insurer.{DesksClosed, InsurersSentence, InsurersSentenceOpened, FirstShowing, ShowingsExist, InsurersSentenceLent, InsurersSentenceOver, ChangeNeverCancelled, ChangeNeverCancelledOver, CommitSource, ChangeSource, UndisturbedDraft, InsurersLine, InsurersLineLent, InsurersLineOver, OpenedInForce, InputsInForce, InForceOver, BegunInForce, CommitsExactly, InForceExactly, OpenedExactly}
+use Rattle.results.specs.Insurer.{InsurersSentence, InsurersSentenceOpened, FirstShowing, ShowingsExist, InsurersSentenceLent, InsurersSentenceOver, ChangeNeverCancelled, ChangeNeverCancelledOver, CommitSource, ChangeSource, UndisturbedDraft, InsurersLine, InsurersLineLent, InsurersLineOver, OpenedInForce, InputsInForce, InForceOver, BegunInForce, CommitsExactly, InForceExactly, OpenedExactly}
 use Rattle.results.proofs.files.GoodFiles.{goodRecord, goodMonthFile, files-accepted}
 use Rattle.results.proofs.sheet.GoodShowing as Showing
-
--- closed desks, as the laws about lists take them
-pub at-rest : (w : Worksheet) → DesksClosed w → atRest w ≡ w
-at-rest w h =
-    λ t. record {
-      inputs = w .inputs;
-      earlier = w .earlier;
-      d1 = sym (h .d1) t;
-      d2 = sym (h .d2) t;
-      d3 = sym (h .d3) t;
-      d4 = sym (h .d4) t;
-    }
+use Rattle.results.proofs.sheet.ClosedDesks.{at-rest}
 
 pub insurers-sentence : InsurersSentence
 insurers-sentence = Unbroken.insurers-sentence

@@ -9,3 +9,5 @@ pub mod finite
 pub mod sheet
 pub mod Insurer
 pub mod CancelledEdits
+pub mod FigureSources
+pub mod Crossing

@@ -4,4 +4,5 @@ pub mod GoodSheet
 pub mod Ignored
 pub mod KnownPoints
 pub mod GoodShowing
+pub mod ClosedDesks
 pub mod ShownClocks

@@ -77,9 +77,9 @@ FirstShowing =
 abbrev pub ShowingsExist : Type 0
 ShowingsExist =
     (f2 : List ℕ) × ((file : List ℕ) × (
-      (i : Inputs) → openOf i .answer ≡ Accepted → (lent : List Float) → length lent ≡ 151 →
-      step (pair f2 file) (show 0 lent) (openOf i .sheet) .answer
-      ≡ shown (Points (sheetPath i .count)) (figuresOf f2 file i)))
+    (i : Inputs) → openOf i .answer ≡ Accepted → (lent : List Float) → length lent ≡ 151 →
+    step (pair f2 file) (show 0 lent) (openOf i .sheet) .answer
+    ≡ shown (Points (sheetPath i .count)) (figuresOf f2 file i)))
 
 -- ---- the same from other starts: a worksheet that may have an earlier set, any source of files
 

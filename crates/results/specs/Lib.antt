@@ -3,3 +3,5 @@ pub mod LaterBytes
 pub mod SamePaths
 pub mod Insurer
 pub mod CancelledEdits
+pub mod FigureSources
+pub mod Crossing
