@@ -5,9 +5,9 @@ use Rattle.worksheet.proofs.force.Lasting as Lasting
 use Rattle.worksheet.proofs.force.Unbroken as Unbroken
 use Rattle.jutetrowel.specs.Words.{worksheetOf}
 use Rattle.jutetrowel.proofs.lists.InsuredOver as Over
-use Rattle.results.specs.Insurer.{InsurersSentence, InsurersSentenceOpened, FirstShowing, ShowingsExist, InsurersSentenceLent, InsurersSentenceOver, ChangeNeverCancelled, ChangeNeverCancelledOver, CommitSource, ChangeSource, UndisturbedDraft, InsurersLine, InsurersLineLent, InsurersLineOver, OpenedInForce, InputsInForce, InForceOver, BegunInForce, CommitsExactly, InForceExactly, OpenedExactly}
+use Rattle.results.specs.Insurer.{InsurersSentence, InsurersSentenceOpened, StayInRange, AlwaysShown, FirstShowing, ShowingsExist, InsurersSentenceLent, InsurersSentenceOver, ChangeNeverCancelled, ChangeNeverCancelledOver, CommitSource, ChangeSource, UndisturbedDraft, InsurersLine, InsurersLineLent, InsurersLineOver, OpenedInForce, InputsInForce, InForceOver, BegunInForce, CommitsExactly, InForceExactly, OpenedExactly}
 use Rattle.results.proofs.files.GoodFiles.{goodRecord, goodMonthFile, files-accepted}
-use Rattle.results.proofs.sheet.GoodShowing as Showing
+use Rattle.results.proofs.sheet.AlwaysShown as Shown
 use Rattle.results.proofs.sheet.ClosedDesks.{at-rest}
 
 pub insurers-sentence : InsurersSentence
@@ -16,11 +16,17 @@ insurers-sentence = Unbroken.insurers-sentence
 pub insurers-sentence-opened : InsurersSentenceOpened
 insurers-sentence-opened = Over.insurers-sentence-opened
 
+pub stay-in-range : StayInRange
+stay-in-range = Shown.stay-in-range
+
+pub always-shown : AlwaysShown
+always-shown = Shown.always-shown
+
 pub first-showing : FirstShowing
-first-showing = Showing.first-showing
+first-showing = Shown.first-showing
 
 pub showings-exist : ShowingsExist
-showings-exist = (goodRecord, (goodMonthFile, first-showing goodRecord goodMonthFile files-accepted))
+showings-exist = (goodRecord, (goodMonthFile, Shown.first-showing goodRecord goodMonthFile files-accepted))
 
 pub insurers-sentence-lent : InsurersSentenceLent
 insurers-sentence-lent source w h = Unbroken.insurers-sentence-lent source w (at-rest w h)

@@ -20,8 +20,8 @@ use Rattle.maps.specs.Figures.{hourOf, headOf, pointRow, figureRow, sheetPath, 
 use Rattle.results.specs.LaterBytes.{Alike}
 use Rattle.results.specs.SamePaths.{SamePath, SameEnd, SamePole, SameWork}
 
--- ---- DEMAND 2: 'Blank figures, the same figures each time or a buffer left as lent fail demand 2'.
--- Accepted, the whole buffer is written
+-- ---- DEMAND 2: 'Blank figures, the same figures each time or a buffer left as lent fail'; accepted,
+-- the whole buffer is written
 
 -- Where the files pass their checks, the buffer is the figures, whatever it held
 abbrev pub AllOverwritten : Type 0
@@ -76,8 +76,8 @@ LaterMonthFigures = (s t : List ℕ) → Alike 38552 s t → (f : List ℕ) (i :
 abbrev pub LaterMonthAnswer : Type 0
 LaterMonthAnswer = (s t : List ℕ) → Alike 38552 s t → (f : List ℕ) (i : Inputs) → shownOf f s i ≡ shownOf f t i
 
--- ---- DEMAND 2: 'First `gcd`, `gcd_km`, `btr`, `brt`, `rlatd`, `alatd`; then 29 numbers for each of
--- five points'. Places and k are counted from 0, points from 1
+-- ---- DEMAND 2: 'First `gcd`, `gcd_km`, `btr`, `brt`, `rlatd`, `alatd`; then 29 numbers for each
+-- of five points'. Places and k are counted from 0, points from 1
 
 -- The path's six figures stand at the places 0 to 5
 abbrev pub HeadAt : Type 0

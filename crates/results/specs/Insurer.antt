@@ -16,6 +16,7 @@ use Rattle.maps.specs.Figures.{sheetPath, figuresOf}
 use Rattle.worksheet.specs.declared.inputs.Edit.{Edit}
 use Rattle.worksheet.specs.declared.desks.Draft.the-variants.{Closed, Fresh}
 use Rattle.worksheet.specs.declared.desks.Worksheet.{Worksheet}
+use Rattle.worksheet.specs.Inputs.{inputsCheck}
 use Rattle.worksheet.specs.Desks.{draftAt, openOf, openedOf}
 use Rattle.worksheet.specs.Showing.{Source, pair}
 use Rattle.worksheet.specs.Journal.{Call, begin, commit, show, shown, Entry, accepted, good, step, run}
@@ -64,8 +65,23 @@ InsurersSentenceOpened =
 
 -- ---- and there are such showings
 
--- Over every record and month file that pass their checks, a worksheet that opens is shown at once
--- in every buffer of 151 numbers: with its number of points and its figures
+-- After every list of calls on a worksheet that opens, its inputs are in range
+abbrev pub StayInRange : Type 0
+StayInRange =
+    (source : Source) (opened : Inputs) → openOf opened .answer ≡ Accepted → (cs : List Call) →
+    inputsCheck (run source cs (openOf opened .sheet) .sheet .inputs) ≡ Accepted
+
+-- so over every record and month file that pass their checks a showing of the worksheet is accepted
+-- then, in every buffer of 151 numbers: with the number of points and the figures of its inputs
+abbrev pub AlwaysShown : Type 0
+AlwaysShown =
+    (f2 file : List ℕ) → filesCheck f2 file ≡ Accepted → (opened : Inputs) → openOf opened .answer ≡ Accepted →
+    (cs : List Call) (lent : List Float) → length lent ≡ 151 →
+    let w = run (pair f2 file) cs (openOf opened .sheet) .sheet in
+    step (pair f2 file) (show 0 lent) w .answer
+    ≡ shown (Points (sheetPath (w .inputs) .count)) (figuresOf f2 file (w .inputs))
+
+-- The same of the worksheet that was just opened
 abbrev pub FirstShowing : Type 0
 FirstShowing =
     (f2 file : List ℕ) → filesCheck f2 file ≡ Accepted → (i : Inputs) → openOf i .answer ≡ Accepted →
@@ -73,7 +89,7 @@ FirstShowing =
     step (pair f2 file) (show 0 lent) (openOf i .sheet) .answer
     ≡ shown (Points (sheetPath i .count)) (figuresOf f2 file i)
 
--- There are a record and a month file over which every worksheet that opens is shown so
+-- There are a record and a month file over which every worksheet that was just opened is shown so
 abbrev pub ShowingsExist : Type 0
 ShowingsExist =
     (f2 : List ℕ) × ((file : List ℕ) × (
