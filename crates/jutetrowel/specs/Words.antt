@@ -6,7 +6,7 @@ use Prim.Native.Nat.{ℕ, _+_}
 use lib.Dec.{eqb}
 use lib.ListN.{getD, replicate}
 use Rattle.base.specs.Refusal.{writtenOver}
-use Rattle.maps.specs.Inputs.{inputsFrom, fieldWords}
+use Rattle.maps.specs.Inputs.{inputsFrom, fieldWords, Singles}
 use Rattle.maps.specs.declared.inputs.Inputs.{Inputs}
 use Rattle.worksheet.specs.declared.desks.Draft.{Draft}
 use Rattle.worksheet.specs.declared.desks.Draft.the-variants.{Closed, Fresh, Stale}
@@ -84,3 +84,22 @@ sheetWords w =
 -- the lent words after an outcome: 'A refusal changes neither worksheet nor lent buffer'
 abbrev pub wordsAfter : Outcome → List ℕ → List ℕ
 wordsAfter o lent = writtenOver (o .answer) (sheetWords (o .sheet)) lent
+
+-- ---- worksheets of numbers that an f32 can be
+
+abbrev pub EarlierSingles : Earlier → Type 0
+EarlierSingles Nothing = Unit
+EarlierSingles (Set i) = Singles i
+
+abbrev pub DraftSingles : Draft → Type 0
+DraftSingles Closed = Unit
+DraftSingles (Fresh i) = Singles i
+DraftSingles (Stale i) = Singles i
+
+pub record SheetSingles (w : Worksheet) : Type 0 where
+  pub inputs : Singles (w .inputs)
+  pub earlier : EarlierSingles (w .earlier)
+  pub d1 : DraftSingles (w .d1)
+  pub d2 : DraftSingles (w .d2)
+  pub d3 : DraftSingles (w .d3)
+  pub d4 : DraftSingles (w .d4)

@@ -1,4 +1,10 @@
--- Laws that belong to no one function, in rooms by subject. Assumes nothing.
+-- The results, a line each, in the order in which a doubter would ask; then the rooms where the
+-- work is done. Assumes nothing.
+pub mod Insurer
+pub mod CancelledEdits
+pub mod FigureSources
+pub mod FiniteOrNot
+pub mod Crossing
 pub mod numbers
 pub mod files
 pub mod field
@@ -7,4 +13,3 @@ pub mod series
 pub mod clock
 pub mod finite
 pub mod sheet
-pub mod FiniteOrNot

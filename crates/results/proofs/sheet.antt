@@ -3,5 +3,6 @@ pub mod FigurePlaces
 pub mod GoodSheet
 pub mod Ignored
 pub mod KnownPoints
-pub mod GoodShowing
+pub mod AlwaysShown
+pub mod ClosedDesks
 pub mod ShownClocks

@@ -1,2 +1,9 @@
--- The results, as statements that a reader has to believe. Assumes nothing.
+-- The results, as statements that a reader has to believe: a file for each question that a doubter
+-- would ask, in that order; then the definitions that several of them share. Assumes nothing.
+pub mod Insurer
+pub mod CancelledEdits
+pub mod FigureSources
 pub mod FiniteOrNot
+pub mod Crossing
+pub mod LaterBytes
+pub mod SamePaths

@@ -2,7 +2,8 @@
 -- the claim about both runs. Assumes nothing.
 use Prim.Native.Nat.{ℕ}
 use mathlib.Core.Bool.{Bool, true, false, cond, not, _&&_, _||_}
-use mathlib.Core.List.{List, [], _∷_, _++_}
+use mathlib.Core.List.{List, [], _∷_, _++_, reverse, List·Memᴰ}
+use mathlib.Core.Logic.{_⊎_}
 use mathlib.Core.Path.{_≡_}
 use lib.Dec.{eqb}
 use lib.Ieee.{Float}
@@ -188,6 +189,19 @@ isSettled showing good = true
 
 abbrev pub settled : Entry → Bool
 settled x = isSettled (roleIn x) (good x)
+
+-- y is an own call of an accepted commit of the full list, and stands before it there
+pub record OwnCall (full : List Entry) (y : Entry) : Type 0 where
+  pub desk : ℕ
+  pub before : List Entry
+  pub its-commit : Entry
+  pub after : List Entry
+  pub split : full ≡ before ++ (its-commit ∷ after)
+  pub is-commit : roleIn its-commit ≡ settling desk
+  pub committed : accepted (its-commit .answer) ≡ true
+  pub is-own : List·Memᴰ y (own desk (reverse before))
+  pub stands-before : List·Memᴰ y before
+  pub begins-or-belongs : (begins desk y ≡ true) ⊎ (belongs desk y ≡ true)
 
 -- ---- demand 3
 

@@ -17,27 +17,8 @@ use Rattle.worksheet.specs.declared.desks.Draft.the-variants.{Closed, Fresh, St
 use Rattle.worksheet.specs.declared.desks.Earlier.{Earlier}
 use Rattle.worksheet.specs.declared.desks.Earlier.the-variants.{Nothing, Set}
 use Rattle.worksheet.specs.declared.desks.Worksheet.{Worksheet}
-use Rattle.jutetrowel.specs.Words.{wordIn, fieldIn, inputsIn, earlierIn, draftIn, worksheetOf, setWords, earlierWords, draftWords, sheetWords}
+use Rattle.jutetrowel.specs.Words.{wordIn, fieldIn, inputsIn, earlierIn, draftIn, worksheetOf, setWords, earlierWords, draftWords, sheetWords, EarlierSingles, DraftSingles, SheetSingles}
 use Rattle.jutetrowel.proofs.crossing.Stored.{set-length, earlier-length, draft-length}
-
--- ---- worksheets of numbers that an f32 can be
-
-abbrev pub EarlierSingles : Earlier → Type 0
-EarlierSingles Nothing = Unit
-EarlierSingles (Set i) = Singles i
-
-abbrev pub DraftSingles : Draft → Type 0
-DraftSingles Closed = Unit
-DraftSingles (Fresh i) = Singles i
-DraftSingles (Stale i) = Singles i
-
-pub record SheetSingles (w : Worksheet) : Type 0 where
-  pub inputs : Singles (w .inputs)
-  pub earlier : EarlierSingles (w .earlier)
-  pub d1 : DraftSingles (w .d1)
-  pub d2 : DraftSingles (w .d2)
-  pub d3 : DraftSingles (w .d3)
-  pub d4 : DraftSingles (w .d4)
 
 -- ---- a set read where it stands first
 

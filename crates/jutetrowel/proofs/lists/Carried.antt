@@ -25,9 +25,9 @@ use Rattle.worksheet.specs.Showing.{Source, pair}
 use Rattle.worksheet.specs.Journal.{Call, begin, commit, cancel, change, takeBack, show, Entry, Run, Role, beginning, ending, settling, belonging, returning, showing, roleIn, good, step, entryOf, run, begins, belongs, own, keptFor, shorter, callsOf, keptOf, shortRun, Demand3}
 use Rattle.worksheet.proofs.drafts.Drafts.{atRest}
 use Rattle.worksheet.proofs.lists.Rules.{demand-3-lent}
-use Rattle.jutetrowel.specs.Words.{worksheetOf, sheetWords, wordsAfter}
+use Rattle.jutetrowel.specs.Words.{worksheetOf, sheetWords, wordsAfter, EarlierSingles, DraftSingles, SheetSingles}
 use Rattle.jutetrowel.specs.Calls.{EditSingles, CallSingles, CallsSingles, wordsLeft, entriesOver, wordsOver, Demand3Over}
-use Rattle.jutetrowel.proofs.crossing.Returned.{EarlierSingles, DraftSingles, SheetSingles, read-back, read-single}
+use Rattle.jutetrowel.proofs.crossing.Returned.{read-back, read-single}
 
 -- ---- every call keeps the numbers f32 values
 

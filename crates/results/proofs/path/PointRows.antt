@@ -2,6 +2,7 @@
 -- off the row's definition by whether the row is there. Assumes nothing.
 use mathlib.Core.Path.{_≡_, refl, sym, ap, subst, _∙_}
 use mathlib.Core.Bool.{Bool, true, false, cond}
+use mathlib.Core.List.{[], _∷_}
 use Prim.Native.Nat.{ℕ, zero, suc, _≤_, _<_}
 use native.Mathlib.Nat.{lt-of-lt-of-le}
 use native.Mathlib.Omega.{arith}
@@ -10,7 +11,9 @@ use lib.ListN.{length, getD}
 use lib.Ieee.{Float, nan, lt}
 use Rattle.base.specs.declared.angle.Degrees.{Degrees}
 use Rattle.base.specs.declared.angle.Radians.{Radians}
+use Rattle.maps.specs.declared.inputs.Inputs.{Inputs}
 use Rattle.maps.specs.declared.inputs.MagneticPole.{MagneticPole}
+use Rattle.maps.specs.declared.inputs.Route.{Route}
 use Rattle.base.specs.Single.{_⊖_, decimal}
 use Rattle.base.specs.Angle.{degreesOf}
 use Rattle.base.proofs.verdicts.Picks.{cond-true, cond-false}
@@ -19,6 +22,9 @@ use Rattle.maps.specs.declared.geometry.PathGeometry.{PathGeometry}
 use Rattle.maps.specs.declared.geometry.Place.{Place}
 use Rattle.maps.specs.declared.geometry.Track.{Track}
 use Rattle.maps.specs.Geometry.{EPSLON, placeOf, downMeridian, onCircle, sampleOf, polePlace, gmlatOf, geomagneticOf, pointOf, absent, controlPointIf, controlRow, rowsOf, distancesOf, pathOf, nowhere, latAt, meanLatitude, alatdOf}
+use Rattle.maps.specs.Inputs.{isLong}
+use Rattle.maps.specs.Figures.{headOf, sheetPath}
+use Rattle.results.specs.SamePaths.{SamePlace, SamePath}
 use Rattle.results.proofs.path.PointCounts.{CountRule, one, three, five, count-rule}
 
 -- ---- five rows, by number
@@ -94,20 +100,6 @@ module _ (tlat tlong rlat rlong : Degrees) (long : Bool) (pole : MagneticPole) w
       (point-gmlat _ pole _)
 
 -- ---- the pole enters `gmlat` only
-pub record SamePlace (a b : ControlPoint) : Type 0 where
-  pub rd : a .rd ≡ b .rd
-  pub lat : a .lat ≡ b .lat
-  pub lon : a .lon ≡ b .lon
-
-pub record SamePath (g h : PathGeometry) : Type 0 where
-  pub gcd : g .gcd ≡ h .gcd
-  pub «gcd_km» : g .«gcd_km» ≡ h .«gcd_km»
-  pub btr : g .btr ≡ h .btr
-  pub brt : g .brt ≡ h .brt
-  pub rlatd : g .rlatd ≡ h .rlatd
-  pub count : g .count ≡ h .count
-  pub points : (i : ℕ) → SamePlace (getD (g .points) i nowhere) (getD (h .points) i nowhere)
-
 row-same : (t : Track) (p q : Place) (d : Float) (b : Bool) → SamePlace (controlPointIf t p d b) (controlPointIf t q d b)
 unfolding controlPointIf pointOf
 row-same t p q d true = record { rd = refl; lat = refl; lon = refl }
@@ -138,3 +130,17 @@ mean-same g h s = cc (s .count, lat-same g h s 0, lat-same g h s 1, lat-same g h
 pub alatd-same : (g h : PathGeometry) → SamePath g h → alatdOf g ≡ alatdOf h
 unfolding alatdOf
 alatd-same g h s = ap (λ (a : Float). degreesOf (record { 0 = a })) (mean-same g h s)
+
+-- and the six figures of a path with them, which take the route only
+head-same : (g h : PathGeometry) → SamePath g h → headOf g ≡ headOf h
+unfolding headOf
+head-same g h s =
+    let a = alatd-same g h s in
+    λ t. s .gcd t .0 ∷ s .«gcd_km» t ∷ s .btr t .0 ∷ s .brt t .0 ∷ s .rlatd t .0 ∷ a t .0 ∷ []
+
+pub same-head : (i j : Inputs) → i .route ≡ j .route → headOf (sheetPath i) ≡ headOf (sheetPath j)
+unfolding sheetPath
+same-head i j same =
+    ap (λ (r : Route). headOf (pathOf (r .tlat) (r .tlong) (r .rlat) (r .rlong) (isLong (r .«long_path»)) (i .pole))) same
+    ∙ head-same _ _
+    (pole-only (j .route .tlat) (j .route .tlong) (j .route .rlat) (j .route .rlong) (isLong (j .route .«long_path»)) (i .pole) (j .pole))

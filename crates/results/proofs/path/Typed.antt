@@ -5,41 +5,18 @@ use mathlib.Core.Path.{_≡_, ap, _∙_}
 use mathlib.Core.Bool.{Bool, cond}
 use mathlib.Core.List.{List}
 use Prim.Native.Nat.{ℕ}
-use lib.Ieee.{Float, lt}
+use lib.Ieee.{Float}
 use Rattle.base.specs.declared.angle.Degrees.{Degrees}
 use Rattle.base.specs.declared.angle.Radians.{Radians}
 use Rattle.maps.specs.declared.inputs.MagneticPole.{MagneticPole}
 use Rattle.base.specs.Single.{_⊗_, decimal}
-use Rattle.base.specs.Number.{absOf}
 use Rattle.base.specs.Constants.{RZ}
 use Rattle.base.specs.Angle.{radiansOf}
 use Rattle.maps.specs.declared.geometry.ControlPoint.{ControlPoint}
 use Rattle.maps.specs.declared.geometry.PathGeometry.{PathGeometry}
 use Rattle.maps.specs.declared.geometry.Place.{Place}
 use Rattle.maps.specs.Geometry.{nudgedOf, placeOf, endLongitude, endOf, circleOf, countOf, polePlace, rowsOf, trackOf, pathOf}
-
--- |latd| > 89.9, as it is asked of degrees as typed
-abbrev pub nearPole : Degrees → Bool
-nearPole latd = lt (decimal 899 1) (absOf (latd .0))
-
--- two ends that are the same in radians
-pub record SameEnd (latd longd latd' longd' : Degrees) : Type 0 where
-  pub lat : radiansOf latd ≡ radiansOf latd'
-  pub lon : radiansOf longd ≡ radiansOf longd'
-  pub polar : nearPole latd ≡ nearPole latd'
-
-pub record SamePole (p q : MagneticPole) : Type 0 where
-  pub lat : radiansOf (p .lat) ≡ radiansOf (q .lat)
-  pub lon : radiansOf (p .lon) ≡ radiansOf (q .lon)
-
--- all of a path that is worked
-pub record SameWork (g h : PathGeometry) : Type 0 where
-  pub gcd : g .gcd ≡ h .gcd
-  pub «gcd_km» : g .«gcd_km» ≡ h .«gcd_km»
-  pub btr : g .btr ≡ h .btr
-  pub brt : g .brt ≡ h .brt
-  pub count : g .count ≡ h .count
-  pub points : g .points ≡ h .points
+use Rattle.results.specs.SamePaths.{nearPole, SameEnd, SamePole, SameWork}
 
 end-same : (lat lon lat' lon' : Degrees) → SameEnd lat lon lat' lon' → endOf lat lon ≡ endOf lat' lon'
 unfolding endOf endLongitude

@@ -8,7 +8,7 @@ use mathlib.Core.Logic.{_⊎_, inl, inr}
 use mathlib.Core.Path.{_≡_, refl, sym, ap, ap₂, subst, _∙_}
 use Rattle.worksheet.specs.declared.desks.Worksheet.{Worksheet}
 use Rattle.worksheet.specs.Showing.{Source}
-use Rattle.worksheet.specs.Journal.{Call, commit, Role, beginning, ending, settling, belonging, returning, showing, roleOf, Entry, accepted, roleIn, good, run, isBegin, isOwn, begins, belongs, own, keptFor, shorter, keptOf, keep, none, isSettled, settled}
+use Rattle.worksheet.specs.Journal.{Call, commit, Role, beginning, ending, settling, belonging, returning, showing, roleOf, Entry, accepted, roleIn, good, run, isBegin, isOwn, begins, belongs, own, keptFor, shorter, keptOf, keep, none, isSettled, settled, OwnCall}
 
 -- ---- lists
 
@@ -177,19 +177,6 @@ among-reverse y (x ∷ l) r h = among-reverse y l (x ∷ r) (shift h)
     shift : (y ∈ (x ∷ l)) ⊎ (y ∈ r) → (y ∈ l) ⊎ (y ∈ (x ∷ r))
     shift (inl m) = of (List·Memᴰ·cases-cons m)
     shift (inr m) = inr (List·Memᴰ·tail m)
-
--- y is an own call of an accepted commit of the full list, and stands before it there
-pub record OwnCall (full : List Entry) (y : Entry) : Type 0 where
-  pub desk : ℕ
-  pub before : List Entry
-  pub its-commit : Entry
-  pub after : List Entry
-  pub split : full ≡ before ++ (its-commit ∷ after)
-  pub is-commit : roleIn its-commit ≡ settling desk
-  pub committed : accepted (its-commit .answer) ≡ true
-  pub is-own : y ∈ (own desk (reverse before))
-  pub stands-before : y ∈ before
-  pub begins-or-belongs : (begins desk y ≡ true) ⊎ (belongs desk y ≡ true)
 
 in-block : (past later : List Entry) (x y : Entry) → y ∈ (keptFor past (roleIn x) x) → (settled y ≡ true) ⊎ OwnCall (reverse past ++ (x ∷ later)) y
 unfolding keptFor
