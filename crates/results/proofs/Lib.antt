@@ -7,3 +7,6 @@ pub mod series
 pub mod clock
 pub mod finite
 pub mod sheet
+pub mod AsInTheRust
+pub mod AcceptedFiles
+pub mod ElementarySteps

@@ -1,7 +1,6 @@
--- Figures by their places, sheets that are shown, the known points.
+-- Figures by their places, sheets that are shown.
 pub mod FigurePlaces
 pub mod GoodSheet
 pub mod Ignored
-pub mod KnownPoints
 pub mod GoodShowing
 pub mod ShownClocks

@@ -1,1 +1,6 @@
 -- The results, as statements that a reader has to believe. Assumes nothing.
+pub mod ExhibitedFiles
+pub mod KnownPoints
+pub mod AsInTheRust
+pub mod AcceptedFiles
+pub mod ElementarySteps

@@ -15,23 +15,19 @@ use Rattle.base.proofs.verdicts.Picks.{cond-false}
 use Rattle.base.proofs.order.Order.{Between, trans-le}
 use Rattle.base.proofs.order.Intervals.{exactly, sub-in, mul-in}
 use Rattle.maps.specs.Geometry.{acosClamped, otherWay, atLeastMinimum, gcdOf, circleOf, countOf, pathOf}
+use Rattle.results.specs.AsInTheRust.{CountRule, onePoint, threePoints, fivePoints}
 use Rattle.results.proofs.path.SignRules.{acos-clamped-in, acos-clamped-nan}
 
 -- ---- document 01, Figures: '`gcd_km` <= 2000.01 (as f32) gives one point, <= 4000 three, else
 -- five'
-pub data CountRule (km : Float) : ℕ → Type 0 where
-  one : le km (decimal 200001 2) ≡ true → CountRule km 1
-  three : le km (decimal 200001 2) ≡ false → le km (decimal 40000 1) ≡ true → CountRule km 3
-  five : le km (decimal 200001 2) ≡ false → le km (decimal 40000 1) ≡ false → CountRule km 5
-
 pub count-rule : (km : Float) → CountRule km (countOf km)
 unfolding countOf
 count-rule km = go (le km (decimal 200001 2)) (le km (decimal 40000 1)) refl refl
   where
     go : (a b : Bool) → le km (decimal 200001 2) ≡ a → le km (decimal 40000 1) ≡ b → CountRule km (cond a 1 (cond b 3 5))
-    go true b p q = one p
-    go false true p q = three p q
-    go false false p q = five p q
+    go true b p q = onePoint p
+    go false true p q = threePoints p q
+    go false false p q = fivePoints p q
 
 pub count-nan : countOf nan ≡ 5
 unfolding countOf le lt
