@@ -1,14 +1,16 @@
 -- The statements of specs/AcceptedFiles.antt, each from where the work is done. Assumes nothing.
+use mathlib.Core.Path.{_∙_}
 use native.Mathlib.Omega.{arith}
 use Rattle.base.proofs.ladder.Indexing
 use Rattle.base.proofs.layout.Parts
-use Rattle.results.specs.AcceptedFiles.{MonthFileGood, EndedRefused, MarkerRefused, FileAnswers, IndexGood, IndexRefused, VirtimInside, VersyInside, MonthFileAccepted, IndexAccepted, FilesAccepted, SheetShown, SheetWritten, TablesPacked, TableInside, MonthInside, ZeroThere, ThereZero, MonthAccepted, MonthZero}
+use Rattle.results.specs.AcceptedFiles.{MonthFileGood, EndedRefused, MarkerRefused, FileAnswers, IndexGood, IndexRefused, VirtimInside, VersyInside, MonthFileAccepted, IndexAccepted, FilesAccepted, SheetShown, SheetWritten, TablesPacked, TableInside, MonthInside, ZeroThere, ThereZero, MonthAccepted, MonthZero, TableCheckLater, TableBytesLater, MonthCheckLater, MonthBytesLater}
 use Rattle.results.proofs.files.Marks
 use Rattle.results.proofs.files.WalkAnswers
 use Rattle.results.proofs.files.IndexAnswers
 use Rattle.results.proofs.files.GoodFiles
 use Rattle.results.proofs.files.Places
 use Rattle.results.proofs.files.MonthRecords
+use Rattle.results.proofs.files.LaterParts
 use Rattle.results.proofs.sheet.GoodSheet
 
 -- ---- the month file's check
@@ -87,3 +89,17 @@ month-zero s m = (
   λ e. let t = MonthRecords.month-zero s m .0 e in record { low = t .low; high = t .high; room = t .room },
   λ t. MonthRecords.month-zero s m .1 (record { low = t .low; high = t .high; room = t .room }),
 )
+
+-- ---- later bytes
+
+pub table-check-later : TableCheckLater
+table-check-later number f g s t b a = LaterParts.table-record-later number f g s b ∙ LaterParts.table-month-later number g s t a
+
+pub table-bytes-later : TableBytesLater
+table-bytes-later = LaterParts.table-bytes-later
+
+pub month-check-later : MonthCheckLater
+month-check-later = LaterParts.month-check-later
+
+pub month-bytes-later : MonthBytesLater
+month-bytes-later = LaterParts.month-bytes-later

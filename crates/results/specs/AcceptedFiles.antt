@@ -20,6 +20,7 @@ use Rattle.base.specs.Files.{filesCheck}
 use Rattle.maps.specs.declared.inputs.Inputs.{Inputs}
 use Rattle.maps.specs.declared.figures.Shown.the-variants.{Points}
 use Rattle.maps.specs.Figures.{sheetPath, figuresOf, shownOf, figuresBuffer}
+use Rattle.results.specs.LaterBytes.{Alike}
 use Rattle.results.specs.ExhibitedFiles.{goodRecord, goodMonthFile}
 
 -- ---- demand 1: the month file's check does its work or refuses by number, and names who earns it
@@ -204,3 +205,31 @@ abbrev pub MonthZero : Type 0
 MonthZero =
     (s : List ℕ) (m : ℕ) →
     (verdictReport (monthRecordCheck s m) ≡ (0, 0) → MonthGood s m) × (MonthGood s m → verdictReport (monthRecordCheck s m) ≡ (0, 0))
+
+-- ---- demand 1: 'later bytes are ignored'
+
+-- Files that agree in the bytes that are needed, 7,904 of the record and 38,552 of the month file, have
+-- the same check of Table.
+abbrev pub TableCheckLater : Type 0
+TableCheckLater =
+    (number : ℕ) (f g s t : List ℕ) → Alike recordSize f g → Alike monthFileSize s t → tableCheck number f s ≡ tableCheck number g t
+
+-- And the same bytes are handed back.
+abbrev pub TableBytesLater : Type 0
+TableBytesLater =
+    (number : ℕ) (f g s t : RefT (List ℕ)) → Alike recordSize (now f) (now g) → Alike monthFileSize (now s) (now t) →
+    let p = tablePart number (now f) (now s) in
+    let q = tablePart number (now g) (now t) in
+    take (p .size) (drop (p .from) (now (tableFile number f s))) ≡ take (q .size) (drop (q .from) (now (tableFile number g t)))
+
+-- Files that agree up to the end of the month's record have the same check of Month record.
+abbrev pub MonthCheckLater : Type 0
+MonthCheckLater = (s t : List ℕ) (m : ℕ) → Alike (m * recordSize) s t → monthRecordCheck s m ≡ monthRecordCheck t m
+
+-- And the same bytes are handed back.
+abbrev pub MonthBytesLater : Type 0
+MonthBytesLater =
+    (s t : List ℕ) (m : ℕ) → Alike (m * recordSize) s t →
+    let p = monthPart s m in
+    let q = monthPart t m in
+    take (p .size) (drop (p .from) s) ≡ take (q .size) (drop (q .from) t)

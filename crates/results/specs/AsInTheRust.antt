@@ -254,9 +254,9 @@ CtGauss = (n m : ℕ) → 2 ≤ n → n ≤ 6 → m < n → GaussFactor n m
 
 -- '`gcd_km` <= 2000.01 (as f32) gives one point, <= 4000 three, else five'
 pub data CountRule (km : Float) : ℕ → Type 0 where
-  onePoint : le km (decimal 200001 2) ≡ true → CountRule km 1
-  threePoints : le km (decimal 200001 2) ≡ false → le km (decimal 40000 1) ≡ true → CountRule km 3
-  fivePoints : le km (decimal 200001 2) ≡ false → le km (decimal 40000 1) ≡ false → CountRule km 5
+  one : le km (decimal 200001 2) ≡ true → CountRule km 1
+  three : le km (decimal 200001 2) ≡ false → le km (decimal 40000 1) ≡ true → CountRule km 3
+  five : le km (decimal 200001 2) ≡ false → le km (decimal 40000 1) ≡ false → CountRule km 5
 
 -- Every path has as many points as the rule gives for its `gcd_km`.
 abbrev pub PathCount : Type 0

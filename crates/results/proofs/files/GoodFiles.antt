@@ -19,7 +19,8 @@ use Rattle.base.specs.Words.{wordAt}
 use Rattle.base.specs.MonthFile.{recordSize, monthFileSize, sizes, monthFileCheck, Marked}
 use Rattle.base.specs.Index.{indexOf, mapWord, rows, harmonics, climbs, goodMap, indexCheck, GoodIndex}
 use Rattle.base.specs.Files.{fileCheck, filesCheck}
-use Rattle.results.specs.ExhibitedFiles.{fourBytes, wordBytes, zeroRecords, fileWith, goodIndexTable, goodMonthFile, goodRecord}
+use Rattle.results.specs.ExhibitedFiles.{fourBytes, wordBytes, zeroRecords, fileWith, goodIndexTable}
+pub use Rattle.results.specs.ExhibitedFiles.{goodMonthFile, goodRecord}
 use Rattle.base.proofs.verdicts.Picks.{cond-true}
 use Rattle.base.proofs.ladder.Ladders.{six, limits, good-known}
 use Rattle.base.proofs.ladder.Indexing.{index-word}

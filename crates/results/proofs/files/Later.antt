@@ -21,12 +21,7 @@ use Rattle.base.specs.MonthFile.{recordSize, monthFileSize, sizes, Four, marker
 use Rattle.base.specs.Tables.{startOf, planeOf, wordsOf, xf2cof, ikim, fakmap, xfm3cf, xesmcf, xpmap, xeslcf, xesucf, xercof}
 use Rattle.base.specs.Index.{rows, harmonics, isWholeTo, equals, exceeds, climbs, goodMap, ikimPlace, ikimAt, lowestBad, indexCheck, indexOf}
 use Rattle.base.specs.Blend.{blendOf, blendAt, blendTable, f2Weights, eWeights, heightWeights, eslcofOf, esmcofOf, esucofOf, f2cofOf, fm3cofOf, ercofOf, hmymOf, fakmapOf, appended, cofionOf}
-
--- n bytes are there in both, and they are the same
-pub record Alike (n : ℕ) (s t : List ℕ) : Type 0 where
-  pub here : n ≤ length s
-  pub there : n ≤ length t
-  pub bytes : (k : ℕ) → k < n → getD s k 0 ≡ getD t k 0
+use Rattle.results.specs.LaterBytes.{Alike}
 
 -- ---- lists and words
 

@@ -21,7 +21,8 @@ use Rattle.base.specs.MonthFile.{recordSize, monthFileSize, Part, emptyPart, mo
 use Rattle.base.specs.Tables.{partOf, tableCheck, tablePart, tableFile}
 use Rattle.base.proofs.layout.Records.{month-known, month-part, month-none}
 use Rattle.base.proofs.layout.Parts.{table-known, placed, table-part, table-none, file-f2, file-month}
-use Rattle.results.proofs.files.Later.{Alike, file-alike}
+use Rattle.results.specs.LaterBytes.{Alike}
+use Rattle.results.proofs.files.Later.{file-alike}
 
 -- the bytes of a part
 abbrev pub bytesAt : Part → List ℕ → List ℕ

@@ -15,7 +15,7 @@ use Rattle.base.proofs.verdicts.Picks.{cond-false}
 use Rattle.base.proofs.order.Order.{Between, trans-le}
 use Rattle.base.proofs.order.Intervals.{exactly, sub-in, mul-in}
 use Rattle.maps.specs.Geometry.{acosClamped, otherWay, atLeastMinimum, gcdOf, circleOf, countOf, pathOf}
-use Rattle.results.specs.AsInTheRust.{CountRule, onePoint, threePoints, fivePoints}
+pub use Rattle.results.specs.AsInTheRust.{CountRule, one, three, five}
 use Rattle.results.proofs.path.SignRules.{acos-clamped-in, acos-clamped-nan}
 
 -- ---- document 01, Figures: '`gcd_km` <= 2000.01 (as f32) gives one point, <= 4000 three, else
@@ -25,9 +25,9 @@ unfolding countOf
 count-rule km = go (le km (decimal 200001 2)) (le km (decimal 40000 1)) refl refl
   where
     go : (a b : Bool) → le km (decimal 200001 2) ≡ a → le km (decimal 40000 1) ≡ b → CountRule km (cond a 1 (cond b 3 5))
-    go true b p q = onePoint p
-    go false true p q = threePoints p q
-    go false false p q = fivePoints p q
+    go true b p q = one p
+    go false true p q = three p q
+    go false false p q = five p q
 
 pub count-nan : countOf nan ≡ 5
 unfolding countOf le lt

@@ -19,8 +19,7 @@ use Rattle.maps.specs.declared.geometry.PathGeometry.{PathGeometry}
 use Rattle.maps.specs.declared.geometry.Place.{Place}
 use Rattle.maps.specs.declared.geometry.Track.{Track}
 use Rattle.maps.specs.Geometry.{EPSLON, placeOf, downMeridian, onCircle, sampleOf, polePlace, gmlatOf, geomagneticOf, pointOf, absent, controlPointIf, controlRow, rowsOf, distancesOf, pathOf, nowhere, latAt, meanLatitude, alatdOf}
-use Rattle.results.specs.AsInTheRust.{CountRule, onePoint, threePoints, fivePoints}
-use Rattle.results.proofs.path.PointCounts.{count-rule}
+use Rattle.results.proofs.path.PointCounts.{CountRule, one, three, five, count-rule}
 
 -- ---- five rows, by number
 row-at : (t : Track) (p : Place) (gcd : Float) (n i : ℕ) → i < 5 → getD (rowsOf t p gcd n) i nowhere ≡ controlRow t p gcd n i
@@ -41,9 +40,9 @@ unfolding controlRow controlPointIf
 row-there t p gcd n i h = cond-true _ _ (lt-ltb i n h)
 
 at-most-five : (km : Float) (n : ℕ) → CountRule km n → n ≤ 5
-at-most-five km n (onePoint p) = omega arith
-at-most-five km n (threePoints p q) = omega arith
-at-most-five km n (fivePoints p q) = omega arith
+at-most-five km n (one p) = omega arith
+at-most-five km n (three p q) = omega arith
+at-most-five km n (five p q) = omega arith
 
 -- ---- a sample area's sine and cosine are those of its latitude
 abbrev Placed : Place → Type 0

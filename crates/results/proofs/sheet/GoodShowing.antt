@@ -9,8 +9,7 @@ use Rattle.base.specs.declared.refusal.Verdict.{Verdict}
 use Rattle.base.specs.declared.refusal.Verdict.the-variants.{Accepted}
 use Rattle.base.specs.Refusal.{_then_, writtenOver}
 use Rattle.base.specs.Files.{filesCheck}
-use Rattle.results.specs.ExhibitedFiles.{goodRecord, goodMonthFile}
-use Rattle.results.proofs.files.GoodFiles.{files-accepted}
+use Rattle.results.proofs.files.GoodFiles.{goodRecord, goodMonthFile, files-accepted}
 use Rattle.maps.specs.declared.inputs.Inputs.{Inputs}
 use Rattle.maps.specs.declared.figures.Shown.the-variants.{Points}
 use Rattle.maps.specs.Figures.{sheetPath, figuresOf, pointsOr}

@@ -21,7 +21,8 @@ use Rattle.base.specs.Tables.{startOf, achi, bchi, anew, bnew, abmap}
 use Rattle.base.specs.Words.{floatAt}
 use Rattle.base.specs.Index.{indexOf}
 use Rattle.base.specs.Blend.{hmymOf, fakmapOf}
-use Rattle.results.proofs.files.Later.{Alike, float-alike, file-alike, check-alike, index-alike, cofion-month, cofion-record, hmym-alike, fakmap-alike}
+use Rattle.results.specs.LaterBytes.{Alike}
+use Rattle.results.proofs.files.Later.{float-alike, file-alike, check-alike, index-alike, cofion-month, cofion-record, hmym-alike, fakmap-alike}
 use Rattle.maps.specs.declared.inputs.Inputs.{Inputs}
 use Rattle.maps.specs.declared.ionosphere.layers.Monthly.{Monthly}
 use Rattle.maps.specs.Virtim.{virtimOf}
