@@ -9,8 +9,9 @@ use Rattle.base.proofs.order.Order.{Between}
 use Rattle.maps.proofs.sums.GeographicFunctions
 use Rattle.maps.proofs.field.FieldSums as Sums
 use Rattle.maps.proofs.field.Legendre
-use Rattle.results.specs.AsInTheRust.{Report340, SixSeries, MapSeries, FilledClosed, FilledAt, PastEnd, InHarmonic, HourAt, HourElsewhere, EveryWord, EntryInside, EntriesApart, TableEntry, CofionEntry, HmymEntry, FakmapEntry, MapsShaped, PFilled, DpFilled, FieldSums, MagfinArrays, CtGauss, PathCount, LongFive, RowsPast, ClockRange, PointClock, ShownClock, Clock24Stays, Clock0Becomes24, ClockMinus0Becomes24, CngtimSettled, EveryMoved, EveryTimes, EveryLocal, Known, CutShort, LastWrong}
+use Rattle.results.specs.AsInTheRust.{Report340, SixSeries, PointSeries, FigureSeries, MapSeries, FilledClosed, FilledAt, PastEnd, InHarmonic, HourAt, HourElsewhere, EveryWord, EntryInside, EntriesApart, TableEntry, CofionEntry, HmymEntry, FakmapEntry, MapsShaped, PFilled, DpFilled, FieldSums, MagfinArrays, CtGauss, PathCount, LongFive, RowsPast, ClockRange, PointClock, ShownClock, Clock24Stays, Clock0Becomes24, ClockMinus0Becomes24, CngtimSettled, EveryMoved, EveryTimes, EveryLocal, Known, CutShort, LastWrong}
 use Rattle.results.proofs.series.Report340 as Series
+use Rattle.results.proofs.series.FigureSeries as Figured
 use Rattle.results.proofs.series.DailySeries
 use Rattle.results.proofs.files.TableEntries
 use Rattle.results.proofs.files.Marks
@@ -31,6 +32,12 @@ report-340 = Series.report-340
 
 pub six-series : SixSeries
 six-series = Series.six-series
+
+pub point-series : PointSeries
+point-series = Figured.point-series
+
+pub figure-series : FigureSeries
+figure-series = Figured.figure-series
 
 pub map-series : MapSeries
 map-series = Series.map-series

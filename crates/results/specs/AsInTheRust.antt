@@ -14,9 +14,10 @@ use Rattle.base.specs.declared.angle.Degrees.{Degrees}
 use Rattle.base.specs.declared.angle.Radians.{Radians}
 use Rattle.base.specs.declared.refusal.Refusal.the-variants.{Ended, Marker}
 use Rattle.base.specs.declared.refusal.Verdict.the-variants.{Accepted, Refused}
-use Rattle.base.specs.Single.{_⊕_, _⊖_, _⊘_, decimal, minusDecimal}
+use Rattle.base.specs.Single.{_⊕_, _⊖_, _⊗_, _⊘_, decimal, minusDecimal}
 use Rattle.base.specs.Double.{fraction}
 use Rattle.base.specs.Constants.{PI, PI2}
+use Rattle.base.specs.Elementary.{cos32Of}
 use Rattle.base.specs.Ranges.{isTo}
 use Rattle.base.specs.Words.{wordAt, floatAt}
 use Rattle.base.specs.Fill.{tabulate}
@@ -24,7 +25,9 @@ use Rattle.base.specs.MonthFile.{monthFileSize, IsPart, monthFileCheck, MarkedT
 use Rattle.base.specs.Tables.{startOf, wordsOf, planeOf, holding, ikim, fakmap, xpmap, dimension, HasEntry, entryWord, entryPlace, partOf, tableCheck, tablePart, tableFile}
 use Rattle.base.specs.Index.{indexOf, mapWord, rows, indexCheck, Climbs, Reaches}
 use Rattle.base.specs.Blend.{IA, IB, IC, blendOf, heightWeights, cofionOf, hmymOf, fakmapOf, mapTables, coefficientOf}
+use Rattle.maps.specs.declared.inputs.Inputs.{Inputs}
 use Rattle.maps.specs.declared.inputs.MagneticPole.{MagneticPole}
+use Rattle.maps.specs.declared.geometry.ControlPoint.{ControlPoint}
 use Rattle.maps.specs.declared.figures.Shown.the-variants.{Points}
 use Rattle.maps.specs.declared.magnetic.Place.{Place}
 use Rattle.maps.specs.declared.magnetic.Field.{Field}
@@ -39,10 +42,11 @@ use Rattle.maps.specs.Loop.{loop}
 use Rattle.maps.specs.Virtim.{GoodTable, hourWave, dailyOf, coefficientIn, virtimOf}
 use Rattle.maps.specs.Versy.{harmonicOf, geographicOf, filledOf, topOf, versyOf, gammasOf}
 use Rattle.maps.specs.Series.{omegaOf}
-use Rattle.maps.specs.Ionosphere.{hourMapsOf}
-use Rattle.maps.specs.Magnetic.{o, HC, CT, entry, clampedPlace, pOf, dpOf, bvOf, bnOf, bphiOf, magfinOf, at7, placedOf, State, state, degreeOf, expansionOf}
+use Rattle.maps.specs.Ionosphere.{hourMapsOf, gammasAt}
+use Rattle.maps.specs.Magnetic.{o, HC, CT, entry, clampedPlace, pOf, dpOf, bvOf, bnOf, bphiOf, magfinOf, eastOf, magvarOf, at7, placedOf, State, state, degreeOf, expansionOf}
 use Rattle.maps.specs.Geometry.{absent, nowhere, pathOf}
 use Rattle.maps.specs.Layers.{clockOf}
+use Rattle.maps.specs.Figures.{hourOf, sheetPath, figuresOf}
 use Rattle.maps.specs.Clocks.{thetaOf, afterShift, forLoop, wraps, cngtimOf, movedOf, timesOf, localTimeOf}
 use Rattle.worksheet.specs.declared.desks.Worksheet.{Worksheet}
 use Rattle.worksheet.specs.Showing.{Source, showOf, showBuffer}
@@ -71,6 +75,34 @@ SixSeries =
     gammasOf (hourMapsOf f2 month ssn gmt) (indexOf month) dip lat clg gob
     ≡
     record { g1 = omega 0 dip; g2 = omega 1 dip; g3 = omega 2 dip; g4 = omega 3 dip; g5 = omega 4 dip; g6 = omega 5 lat }
+
+-- So the six map values that the numbers of a control point are worked from, at the point's east
+-- longitude and the cosine of its latitude.
+abbrev pub PointSeries : Type 0
+PointSeries =
+    (f2 file : List ℕ) (i : Inputs) → indexCheck file ≡ Accepted → (pt : ControlPoint) →
+    let h = hourOf f2 file i in
+    let mag = magvarOf (pt .lat) (pt .lon) in
+    let omega = omegaFrom f2 file (i .ssn) (i .gmt) (eastOf (pt .lon) .0) (cos32Of (pt .lat .0)) in
+    let dip = mag .gmdip .0 in
+    let lat = pt .lat .0 in
+    gammasAt (h .ab) (h .index) (pt .lat) (pt .lon) mag
+    ≡
+    record { g1 = omega 0 dip; g2 = omega 1 dip; g3 = omega 2 dip; g4 = omega 3 dip; g5 = omega 4 dip; g6 = omega 5 lat }
+
+-- So the figures of a point p that is there: its `f2m3` is Omega of the map 5, and its `fs` are those
+-- of the maps 3, 2, 1, each times the Es factor.
+abbrev pub FigureSeries : Type 0
+FigureSeries =
+    (f2 file : List ℕ) (i : Inputs) → indexCheck file ≡ Accepted → (p : ℕ) → 1 ≤ p → p ≤ sheetPath i .count →
+    let figure : ℕ → Float = λ k. getD (figuresOf f2 file i) (6 + 29 * (p - 1) + k) nan in
+    let pt = getD (sheetPath i .points) (p - 1) nowhere in
+    let omega = omegaFrom f2 file (i .ssn) (i .gmt) (eastOf (pt .lon) .0) (cos32Of (pt .lat .0)) in
+    let dip = magvarOf (pt .lat) (pt .lon) .gmdip .0 in
+    (figure 16 ≡ omega 4 dip)
+    × (figure 23 ≡ omega 2 dip ⊗ i .psc .es)
+    × (figure 24 ≡ omega 1 dip ⊗ i .psc .es)
+    × (figure 25 ≡ omega 0 dip ⊗ i .psc .es)
 
 -- Of any coefficients and an index table whose six maps are good, it is Omega over the coefficients
 -- where they stand in COFION.
