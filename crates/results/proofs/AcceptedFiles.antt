@@ -93,7 +93,8 @@ month-zero s m = (
 -- ---- later bytes
 
 pub table-check-later : TableCheckLater
-table-check-later number f g s t b a = LaterParts.table-record-later number f g s b ∙ LaterParts.table-month-later number g s t a
+table-check-later number f g s t b a =
+    LaterParts.table-record-later number f g s b ∙ LaterParts.table-month-later number g s t a
 
 pub table-bytes-later : TableBytesLater
 table-bytes-later = LaterParts.table-bytes-later

@@ -27,7 +27,9 @@ use Rattle.results.specs.ExhibitedFiles.{goodRecord, goodMonthFile}
 
 -- The check accepts exactly the files that have 38,552 bytes or more and the 18 markers right.
 abbrev pub MonthFileGood : Type 0
-MonthFileGood = (s : List ℕ) → (monthFileCheck s ≡ Accepted → WellMarked s) × (WellMarked s → monthFileCheck s ≡ Accepted)
+MonthFileGood =
+    (s : List ℕ) →
+    (monthFileCheck s ≡ Accepted → WellMarked s) × (WellMarked s → monthFileCheck s ≡ Accepted)
 
 -- the bytes of records of these sizes, with their markers
 abbrev pub withMarkers : List ℕ → ℕ
@@ -38,10 +40,12 @@ withMarkers (n ∷ ns) = n + 8 + withMarkers ns
 abbrev pub RightSoFar : List ℕ → ℕ → List ℕ → Type 0
 RightSoFar s at [] = Unit
 RightSoFar s at (n ∷ ns) =
-    (at + 4 ≤ length s → wordAt s at ≡ n) × (at + n + 8 ≤ length s → wordAt s (at + n + 4) ≡ n) × RightSoFar s (at + n + 8) ns
+    (at + 4 ≤ length s → wordAt s at ≡ n)
+    × (at + n + 8 ≤ length s → wordAt s (at + n + 4) ≡ n)
+    × RightSoFar s (at + n + 8) ns
 
--- the file ends before the records of the sizes ns from `at` on do, and the first four bytes that are
--- not there are at p
+-- the file ends before the records of the sizes ns from `at` on do, and the first four bytes that
+-- are not there are at p
 pub record EndsAt (s : List ℕ) (at : ℕ) (ns : List ℕ) (p : ℕ) : Type 0 where
   pub short : length s < at + withMarkers ns
   pub place : p ≡ length s / 4 * 4
@@ -52,12 +56,15 @@ pub record EndsAt (s : List ℕ) (at : ℕ) (ns : List ℕ) (p : ℕ) : Type 0 w
 abbrev pub EndedRefused : Type 0
 EndedRefused =
     (s : List ℕ) (p : ℕ) →
-    (monthFileCheck s ≡ Refused (Ended p) → EndsAt s 0 sizes p) × (EndsAt s 0 sizes p → monthFileCheck s ≡ Refused (Ended p))
+    (monthFileCheck s ≡ Refused (Ended p) → EndsAt s 0 sizes p)
+    × (EndsAt s 0 sizes p → monthFileCheck s ≡ Refused (Ended p))
 
 -- of the markers of records of the sizes ns from `at` on, the first wrong one is at p
 pub data FirstWrong (s : List ℕ) : ℕ → List ℕ → ℕ → Type 0 where
   opening : {at n : ℕ} {ns : List ℕ} → (wordAt s at ≡ n → ⊥) → FirstWrong s at (n ∷ ns) at
-  closing : {at n : ℕ} {ns : List ℕ} → wordAt s at ≡ n → (wordAt s (at + n + 4) ≡ n → ⊥) → FirstWrong s at (n ∷ ns) (at + n + 4)
+  closing :
+      {at n : ℕ} {ns : List ℕ} → wordAt s at ≡ n → (wordAt s (at + n + 4) ≡ n → ⊥) →
+      FirstWrong s at (n ∷ ns) (at + n + 4)
   beyond :
       {at n p : ℕ} {ns : List ℕ} → wordAt s at ≡ n → wordAt s (at + n + 4) ≡ n → FirstWrong s (at + n + 8) ns p →
       FirstWrong s at (n ∷ ns) p
@@ -71,7 +78,8 @@ pub record WrongMarker (s : List ℕ) (at : ℕ) (ns : List ℕ) (p : ℕ) : Typ
 abbrev pub MarkerRefused : Type 0
 MarkerRefused =
     (s : List ℕ) (p : ℕ) →
-    (monthFileCheck s ≡ Refused (Marker p) → WrongMarker s 0 sizes p) × (WrongMarker s 0 sizes p → monthFileCheck s ≡ Refused (Marker p))
+    (monthFileCheck s ≡ Refused (Marker p) → WrongMarker s 0 sizes p)
+    × (WrongMarker s 0 sizes p → monthFileCheck s ≡ Refused (Marker p))
 
 pub data FileAnswer : Verdict → Type 0 where
   taken : FileAnswer Accepted
@@ -124,8 +132,8 @@ VirtimInside =
     (month : List ℕ) → indexCheck month ≡ Accepted → (k : ℕ) → k < 6 →
     (j h : ℕ) → j ≤ mapWord (indexOf month) k 8 → h ≤ mapWord (indexOf month) k 9 → RowInside k j h
 
--- And `versy`'s basis of 76 numbers is written up to a word of the ladder that it reaches, and read up
--- to word 8, inside.
+-- And `versy`'s basis of 76 numbers is written up to a word of the ladder that it reaches, and read
+-- up to word 8, inside.
 abbrev pub VersyInside : Type 0
 VersyInside =
     (month : List ℕ) → indexCheck month ≡ Accepted → (k : ℕ) → k < 6 →
@@ -152,12 +160,13 @@ SheetShown = (x : Inputs) → shownOf goodRecord goodMonthFile x ≡ Points (she
 -- And writes their figures, whatever the buffer held.
 abbrev pub SheetWritten : Type 0
 SheetWritten =
-    (x : Inputs) (out : List Float) → figuresBuffer goodRecord goodMonthFile x out ≡ figuresOf goodRecord goodMonthFile x
+    (x : Inputs) (out : List Float) →
+    figuresBuffer goodRecord goodMonthFile x out ≡ figuresOf goodRecord goodMonthFile x
 
 -- ---- demand 2: the tables' places
 
--- In each of the nine records the tables make up its bytes and stand one after the other with nothing
--- between, and the last record ends at 38,552.
+-- In each of the nine records the tables make up its bytes and stand one after the other with
+-- nothing between, and the last record ends at 38,552.
 abbrev pub TablesPacked : Type 0
 TablesPacked = PackedRecords 0 monthFileSize sizes tablesByRecord
 
@@ -204,15 +213,17 @@ MonthAccepted = (s : List ℕ) (m : ℕ) → MonthGood s m → monthRecordCheck 
 abbrev pub MonthZero : Type 0
 MonthZero =
     (s : List ℕ) (m : ℕ) →
-    (verdictReport (monthRecordCheck s m) ≡ (0, 0) → MonthGood s m) × (MonthGood s m → verdictReport (monthRecordCheck s m) ≡ (0, 0))
+    (verdictReport (monthRecordCheck s m) ≡ (0, 0) → MonthGood s m)
+    × (MonthGood s m → verdictReport (monthRecordCheck s m) ≡ (0, 0))
 
 -- ---- demand 1: 'later bytes are ignored'
 
--- Files that agree in the bytes that are needed, 7,904 of the record and 38,552 of the month file, have
--- the same check of Table.
+-- Files that agree in the bytes that are needed, 7,904 of the record and 38,552 of the month file,
+-- have the same check of Table.
 abbrev pub TableCheckLater : Type 0
 TableCheckLater =
-    (number : ℕ) (f g s t : List ℕ) → Alike recordSize f g → Alike monthFileSize s t → tableCheck number f s ≡ tableCheck number g t
+    (number : ℕ) (f g s t : List ℕ) → Alike recordSize f g → Alike monthFileSize s t →
+    tableCheck number f s ≡ tableCheck number g t
 
 -- And the same bytes are handed back.
 abbrev pub TableBytesLater : Type 0
@@ -220,7 +231,9 @@ TableBytesLater =
     (number : ℕ) (f g s t : RefT (List ℕ)) → Alike recordSize (now f) (now g) → Alike monthFileSize (now s) (now t) →
     let p = tablePart number (now f) (now s) in
     let q = tablePart number (now g) (now t) in
-    take (p .size) (drop (p .from) (now (tableFile number f s))) ≡ take (q .size) (drop (q .from) (now (tableFile number g t)))
+    take (p .size) (drop (p .from) (now (tableFile number f s)))
+    ≡
+    take (q .size) (drop (q .from) (now (tableFile number g t)))
 
 -- Files that agree up to the end of the month's record have the same check of Month record.
 abbrev pub MonthCheckLater : Type 0

@@ -1,6 +1,6 @@
--- Are the figures the Rust's? By contract every public function is its definition; what is proved of
--- these definitions beside that, as statements, each proved in proofs/AsInTheRust.antt.
--- Assumes nothing.
+-- Are the figures the Rust's? By contract every public function is its definition; what is proved
+-- of these definitions beside that, as statements, each proved in proofs/AsInTheRust.antt. Assumes
+-- nothing.
 use mathlib.Core.Path.{_≡_}
 use mathlib.Core.Logic.{_⊎_}
 use mathlib.Core.Bool.{Bool, true, false}
@@ -54,14 +54,14 @@ use Rattle.results.specs.KnownPoints.{AllHold, knownPoints}
 
 -- ---- demand 2: the series of CCIR Report 340
 
--- Omega of the map k, 0 to 5, from the two files: each U_{s,j} is the blend at the sunspot number of
--- the entries [0][j][s] and [1][j][s] of the map's table, the index is the row k of `ikim`
+-- Omega of the map k, 0 to 5, from the two files: each U_{s,j} is the blend at the sunspot number
+-- of the entries [0][j][s] and [1][j][s] of the map's table, the index is the row k of `ikim`
 abbrev pub omegaFrom : List ℕ → List ℕ → Float → Float → Float → Float → ℕ → Float → Float
 omegaFrom f2 month ssn gmt clg gob k x =
     omegaOf (coefficientOf f2 month ssn k) (λ i. wordAt month (entryPlace ikim i k 0)) gmt x clg gob
 
--- Of a month file that passes the index check, what `versy` gives for each of the six maps from what
--- `virtim` left of the files at the hour is the map's Omega.
+-- Of a month file that passes the index check, what `versy` gives for each of the six maps from
+-- what `virtim` left of the files at the hour is the map's Omega.
 abbrev pub Report340 : Type 0
 Report340 =
     (f2 month : List ℕ) (ssn gmt x clg gob : Float) → indexCheck month ≡ Accepted → (k : ℕ) → k < 6 →
@@ -74,7 +74,14 @@ SixSeries =
     let omega = omegaFrom f2 month ssn gmt clg gob in
     gammasOf (hourMapsOf f2 month ssn gmt) (indexOf month) dip lat clg gob
     ≡
-    record { g1 = omega 0 dip; g2 = omega 1 dip; g3 = omega 2 dip; g4 = omega 3 dip; g5 = omega 4 dip; g6 = omega 5 lat }
+    record {
+      g1 = omega 0 dip;
+      g2 = omega 1 dip;
+      g3 = omega 2 dip;
+      g4 = omega 3 dip;
+      g5 = omega 4 dip;
+      g6 = omega 5 lat;
+    }
 
 -- So the six map values that the numbers of a control point are worked from, at the point's east
 -- longitude and the cosine of its latitude.
@@ -88,10 +95,17 @@ PointSeries =
     let lat = pt .lat .0 in
     gammasAt (h .ab) (h .index) (pt .lat) (pt .lon) mag
     ≡
-    record { g1 = omega 0 dip; g2 = omega 1 dip; g3 = omega 2 dip; g4 = omega 3 dip; g5 = omega 4 dip; g6 = omega 5 lat }
+    record {
+      g1 = omega 0 dip;
+      g2 = omega 1 dip;
+      g3 = omega 2 dip;
+      g4 = omega 3 dip;
+      g5 = omega 4 dip;
+      g6 = omega 5 lat;
+    }
 
--- So the figures of a point p that is there: its `f2m3` is Omega of the map 5, and its `fs` are those
--- of the maps 3, 2, 1, each times the Es factor.
+-- So the figures of a point p that is there: its `f2m3` is Omega of the map 5, and its `fs` are
+-- those of the maps 3, 2, 1, each times the Es factor.
 abbrev pub FigureSeries : Type 0
 FigureSeries =
     (f2 file : List ℕ) (i : Inputs) → indexCheck file ≡ Accepted → (p : ℕ) → 1 ≤ p → p ≤ sheetPath i .count →
@@ -109,7 +123,9 @@ FigureSeries =
 abbrev pub MapSeries : Type 0
 MapSeries =
     (cof : List Float) (index : List ℕ) (gmt x clg gob : Float) → GoodTable index → (k : ℕ) → k < 6 →
-    versyOf (virtimOf cof index gmt) index (k + 1) x clg gob ≡ omegaOf (coefficientIn cof k) (mapWord index k) gmt x clg gob
+    versyOf (virtimOf cof index gmt) index (k + 1) x clg gob
+    ≡
+    omegaOf (coefficientIn cof k) (mapWord index k) gmt x clg gob
 
 -- ---- demand 2: the geographic functions and the hour's 318 numbers
 
@@ -138,8 +154,8 @@ InHarmonic =
     (w : ℕ → ℕ) (sx gob clg : Float) → Climbs w 8 0 → (j k : ℕ) → j < 8 → Reaches w j → w j < k → k ≤ w (j + 1) →
     geographicOf w sx gob clg k ≡ harmonicOf sx gob clg (j + 1) (k - w j - 1)
 
--- Of an index table whose six maps are good, AB holds the daily series of each row of each map up to
--- word 8, from IC on.
+-- Of an index table whose six maps are good, AB holds the daily series of each row of each map up
+-- to word 8, from IC on.
 abbrev pub HourAt : Type 0
 HourAt =
     (cof : List Float) (index : List ℕ) (gmt : Float) → GoodTable index →
@@ -226,8 +242,8 @@ MapsShaped = (k : ℕ) → k < 6 → MapShaped k
 
 -- ---- demand 2: the field
 
--- t, an array of 7 by 7, holds f for the degrees up to n, and 0 at its other places, those above the
--- diagonal among them
+-- t, an array of 7 by 7, holds f for the degrees up to n, and 0 at its other places, those above
+-- the diagonal among them
 pub record HoldsDegrees (f : ℕ → ℕ → Float) (n : ℕ) (t : List Float) : Type 0 where
   pub size : length t ≡ 49
   pub written : (i m : ℕ) → i ≤ n → m ≤ i → at7 t i m ≡ f i m
@@ -270,8 +286,8 @@ MagfinArrays =
     let v = expansionOf x in
     magfinOf lat eastLon heightM ≡ record { up = neg (v .bv); north = v .bn; east = neg (v .bphi) ⊘ x .s }
 
--- CT[n][m] is the f32 nearest to a decimal of eight places, which is less than one unit of the eighth
--- from Gauss's factor ((n - 1)² - m²) / ((2 n - 1) (2 n - 3))
+-- CT[n][m] is the f32 nearest to a decimal of eight places, which is less than one unit of the
+-- eighth from Gauss's factor ((n - 1)² - m²) / ((2 n - 1) (2 n - 3))
 pub record GaussFactor (n m : ℕ) : Type 0 where
   pub digits : ℕ
   pub value : entry CT n m ≡ decimal digits 8
@@ -315,8 +331,8 @@ pub record OnClock (c : Float) : Type 0 where
   pub above : T (lt (decimal 0 1) c)
   pub most : T (le c (decimal 240 1))
 
--- For an hour from 0 to 24 and a longitude of at most half a turn, PI2 less the engine's own PI, the
--- clock is above 0 and at most 24.
+-- For an hour from 0 to 24 and a longitude of at most half a turn, PI2 less the engine's own PI,
+-- the clock is above 0 and at most 24.
 abbrev pub ClockRange : Type 0
 ClockRange =
     (gmt : Float) (lon : Radians) → T (isTo (decimal 0 1) (decimal 240 1) gmt) →
@@ -383,8 +399,8 @@ pub record Settled (time : Float) (x : Degrees) (isw : Direction) : Type 0 where
   pub day : InDay (cngtimOf time x isw .time)
   pub change : DayChange (cngtimOf time x isw .day)
 
--- So for a time from 0 to 24 and a longitude of at most 181 degrees, which is farther than D2R and R2D
--- carry one that was typed in range.
+-- So for a time from 0 to 24 and a longitude of at most 181 degrees, which is farther than D2R and
+-- R2D carry one that was typed in range.
 abbrev pub CngtimSettled : Type 0
 CngtimSettled =
     (time : Float) (x : Degrees) (isw : Direction) → T (isTo (decimal 0 1) (decimal 240 1) time) →
@@ -425,8 +441,8 @@ Known = AllHold knownPoints
 abbrev pub CutShort : Type 0
 CutShort = (s : List ℕ) → MarkedToLast s → length s ≡ 38551 → monthFileCheck s ≡ Refused (Ended 38548)
 
--- (c) of every file that is long enough and whose first 17 markers are right and the last one wrong:
--- 10 at 38,548.
+-- (c) of every file that is long enough and whose first 17 markers are right and the last one
+-- wrong: 10 at 38,548.
 abbrev pub LastWrong : Type 0
 LastWrong =
     (s : List ℕ) → MarkedToLast s → monthFileSize ≤ length s → (wordAt s 38548 ≡ 1584 → ⊥) →

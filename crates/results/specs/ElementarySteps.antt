@@ -77,8 +77,8 @@ AcosRange = (v : Float) → T (le (absOf v) (fraction 1 1)) → T (isTo (fractio
 
 -- ---- demand 2: the lesser and the greater
 
--- 'Where `min` or `max` meets one NaN it gives the other operand; of equals, the left'; otherwise the
--- one that is `before` the other
+-- 'Where `min` or `max` meets one NaN it gives the other operand; of equals, the left'; otherwise
+-- the one that is `before` the other
 pub record Chooses (before : Float → Float → Bool) (pick : Float → Float → Float) : Type 0 where
   pub nan-left : (b : Float) → pick nan b ≡ b
   pub nan-right : (a : Float) → pick a nan ≡ a

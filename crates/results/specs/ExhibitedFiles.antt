@@ -1,5 +1,6 @@
--- Files that are written out, byte by byte: a month file with ladders that climb and a record, which
--- every check accepts, and the files of document 01's known points (b) and (c). Assumes nothing.
+-- Files that are written out, byte by byte: a month file with ladders that climb and a record,
+-- which every check accepts, and the files of document 01's known points (b) and (c). Assumes
+-- nothing.
 use mathlib.Core.List.{List, [], _∷_, _++_}
 use Prim.Native.Nat.{ℕ, _/_, _%_}
 use lib.ListN.{take, drop, replicate}

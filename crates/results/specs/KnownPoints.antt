@@ -44,9 +44,12 @@ knownPoints =
     -- (i) height at 75 is 1.5
     ∷ (blendOf (heightWeights (decimal 75 0)) (decimal 1 0) (decimal 2 0) is decimal 15 1)
     -- (j) `cngtim` hour 1, 15 degrees, sign -1: time 0, day -1
-    ∷ (movedOf (decimal 1 0) (record { 0 = decimal 15 0 }) ToUniversal is To (record { time = decimal 0 1; day = minusDecimal 1 0 }))
+    ∷ (movedOf (decimal 1 0) (record { 0 = decimal 15 0 }) ToUniversal
+    is To (record { time = decimal 0 1; day = minusDecimal 1 0 }))
     -- (k) hour 23, 15, sign 1: 24, day 1
-    ∷ (movedOf (decimal 23 0) (record { 0 = decimal 15 0 }) ToLocal is To (record { time = decimal 24 0; day = decimal 1 0 }))
+    ∷ (movedOf (decimal 23 0) (record { 0 = decimal 15 0 }) ToLocal
+    is To (record { time = decimal 24 0; day = decimal 1 0 }))
     -- (l) hour 0.5, -15, sign 1: 23.5, day -1
-    ∷ (movedOf (decimal 5 1) (record { 0 = minusDecimal 15 0 }) ToLocal is To (record { time = decimal 235 1; day = minusDecimal 1 0 }))
+    ∷ (movedOf (decimal 5 1) (record { 0 = minusDecimal 15 0 }) ToLocal
+    is To (record { time = decimal 235 1; day = minusDecimal 1 0 }))
     ∷ []

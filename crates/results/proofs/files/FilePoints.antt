@@ -1,6 +1,6 @@
--- Document 01, Known points: the rows of the files and the blend, (a) to (c) and (g) to (i). The rows
--- (b) and (c) follow from laws over all such files (`cut-short`, `last-wrong` of Marks). Assumes
--- nothing.
+-- Document 01, Known points: the rows of the files and the blend, (a) to (c) and (g) to (i). The
+-- rows (b) and (c) follow from laws over all such files (`cut-short`, `last-wrong` of Marks).
+-- Assumes nothing.
 use mathlib.Core.Path.{_≡_, refl, sym, ap, _∙_}
 use mathlib.Core.List.{List, [], _∷_, _++_, append-nil}
 use Prim.Native.Nat.{ℕ, _+_}
@@ -26,12 +26,16 @@ module _ (l : List ℕ) where
   ending-marks =
       record {
         eight = marked _ [] 0 (take 8 sizes) (fourBytes 1584 ++ (replicate 1584 0 ++ l)) refl refl;
-        ninth = word-in _ (zeroRecords (take 8 sizes)) 36960 1584 (replicate 1584 0 ++ l) refl (sym (length-file (take 8 sizes)));
+        ninth =
+            word-in _ (zeroRecords (take 8 sizes)) 36960 1584 (replicate 1584 0 ++ l) refl (sym (length-file (take 8 sizes)));
       }
 
   ending-length : length (endingIn l) ≡ 38548 + length l
   unfolding endingIn
-  ending-length = let a = length-front (zeroRecords (take 8 sizes)) 1584 l in let b = length-file (take 8 sizes) in omega arith
+  ending-length =
+      let a = length-front (zeroRecords (take 8 sizes)) 1584 l in
+      let b = length-file (take 8 sizes) in
+      omega arith
 
   ending-word : (n : ℕ) → l ≡ fourBytes n ++ [] → wordAt (endingIn l) 38548 ≡ n
   unfolding endingIn
@@ -55,7 +59,8 @@ cut-file = ap verdictReport (cut-short cutFile (ending-marks _) (ending-length _
 pub wrong-file : verdictReport (monthFileCheck wrongFile) ≡ (10, 38548)
 wrong-file =
     let w : wordAt wrongFile 38548 ≡ 0 = ending-word _ 0 refl in
-    ap verdictReport (last-wrong wrongFile (ending-marks _) (omega (arith, ending-length (0 ∷ 0 ∷ 0 ∷ 0 ∷ []))) (λ e. omega arith))
+    ap verdictReport
+    (last-wrong wrongFile (ending-marks _) (omega (arith, ending-length (0 ∷ 0 ∷ 0 ∷ 0 ∷ []))) (λ e. omega arith))
 
 -- (g)
 pub f2-blend : blendOf (f2Weights (decimal 50 0)) (decimal 1 0) (decimal 2 0) ≡ decimal 15 1

@@ -121,7 +121,10 @@ module _ (month : List ℕ) where
       go false e = refl
 
   -- '11, place the lowest bad map 1 to 6'
-  pub index-refused : (place : ℕ) → (indexCheck month ≡ Refused (Index place) → LowestBad month place) × (LowestBad month place → indexCheck month ≡ Refused (Index place))
+  pub index-refused :
+      (place : ℕ) →
+      (indexCheck month ≡ Refused (Index place) → LowestBad month place)
+      × (LowestBad month place → indexCheck month ≡ Refused (Index place))
   unfolding indexCheck
   index-refused place = (
     λ e.
@@ -138,6 +141,8 @@ module _ (month : List ℕ) where
         let l = b .low in
         let h = b .high in
         let q : place - 1 + 1 ≡ place = omega arith in
-        bad-map month (place - 1) (gone-by (place - 1) (omega arith) (λ k m. map-good month k (omega arith) .1 (b .before k m))) (omega arith) refl (bad-test (place - 1) (omega arith) (b .bad))
+        bad-map month (place - 1)
+        (gone-by (place - 1) (omega arith) (λ k m. map-good month k (omega arith) .1 (b .before k m)))
+        (omega arith) refl (bad-test (place - 1) (omega arith) (b .bad))
         ∙ ap (λ (n : ℕ). Refused (Index n)) q,
   )
