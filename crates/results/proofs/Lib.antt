@@ -3,7 +3,10 @@
 pub mod Insurer
 pub mod CancelledEdits
 pub mod FigureSources
+pub mod AsInTheRust
 pub mod FiniteOrNot
+pub mod AcceptedFiles
+pub mod ElementarySteps
 pub mod Crossing
 pub mod numbers
 pub mod files

@@ -1,8 +1,7 @@
--- Figures by their places, sheets that are shown, the known points.
+-- Figures by their places, sheets that are shown, desks that are closed.
 pub mod FigurePlaces
 pub mod GoodSheet
 pub mod Ignored
-pub mod KnownPoints
 pub mod AlwaysShown
 pub mod ClosedDesks
 pub mod ShownClocks

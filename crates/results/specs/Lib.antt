@@ -3,7 +3,12 @@
 pub mod Insurer
 pub mod CancelledEdits
 pub mod FigureSources
+pub mod AsInTheRust
 pub mod FiniteOrNot
+pub mod AcceptedFiles
+pub mod ElementarySteps
 pub mod Crossing
+pub mod ExhibitedFiles
+pub mod KnownPoints
 pub mod LaterBytes
 pub mod SamePaths

@@ -29,6 +29,7 @@ use Rattle.maps.specs.declared.inputs.Factors.{Factors}
 use Rattle.maps.specs.declared.ionosphere.versy.Gammas.{Gammas}
 use Rattle.maps.specs.declared.ionosphere.layers.Monthly.{Monthly}
 use Rattle.maps.specs.Layers.{clockOf, timvarOf, layersOf}
+pub use Rattle.results.specs.AsInTheRust.{OnClock}
 
 -- ---- strict order
 lt→cross : (x y : Float) → T (finite x) → T (finite y) → T (lt x y) → plus x * den y + less y * den x < plus y * den x + less x * den y
@@ -110,10 +111,6 @@ module _ (x : Float) (p : T (finite x)) (f : T (fits binary32 x)) (h : T (le x d
       (under-by (den x) (less x) (plus x) (2 ^ 149) gap (fine x f))
 
 -- ---- the correction
-pub record OnClock (c : Float) : Type 0 where
-  pub above : T (lt (decimal 0 1) c)
-  pub most : T (le c (decimal 240 1))
-
 abbrev low : Float
 low = fin true 13 (pos 0)
 
@@ -219,15 +216,6 @@ typed-longitude d b = mul-about binary32 (neg farthest) farthest tt b (exactly D
 
 pub clock-typed : (gmt : Float) (d : Degrees) → Hour gmt → Between (minusDecimal 1800 1) (decimal 1800 1) (d .0) → OnClock (clockOf gmt (radiansOf d))
 clock-typed gmt d h b = clock-range gmt (radiansOf d) h (typed-longitude d b)
-
--- ---- '24 stays, 0 becomes 24', at a longitude of 0
-pub stays-24 : clockOf (decimal 240 1) (record { 0 = decimal 0 1 }) ≡ decimal 240 1
-unfolding clockOf decimal round neg add sub div lt le
-stays-24 = refl
-
-pub becomes-24 : clockOf (decimal 0 1) (record { 0 = decimal 0 1 }) ≡ decimal 240 1
-unfolding clockOf decimal round neg add sub div lt le
-becomes-24 = refl
 
 -- ---- it is the layers' local mean time
 pub layer-clock : (m : Monthly) (ssn gmt : Float) (psc : Factors) (hmym : List Float) (pt : ControlPoint) (mag : MagneticVars) (g : Gammas) → layersOf m ssn gmt psc hmym pt mag g .clck ≡ clockOf gmt (pt .lon)

@@ -7,10 +7,7 @@ use lib.Ieee.{Float, round, neg, add, sub, lt, le}
 use Rattle.base.specs.declared.angle.Radians.{Radians}
 use Rattle.base.specs.Single.{_⊕_, _⊖_, _⊘_, decimal, minusDecimal}
 use Rattle.maps.specs.Layers.{clockOf}
-
--- the time before the correction: the hour, and the longitude in hours
-abbrev pub uncorrected : Float → Radians → Float
-uncorrected gmt lon = gmt ⊕ lon .0 ⊘ decimal 261799387 9
+use Rattle.results.specs.AsInTheRust.{uncorrected}
 
 abbrev corrected : Float → Float
 corrected c = cond (lt (decimal 240 1 ⊖ c) (decimal 0 1)) (c ⊖ decimal 240 1) (cond (le c (decimal 0 1)) (c ⊕ decimal 240 1) c)

@@ -38,6 +38,7 @@ use Rattle.maps.specs.declared.ionosphere.clocks.Times.the-variants.{Hours, Ref
 use Rattle.maps.specs.declared.ionosphere.clocks.LocalTime.{LocalTime}
 use Rattle.maps.specs.declared.ionosphere.clocks.LocalTime.the-variants.{At, Refused as NoLocalTime}
 use Rattle.maps.specs.Clocks.{thetaOf, wholeOf, afterShift, cngdayOf, forLoop, wraps, cngtimOf, timeAt, geotimOf, timeCheck, hoursCheck, movedOf, timesOf, localTimeOf}
+use Rattle.results.specs.AsInTheRust.{InDay, DayChange, yesterday, today, tomorrow, Settled, MovedInDay, TimesInDay, LocalInDay}
 use Rattle.results.proofs.clock.Clock.{lt-not-le, Hour, farthest, typed-longitude}
 use Rattle.results.proofs.clock.WholeParts.{whole-below, low-whole, high-whole, minus-one}
 use Rattle.results.proofs.clock.Offsets.{day, half, full, one, thirteen, Turn, theta-is, theta-turn, small-offset, after-is, Later, later}
@@ -64,13 +65,6 @@ start-in t fint2 l k = sub-in binary32 (neg day) (fin false 3 (pos 4)) tt (raise
     raised false e =
         let p : T (finite t) = between-finite {lo = neg thirteen} {hi = fin false 37 (pos 0)} tt tt l in
         record { low = not-lt→le t nought (no-nan-finite t p) (no-nan-finite nought tt) e; high = trans-le t (fin false 37 (pos 0)) (fin false 3 (pos 4)) (l .high) tt }
-
--- a time of the day, on which the loop has nothing to do
-pub record InDay (time : Float) : Type 0 where
-  pub from : T (le (decimal 0 1) time)
-  pub to : T (le time (decimal 240 1))
-  pub not-below : lt time (decimal 0 1) ≡ false
-  pub not-above : lt (decimal 240 1) time ≡ false
 
 not-lt : (x y : Float) → T (finite x) → T (finite y) → T (le y x) → lt x y ≡ false
 not-lt x y p q h = go (lt x y) refl
@@ -137,11 +131,6 @@ days-in {a} {b} {x} lo hi p q l h c =
     let r = between-finite p q c in
     record { low = trans-le lo (a ⊘ day) (x ⊘ day) l (div-right binary32 a x day p r tt (c .low)); high = trans-le (x ⊘ day) (b ⊘ day) hi (div-right binary32 x b day r q tt (c .high)) h }
 
-pub data DayChange (d : Float) : Type 0 where
-  yesterday : d ≡ minusDecimal 10 1 → DayChange d
-  today : d ≡ decimal 0 1 → DayChange d
-  tomorrow : d ≡ decimal 10 1 → DayChange d
-
 both-wholes : (a b : ℤ) → (a ≡ negsuc 0) ⊎ (a ≡ pos 0) → (b ≡ pos 0) ⊎ (b ≡ pos 1) → DayChange (ofInt binary32 (a +ℤ b))
 unfolding ofInt decimal minusDecimal round
 both-wholes a b (inl p) (inl q) = yesterday (λ t. ofInt binary32 (p t +ℤ q t))
@@ -200,13 +189,6 @@ typed-near d b = wider (minusDecimal 1810 1) (decimal 1810 1) tt tt b
 pub carried-near : (d : Degrees) → Typed d → Near (carried d)
 unfolding degreesOf farthest PI PI2 R2D decimal minusDecimal round neg add sub mul le
 carried-near d b = mul-about binary32 (minusDecimal 1810 1) (decimal 1810 1) tt (typed-longitude d b) (exactly R2D tt)
-
--- the loop of CNGTIM has ended after one turn, and the answer is a time of the day with a change of
--- day
-pub record Settled (time : Float) (x : Degrees) (isw : Direction) : Type 0 where
-  pub more : (n : ℕ) → wraps (suc n) (forLoop (afterShift time (thetaOf x) isw) (thetaOf x)) ≡ wraps 1 (forLoop (afterShift time (thetaOf x) isw) (thetaOf x))
-  pub day : InDay (cngtimOf time x isw .time)
-  pub change : DayChange (cngtimOf time x isw .day)
 
 module _ (time : Float) (x : Degrees) (isw : Direction) where
   -- 'longitude 0 leaves the time and gives 0', for either zero and any time
@@ -292,18 +274,6 @@ geotim-settled jt false tlong rlong h b c =
     }
 
 -- ---- the answers: whatever is asked, an answer that is no refusal is of the day
-abbrev pub MovedInDay : Moved → Type 0
-MovedInDay (To s) = InDay (s .time) × DayChange (s .day)
-MovedInDay (NotMoved why) = Unit
-
-abbrev pub TimesInDay : Times → Type 0
-TimesInDay (Hours t) = InDay (t .gmt) × InDay (t .«lmt_tx») × InDay (t .gmtr)
-TimesInDay (NoTimes why) = Unit
-
-abbrev pub LocalInDay : LocalTime → Type 0
-LocalInDay (At t) = InDay t
-LocalInDay (NoLocalTime why) = Unit
-
 -- what the checks accept
 is-hour : (x : Float) → isTo (decimal 0 1) (decimal 24 0) x ≡ true → Hour x
 unfolding decimal round

@@ -16,7 +16,8 @@ use Rattle.base.specs.declared.refusal.Verdict.{Verdict}
 use Rattle.base.specs.declared.refusal.Verdict.the-variants.{Accepted, Refused}
 use Rattle.base.specs.Refusal.{verdictReport}
 use Rattle.base.specs.Index.{ikimAt, indexOf, mapWord, rows, harmonics, climbs, goodMap, lowestBad, indexCheck, Climbs, top, level, up, GoodIndex}
-use Rattle.base.proofs.verdicts.Picks.{cond-true, cond-false}
+use Rattle.results.specs.AcceptedFiles.{GoodWords, LowestBad}
+use Rattle.base.proofs.verdicts.Picks.{cond-true, cond-false, never'}
 use Rattle.base.proofs.verdicts.Refusals.{refused-not-accepted}
 use Rattle.base.proofs.ladder.Ladders.{and-true, signedWords, same-yes, same-no, exceeds-even, good-rest, good-known, mapWords, same-words, limits, Checked, unchecked, bad-map, next-map, no-map}
 use Rattle.base.proofs.ladder.Indexing.{climbs-same, index-word, good-index}
@@ -54,10 +55,6 @@ words-read w v f r m g =
 abbrev pub goodAt : List ℕ → ℕ → Bool
 goodAt month k = goodMap (ikimAt month k) (getD rows k 0) (getD harmonics k 0)
 
--- the words of the map k are good
-abbrev pub GoodWords : List ℕ → ℕ → Type 0
-GoodWords month k = GoodIndex (mapWord (indexOf month) k) (getD rows k 0) (getD harmonics k 0)
-
 module _ (month : List ℕ) (k : ℕ) (h : k < 6) where
   -- the test of a map passes exactly where its words are good
   pub map-good : (goodAt month k ≡ true → GoodWords month k) × (GoodWords month k → goodAt month k ≡ true)
@@ -87,13 +84,6 @@ module _ (month : List ℕ) where
     λ f. no-map month 6 (gone-by 6 (omega arith) (λ i l. map-good month i l .1 (f i l))) (omega arith),
   )
 
-  -- the map `place`, counted from 1, is bad and those before it are good
-  pub record LowestBad (place : ℕ) : Type 0 where
-    pub low : 1 ≤ place
-    pub high : place ≤ 6
-    pub bad : goodAt month (place - 1) ≡ false
-    pub before : (k : ℕ) → k < place - 1 → goodAt month k ≡ true
-
   -- of n maps from the map k on
   record Found (n k place : ℕ) : Type 0 where
     low : k < place
@@ -122,16 +112,37 @@ module _ (month : List ℕ) where
           let q : place - 1 ≡ k = omega arith in
           record { low = omega arith; high = omega arith; bad = ap (goodAt month) q ∙ g; before = λ i l m. absurd (omega arith) }
 
+  -- a map whose words are not good fails the test
+  bad-test : (k : ℕ) → k < 6 → (GoodWords month k → ⊥) → goodAt month k ≡ false
+  bad-test k h n = go (goodAt month k) refl
+    where
+      go : (b : Bool) → goodAt month k ≡ b → b ≡ false
+      go true e = absurd (n (map-good month k h .0 e))
+      go false e = refl
+
   -- '11, place the lowest bad map 1 to 6'
-  pub index-refused : (place : ℕ) → (indexCheck month ≡ Refused (Index place) → LowestBad place) × (LowestBad place → indexCheck month ≡ Refused (Index place))
+  pub index-refused :
+      (place : ℕ) →
+      (indexCheck month ≡ Refused (Index place) → LowestBad month place)
+      × (LowestBad month place → indexCheck month ≡ Refused (Index place))
   unfolding indexCheck
   index-refused place = (
     λ e.
         let r = found 6 0 place e in
-        record { low = omega (arith, r .low); high = omega (arith, r .high); bad = r .bad; before = λ k l. r .before k (omega arith) l },
+        let l = r .low in
+        let h = r .high in
+        record {
+          low = omega arith;
+          high = omega arith;
+          bad = λ g. never' (sym (map-good month (place - 1) (omega arith) .1 g) ∙ r .bad);
+          before = λ k m. map-good month k (omega arith) .0 (r .before k (omega arith) m);
+        },
     λ b.
         let l = b .low in
         let h = b .high in
         let q : place - 1 + 1 ≡ place = omega arith in
-        bad-map month (place - 1) (gone-by (place - 1) (omega arith) (b .before)) (omega arith) refl (b .bad) ∙ ap (λ (n : ℕ). Refused (Index n)) q,
+        bad-map month (place - 1)
+        (gone-by (place - 1) (omega arith) (λ k m. map-good month k (omega arith) .1 (b .before k m)))
+        (omega arith) refl (bad-test (place - 1) (omega arith) (b .bad))
+        ∙ ap (λ (n : ℕ). Refused (Index n)) q,
   )

@@ -12,13 +12,9 @@ use Rattle.base.specs.declared.refusal.Refusal.the-variants.{Ended, Marker}
 use Rattle.base.specs.declared.refusal.Verdict.the-variants.{Accepted, Refused}
 use Rattle.base.specs.Words.{wordAt}
 use Rattle.base.specs.MonthFile.{monthFileSize, sizes, layout, walk, monthFileCheck, Marked, WellMarked, MarkedToLast}
+use Rattle.results.specs.AcceptedFiles.{withMarkers}
 use Rattle.base.proofs.verdicts.Refusals.{refused-not-accepted}
 use Rattle.base.proofs.layout.Walks.{no-open, bad-open, no-close, bad-close, passed, accepted-length}
-
--- the bytes of records of these sizes, with their markers
-abbrev pub lengthOf : List ℕ → ℕ
-lengthOf [] = 0
-lengthOf (n ∷ ns) = n + 8 + lengthOf ns
 
 -- each size is a whole number of words
 abbrev pub Fours : List ℕ → Type 0
@@ -33,8 +29,8 @@ fours-eight = (refl, (refl, (refl, (refl, (refl, (refl, (refl, (refl, tt))))))))
 
 -- ---- records with right markers are passed
 through :
-    (s : List ℕ) (at : ℕ) (ns rest : List ℕ) → Fours ns → at % 4 ≡ 0 → Marked s at ns → at + lengthOf ns ≤ length s →
-    walk s at (layout (ns ++ rest)) ≡ walk s (at + lengthOf ns) (layout rest)
+    (s : List ℕ) (at : ℕ) (ns rest : List ℕ) → Fours ns → at % 4 ≡ 0 → Marked s at ns → at + withMarkers ns ≤ length s →
+    walk s at (layout (ns ++ rest)) ≡ walk s (at + withMarkers ns) (layout rest)
 through s at [] rest f m k h = ap (λ (n : ℕ). walk s n (layout rest)) (sym (add-zero at))
 through s at (n ∷ ns) rest f m k h =
     let w = f .0 in

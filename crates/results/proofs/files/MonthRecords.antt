@@ -18,11 +18,6 @@ use Rattle.base.proofs.ladder.Ladders.{and-true}
 use Rattle.base.proofs.layout.Records.{MonthThere, month-known, month-part}
 use Rattle.base.proofs.verdicts.Refusals.{accepted-by-number}
 
--- 7,904 bytes, all of them there
-pub record WholeRecord (p : Part) (s : List ℕ) : Type 0 where
-  pub size : p .size ≡ recordSize
-  pub inside : p .from + p .size ≤ length s
-
 module _ (s : List ℕ) (m : ℕ) where
   pub month-there : MonthThere s m → monthRecordCheck s m ≡ Accepted
   unfolding monthRecordCheck monthCheck
@@ -39,9 +34,9 @@ module _ (s : List ℕ) (m : ℕ) where
   )
 
   -- 'those 7,904 bytes .., a part of the lent file'
-  pub month-inside : monthRecordCheck s m ≡ Accepted → WholeRecord (monthPart s m) s
+  pub month-inside : monthRecordCheck s m ≡ Accepted → (monthPart s m .size ≡ recordSize) × (monthPart s m .from + monthPart s m .size ≤ length s)
   month-inside e =
       let t = month-known s m e in
       let l = t .low in
       let h = t .room in
-      rw (month-part s m refl e) (record { size = refl; inside = omega arith })
+      rw (month-part s m refl e) (refl, omega arith)

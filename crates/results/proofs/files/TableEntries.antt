@@ -23,6 +23,7 @@ use Rattle.base.specs.Tables.{Table, wordsIn, numbered, noSuchTable, startOf, w
 use Rattle.base.specs.Index.{rows, harmonics, ikimPlace, indexOf, mapWord}
 use Rattle.base.specs.Blend.{blendOf, blendAt, blendTable, eWeights, heightWeights, eslcofOf, esmcofOf, esucofOf, f2cofOf, fm3cofOf, ercofOf, hmymOf, fakmapOf, cofionMaps, cofionOf, IA, IB, mapTables, mapWeights, coefficientOf}
 use Rattle.base.proofs.verdicts.Picks.{cond-true}
+use Rattle.results.specs.AsInTheRust.{WordEntry, MapShaped}
 use Rattle.base.proofs.lists.Fills.{run-at}
 use Rattle.base.proofs.layout.Parts.{table-part}
 use Rattle.base.proofs.ladder.Ladders.{six}
@@ -118,14 +119,7 @@ module _ (number : ℕ) where
     )
 
   -- the word n of the table is an entry
-  pub record WordEntry (n : ℕ) : Type 0 where
-    pub i : ℕ
-    pub j : ℕ
-    pub k : ℕ
-    pub there : HasEntry number i j k
-    pub place : entryPlace number i j k ≡ startOf number + 4 * n
-
-  pub every-word : (n : ℕ) → n < wordsOf number → WordEntry n
+  pub every-word : (n : ℕ) → n < wordsOf number → WordEntry number n
   unfolding entryPlace
   every-word n h =
       let m : n < K * J * I = subst (λ (x : ℕ). n < x) words-shaped h in
@@ -150,14 +144,6 @@ index-entry month k j h l =
     index-word month k j h l ∙ ap (wordAt month) e
 
 -- ---- the six maps
-
--- of a map's table: a row has as many words as IB says, a plane as many rows as the map, and there
--- are two planes
-pub record MapShaped (k : ℕ) : Type 0 where
-  pub columns : dimension (getD mapTables k 0) 0 ≡ getD IB k 0
-  pub lines : dimension (getD mapTables k 0) 1 ≡ getD rows k 0
-  pub planes : dimension (getD mapTables k 0) 2 ≡ 2
-  pub plane : planeOf (getD mapTables k 0) ≡ getD rows k 0 * getD IB k 0
 
 pub maps-shaped : (k : ℕ) → k < 6 → MapShaped k
 unfolding dimension

@@ -18,7 +18,8 @@ use Rattle.base.specs.Words.{wordOf, wordAt}
 use Rattle.base.specs.MonthFile.{monthFileSize, sizes, Four, layout, isRight, walk, monthFileCheck, Marked, WellMarked}
 use Rattle.base.proofs.verdicts.Refusals.{refused-not-accepted}
 use Rattle.base.proofs.layout.Walks.{no-open, bad-open, no-close, bad-close, passed}
-use Rattle.results.proofs.files.Marks.{lengthOf, Fours, fours, done}
+use Rattle.results.specs.AcceptedFiles.{withMarkers, RightSoFar, EndsAt, FirstWrong, opening, closing, beyond, WrongMarker, FileAnswer, taken, ended, wrong}
+use Rattle.results.proofs.files.Marks.{Fours, fours, done}
 
 -- refusals that are the same have the same place, and 9 is not 10
 place : {v w : Verdict} → v ≡ w → verdictReport v .1 ≡ verdictReport w .1
@@ -28,14 +29,6 @@ ended-marker : {A : Type 0} (p q : ℕ) → Refused (Ended p) ≡ Refused (Marke
 ended-marker p q e = let x : _≡_ {A = ℕ} 9 10 = ap (λ (v : Verdict). verdictReport v .0) e in absurd (omega arith)
 
 -- ---- '10 at a wrong marker': the first one, where its four bytes are there
-
--- of the markers of records of the sizes ns from `at` on, the first wrong one is at p
-pub data FirstWrong (s : List ℕ) : ℕ → List ℕ → ℕ → Type 0 where
-  opening : {at n : ℕ} {ns : List ℕ} → (wordAt s at ≡ n → ⊥) → FirstWrong s at (n ∷ ns) at
-  closing : {at n : ℕ} {ns : List ℕ} → wordAt s at ≡ n → (wordAt s (at + n + 4) ≡ n → ⊥) → FirstWrong s at (n ∷ ns) (at + n + 4)
-  beyond :
-      {at n p : ℕ} {ns : List ℕ} → wordAt s at ≡ n → wordAt s (at + n + 4) ≡ n → FirstWrong s (at + n + 8) ns p →
-      FirstWrong s at (n ∷ ns) p
 
 not-before : (s : List ℕ) (at : ℕ) (ns : List ℕ) (p : ℕ) → FirstWrong s at ns p → at ≤ p
 not-before s at (n ∷ ns) p (opening d) = omega arith
@@ -51,11 +44,6 @@ wrong-walk s at (n ∷ ns) p f m (beyond o c r) l =
     let w = f .0 in
     let h = not-before s (at + n + 8) ns p r in
     passed s at n ns m w (omega arith) (omega arith) o (omega arith) c ∙ wrong-walk s (at + n + 8) ns p (f .1) (omega arith) r l
-
--- the first wrong marker is there, at p
-pub record WrongMarker (s : List ℕ) (at : ℕ) (ns : List ℕ) (p : ℕ) : Type 0 where
-  pub there : p + 4 ≤ length s
-  pub first : FirstWrong s at ns p
 
 wrong-met :
     (s : List ℕ) (at : ℕ) (ns : List ℕ) (p : ℕ) → Fours ns → at % 4 ≡ 0 → at ≤ length s → walk s at (layout ns) ≡ Refused (Marker p) →
@@ -87,18 +75,6 @@ marker-refused s p = (
 
 -- ---- '9 if four bytes are not there': the file is short, and the markers that it has are right
 
--- the markers of records of the sizes ns from `at` on, as far as the file goes
-abbrev pub RightSoFar : List ℕ → ℕ → List ℕ → Type 0
-RightSoFar s at [] = Unit
-RightSoFar s at (n ∷ ns) =
-    (at + 4 ≤ length s → wordAt s at ≡ n) × (at + n + 8 ≤ length s → wordAt s (at + n + 4) ≡ n) × RightSoFar s (at + n + 8) ns
-
--- the first four bytes that are not there are at p
-pub record EndsAt (s : List ℕ) (at : ℕ) (ns : List ℕ) (p : ℕ) : Type 0 where
-  pub short : length s < at + lengthOf ns
-  pub place : p ≡ length s / 4 * 4
-  pub right : RightSoFar s at ns
-
 -- past the end there is no marker
 past : (s : List ℕ) (at : ℕ) (ns : List ℕ) → length s < at + 4 → RightSoFar s at ns
 past s at [] h = tt
@@ -127,7 +103,7 @@ end-met s at (n ∷ ns) p f m h e = let w = f .0 in elim (decLe (at + 4) (length
 ]
 
 end-walk :
-    (s : List ℕ) (at : ℕ) (ns : List ℕ) → Fours ns → at % 4 ≡ 0 → at ≤ length s → length s < at + lengthOf ns → RightSoFar s at ns →
+    (s : List ℕ) (at : ℕ) (ns : List ℕ) → Fours ns → at % 4 ≡ 0 → at ≤ length s → length s < at + withMarkers ns → RightSoFar s at ns →
     walk s at (layout ns) ≡ Refused (Ended (length s / 4 * 4))
 end-walk s at [] f m h l r = absurd (omega arith)
 end-walk s at (n ∷ ns) f m h l r = let w = f .0 in elim (decLe (at + 4) (length s)) [
@@ -175,21 +151,16 @@ cut-anywhere s n w h =
 
 -- ---- there is no other answer
 
-pub data Answers : Verdict → Type 0 where
-  taken : Answers Accepted
-  ended : (p : ℕ) → Answers (Refused (Ended p))
-  wrong : (p : ℕ) → Answers (Refused (Marker p))
-
-walk-answers : (s : List ℕ) (at : ℕ) (fs : List Four) → Answers (walk s at fs)
+walk-answers : (s : List ℕ) (at : ℕ) (fs : List Four) → FileAnswer (walk s at fs)
 unfolding walk
 walk-answers s at [] = taken
 walk-answers s at (f ∷ fs) = go (leb (at + 4) (length s)) (isRight s at f) (walk-answers s (at + 4) fs)
   where
-    go : (a b : Bool) → Answers (walk s (at + 4) fs) → Answers (cond a (cond b (walk s (at + 4) fs) (Refused (Marker at))) (Refused (Ended at)))
+    go : (a b : Bool) → FileAnswer (walk s (at + 4) fs) → FileAnswer (cond a (cond b (walk s (at + 4) fs) (Refused (Marker at))) (Refused (Ended at)))
     go true true r = r
     go true false r = wrong at
     go false b r = ended at
 
-pub file-answers : (s : List ℕ) → Answers (monthFileCheck s)
+pub file-answers : (s : List ℕ) → FileAnswer (monthFileCheck s)
 unfolding monthFileCheck
 file-answers s = walk-answers s 0 (layout sizes)

@@ -12,17 +12,9 @@ use lib.Ieee.Fits.{and-l, and-r}
 use lib.Ieee.Bits.{is-true}
 use borrow.Author.Tests.{le-ltb}
 use Rattle.base.specs.Number.{minOf, maxOf}
+use Rattle.results.specs.ElementarySteps.{Chooses}
 use Rattle.base.proofs.verdicts.Picks.{cond-true, cond-false}
 use Rattle.base.proofs.order.Order.{not-lt→le}
-
--- ---- the sentence, of a choice between two that goes by `before`
-
-pub record Chooses (before : Float → Float → Bool) (pick : Float → Float → Float) : Type 0 where
-  pub nan-left : (b : Float) → pick nan b ≡ b
-  pub nan-right : (a : Float) → pick a nan ≡ a
-  pub equals : (a b : Float) → T (eq a b) → pick a b ≡ a
-  pub left : (a b : Float) → T (before a b) → pick a b ≡ a
-  pub right : (a b : Float) → T (before b a) → pick a b ≡ b
 
 -- ---- less, equal and greater shut each other out
 

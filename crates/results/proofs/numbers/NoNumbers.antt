@@ -7,6 +7,7 @@ use lib.Ieee.{Float, nan, inf, fin, Format, neg, add, sub, mul, div, lt, le, eq,
 use Rattle.base.specs.Double.{fraction}
 use Rattle.base.specs.Number.{negative, absOf, withSign, narrowOf, sqrtOf}
 use Rattle.base.specs.Elementary.{horner, factorial, upFrom, expTerms, halfAngle, atanSeries, atanWithin, atanFrom, sinOf, cosOf, atanOf, acosOf, expWithin, expOf, lnOf, sin32Of, cos32Of, atan32Of, acos32Of, exp32Of, ln32Of, elementaryFunctions}
+use Rattle.results.specs.ElementarySteps.{NanToNan}
 
 -- ---- the operations: a NaN on the left, and on the right
 
@@ -107,11 +108,6 @@ exp32-nan = narrow-nan _ exp-nan
 pub ln32-nan : ln32Of nan ≡ nan
 unfolding ln32Of
 ln32-nan = narrow-nan _ ln-nan
-
--- what holds of each function at a NaN
-abbrev pub NanToNan : List (Float → Float) → Type 0
-NanToNan [] = Unit
-NanToNan (f ∷ fs) = (f nan ≡ nan) × NanToNan fs
 
 -- 'Any NaN gives NaN'
 pub nan-all : NanToNan elementaryFunctions

@@ -15,15 +15,11 @@ use Rattle.base.proofs.verdicts.Picks.{cond-false}
 use Rattle.base.proofs.order.Order.{Between, trans-le}
 use Rattle.base.proofs.order.Intervals.{exactly, sub-in, mul-in}
 use Rattle.maps.specs.Geometry.{acosClamped, otherWay, atLeastMinimum, gcdOf, circleOf, countOf, pathOf}
+pub use Rattle.results.specs.AsInTheRust.{CountRule, one, three, five}
 use Rattle.results.proofs.path.SignRules.{acos-clamped-in, acos-clamped-nan}
 
 -- ---- document 01, Figures: '`gcd_km` <= 2000.01 (as f32) gives one point, <= 4000 three, else
 -- five'
-pub data CountRule (km : Float) : ℕ → Type 0 where
-  one : le km (decimal 200001 2) ≡ true → CountRule km 1
-  three : le km (decimal 200001 2) ≡ false → le km (decimal 40000 1) ≡ true → CountRule km 3
-  five : le km (decimal 200001 2) ≡ false → le km (decimal 40000 1) ≡ false → CountRule km 5
-
 pub count-rule : (km : Float) → CountRule km (countOf km)
 unfolding countOf
 count-rule km = go (le km (decimal 200001 2)) (le km (decimal 40000 1)) refl refl

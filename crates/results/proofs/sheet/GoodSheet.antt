@@ -5,7 +5,8 @@ use mathlib.Core.Path.{_≡_, ap}
 use mathlib.Core.List.{List}
 use lib.Ieee.{Float}
 use Rattle.base.specs.declared.refusal.Verdict.{Verdict}
-use Rattle.results.proofs.files.GoodFiles.{goodRecord, goodMonthFile, files-accepted}
+use Rattle.results.specs.ExhibitedFiles.{goodRecord, goodMonthFile}
+use Rattle.results.proofs.files.GoodFiles.{files-accepted}
 use Rattle.maps.specs.declared.inputs.Inputs.{Inputs}
 use Rattle.maps.specs.declared.figures.Shown.the-variants.{Points}
 use Rattle.maps.specs.Figures.{sheetPath, figuresOf, pointsOr, shownOf, figuresBuffer}
