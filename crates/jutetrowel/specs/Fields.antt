@@ -33,9 +33,9 @@ abbrev pub poleTyped : Float → Float → MagneticPole
 poleTyped lat lon = record { lat = degrees lat; lon = degrees lon }
 
 -- the 14 fields in document 01's order
-unfoldable pub inputsOf :
+unfoldable pub inputsTyped :
     ℕ → Float → Float → Float → Float → Float → Float → ℕ → Float → Float → Float → Float → Float → Float → Inputs
-inputsOf month ssn gmt tlat tlong rlat rlong flag e f1 f2 es lat lon =
+inputsTyped month ssn gmt tlat tlong rlat rlong flag e f1 f2 es lat lon =
     record {
       month = month;
       ssn = ssn;

@@ -13,7 +13,7 @@ ghost use Rattle.worksheet.specs.Desks.{openedOf};
 ghost use Rattle.worksheet.specs.Showing.{pair, drawnOf, drawnBuffer};
 ghost use Rattle.worksheet.specs.Journal.{show as showing, step};
 ghost use Rattle.jutetrowel.specs.Answers.{showingOf};
-ghost use Rattle.jutetrowel.specs.Fields.{inputsOf};
+ghost use Rattle.jutetrowel.specs.Fields.{inputsTyped};
 ghost use Rattle.jutetrowel.specs.Calls.{Shows};
 
 // The number of points of a sheet by its fields, which nothing judges, with its figures in the
@@ -39,13 +39,13 @@ pub extern "C" fn jt_figures(
     out: &mut [f32],
 ) -> Showing
     ensures answer { λ r. ⌜ (
-        let i = inputsOf month ssn gmt tlat tlong rlat rlong «long_path»
+        let i = inputsTyped month ssn gmt tlat tlong rlat rlong «long_path»
         «psc_e» «psc_f1» «psc_f2» «psc_es» «pole_lat» «pole_lon» in
         let files = pair (now (f2 .entry)) (now (file .entry)) i in
         r ≡ showingOf (drawnOf files i (now (out .entry)))
         ) ⌝ }
     ensures buffer { λ _. ⌜ (
-        let i = inputsOf month ssn gmt tlat tlong rlat rlong «long_path»
+        let i = inputsTyped month ssn gmt tlat tlong rlat rlong «long_path»
         «psc_e» «psc_f1» «psc_f2» «psc_es» «pole_lat» «pole_lon» in
         let files = pair (now (f2 .entry)) (now (file .entry)) i in
         now (out .exit) ≡ drawnBuffer files i (now (out .entry))
