@@ -13,7 +13,7 @@ use Rattle.base.specs.declared.refusal.Verdict.the-variants.{Accepted, Refused}
 use Rattle.base.specs.Refusal.{verdictReport}
 use Rattle.base.specs.Words.{wordAt}
 use Rattle.base.specs.MonthFile.{recordSize, monthFileSize, Part, monthRecordCheck, monthPart, sizes, monthFileCheck, WellMarked}
-use Rattle.base.specs.Tables.{tablesByRecord, PackedRecords, tableCheck, tablePart, tableFile}
+use Rattle.base.specs.Tables.{tablesByRecord, tables, xf2cof, PackedRecords, partOf, tableCheck, tablePart, tableFile}
 use Rattle.base.specs.Index.{indexOf, mapWord, rows, harmonics, indexCheck, GoodIndex, Reaches}
 use Rattle.base.specs.Blend.{IA, IB, IC}
 use Rattle.base.specs.Files.{filesCheck}
@@ -21,7 +21,7 @@ use Rattle.maps.specs.declared.inputs.Inputs.{Inputs}
 use Rattle.maps.specs.declared.figures.Shown.the-variants.{Points}
 use Rattle.maps.specs.Figures.{sheetPath, figuresOf, shownOf, figuresBuffer}
 use Rattle.results.specs.LaterBytes.{Alike}
-use Rattle.results.specs.ExhibitedFiles.{goodRecord, goodMonthFile}
+use Rattle.results.specs.ExhibitedFiles.{goodRecord, goodMonthFile, Below}
 
 -- ---- demand 1: the month file's check does its work or refuses by number, and names who earns it
 
@@ -153,6 +153,10 @@ IndexAccepted = indexCheck goodMonthFile ≡ Accepted
 abbrev pub FilesAccepted : Type 0
 FilesAccepted = filesCheck goodRecord goodMonthFile ≡ Accepted
 
+-- The month file is made of bytes.
+abbrev pub FileOfBytes : Type 0
+FileOfBytes = Below 256 goodMonthFile
+
 -- Over these files `figures`, which judges no field, answers any inputs with their points.
 abbrev pub SheetShown : Type 0
 SheetShown = (x : Inputs) → shownOf goodRecord goodMonthFile x ≡ Points (sheetPath x .count)
@@ -169,6 +173,14 @@ SheetWritten =
 -- nothing between, and the last record ends at 38,552.
 abbrev pub TablesPacked : Type 0
 TablesPacked = PackedRecords 0 monthFileSize sizes tablesByRecord
+
+-- There are 20 of them.
+abbrev pub TwentyTables : Type 0
+TwentyTables = length tables ≡ 20
+
+-- An F2 record is its planes and nothing else.
+abbrev pub PlanesFill : Type 0
+PlanesFill = partOf xf2cof ≡ record { from = 0; size = recordSize }
 
 -- ---- demand 1: Table and Month record
 

@@ -2,7 +2,7 @@
 -- which every check accepts, and the files of document 01's known points (b) and (c). Assumes
 -- nothing.
 use mathlib.Core.List.{List, [], _∷_, _++_}
-use Prim.Native.Nat.{ℕ, _/_, _%_}
+use Prim.Native.Nat.{ℕ, _/_, _%_, _<_}
 use lib.ListN.{take, drop, replicate}
 use Rattle.base.specs.MonthFile.{recordSize, sizes}
 
@@ -44,6 +44,11 @@ goodMonthFile = fileWith goodIndexTable
 
 abbrev pub goodRecord : List ℕ
 goodRecord = replicate recordSize 0
+
+-- each number of a list is below the limit
+abbrev pub Below : ℕ → List ℕ → Type 0
+Below limit [] = Unit
+Below limit (n ∷ ns) = (n < limit) × Below limit ns
 
 -- ---- files that are not
 

@@ -19,7 +19,7 @@ use Rattle.base.specs.Words.{wordAt}
 use Rattle.base.specs.MonthFile.{recordSize, monthFileSize, sizes, monthFileCheck, Marked}
 use Rattle.base.specs.Index.{indexOf, mapWord, rows, harmonics, climbs, goodMap, indexCheck, GoodIndex}
 use Rattle.base.specs.Files.{fileCheck, filesCheck}
-use Rattle.results.specs.ExhibitedFiles.{fourBytes, wordBytes, zeroRecords, fileWith, goodIndexTable}
+use Rattle.results.specs.ExhibitedFiles.{fourBytes, wordBytes, zeroRecords, fileWith, goodIndexTable, Below}
 pub use Rattle.results.specs.ExhibitedFiles.{goodMonthFile, goodRecord}
 use Rattle.base.proofs.verdicts.Picks.{cond-true}
 use Rattle.base.proofs.ladder.Ladders.{six, limits, good-known}
@@ -93,11 +93,6 @@ module _ (table : List ℕ) (n : length table ≡ 60) where
         ∙ made-index
 
 -- ---- it is made of bytes, where the table is of words
-
--- each number of a list is below the limit
-abbrev pub Below : ℕ → List ℕ → Type 0
-Below limit [] = Unit
-Below limit (n ∷ ns) = (n < limit) × Below limit ns
 
 below-append : (limit : ℕ) (xs ys : List ℕ) → Below limit xs → Below limit ys → Below limit (xs ++ ys)
 below-append limit [] ys a b = b
