@@ -1,8 +1,7 @@
 -- The statements of specs/AsInTheRust.antt, each from where the work is done. Assumes nothing.
 use mathlib.Core.Path.{refl}
-use native.Mathlib.Omega.{arith}
 use lib.Dec.{T}
-use lib.Ieee.{Float, neg, le, sub, add}
+use lib.Ieee.{Float, le}
 use lib.Ieee.Fits.{and-l, and-r}
 use Rattle.base.specs.Ranges.{isTo}
 use Rattle.base.proofs.order.Order.{Between}

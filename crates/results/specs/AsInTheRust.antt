@@ -173,7 +173,7 @@ HourElsewhere =
 
 -- ---- demand 2: the words of the tables
 
--- the word n of the table is the entry [k][j][i] of the Rust's array
+-- the word n of the table is an entry [k][j][i] of its array, as the Rust writes it
 pub record WordEntry (number n : ℕ) : Type 0 where
   pub i : ℕ
   pub j : ℕ
@@ -254,8 +254,8 @@ abbrev pub fieldStart : State Field
 fieldStart =
     state (set (replicate 49 o) 0 (decimal 10 1)) (replicate 49 o) (record { bv = o; bn = o; bphi = o })
 
--- After the degree n the Rust's array p holds Legendre's functions, by their recurrences in (n, m),
--- and 0 where it is never written.
+-- After the degree n the array p of the loops holds Legendre's functions, which are recurrences in
+-- (n, m), and 0 where it is never written.
 abbrev pub PFilled : Type 0
 PFilled =
     (x : Place) (n : ℕ) → n ≤ 6 →
