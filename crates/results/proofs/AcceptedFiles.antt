@@ -3,7 +3,7 @@ use mathlib.Core.Path.{_∙_}
 use native.Mathlib.Omega.{arith}
 use Rattle.base.proofs.ladder.Indexing
 use Rattle.base.proofs.layout.Parts
-use Rattle.results.specs.AcceptedFiles.{MonthFileGood, EndedRefused, MarkerRefused, FileAnswers, IndexGood, IndexRefused, VirtimInside, VersyInside, MonthFileAccepted, IndexAccepted, FilesAccepted, SheetShown, SheetWritten, TablesPacked, TableInside, MonthInside, ZeroThere, ThereZero, MonthAccepted, MonthZero, TableCheckLater, TableBytesLater, MonthCheckLater, MonthBytesLater}
+use Rattle.results.specs.AcceptedFiles.{MonthFileGood, EndedRefused, MarkerRefused, FileAnswers, IndexGood, IndexRefused, VirtimInside, VersyInside, MonthFileAccepted, IndexAccepted, FilesAccepted, FileOfBytes, SheetShown, SheetWritten, TablesPacked, TwentyTables, PlanesFill, TableInside, MonthInside, ZeroThere, ThereZero, MonthAccepted, MonthZero, TableCheckLater, TableBytesLater, MonthCheckLater, MonthBytesLater}
 use Rattle.results.proofs.files.Marks
 use Rattle.results.proofs.files.WalkAnswers
 use Rattle.results.proofs.files.IndexAnswers
@@ -54,6 +54,9 @@ index-accepted = GoodFiles.index-accepted
 pub files-accepted : FilesAccepted
 files-accepted = GoodFiles.files-accepted
 
+pub file-of-bytes : FileOfBytes
+file-of-bytes = GoodFiles.file-of-bytes
+
 pub sheet-shown : SheetShown
 sheet-shown = GoodSheet.sheet-shown
 
@@ -64,6 +67,12 @@ sheet-written = GoodSheet.sheet-written
 
 pub tables-packed : TablesPacked
 tables-packed = Places.tables-packed
+
+pub twenty-tables : TwentyTables
+twenty-tables = Places.twenty-tables
+
+pub planes-fill : PlanesFill
+planes-fill = Places.planes-fill
 
 -- ---- Table and Month record
 

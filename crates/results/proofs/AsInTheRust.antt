@@ -1,15 +1,14 @@
 -- The statements of specs/AsInTheRust.antt, each from where the work is done. Assumes nothing.
 use mathlib.Core.Path.{refl}
-use native.Mathlib.Omega.{arith}
 use lib.Dec.{T}
-use lib.Ieee.{Float, neg, le, sub, add}
+use lib.Ieee.{Float, le}
 use lib.Ieee.Fits.{and-l, and-r}
 use Rattle.base.specs.Ranges.{isTo}
 use Rattle.base.proofs.order.Order.{Between}
 use Rattle.maps.proofs.sums.GeographicFunctions
 use Rattle.maps.proofs.field.FieldSums as Sums
 use Rattle.maps.proofs.field.Legendre
-use Rattle.results.specs.AsInTheRust.{Report340, SixSeries, PointSeries, FigureSeries, MapSeries, FilledClosed, FilledAt, PastEnd, InHarmonic, HourAt, HourElsewhere, EveryWord, EntryInside, EntriesApart, TableEntry, CofionEntry, HmymEntry, FakmapEntry, MapsShaped, PFilled, DpFilled, FieldSums, MagfinArrays, CtGauss, PathCount, LongFive, RowsPast, ClockRange, PointClock, ShownClock, Clock24Stays, Clock0Becomes24, ClockMinus0Becomes24, CngtimSettled, EveryMoved, EveryTimes, EveryLocal, Known, CutShort, LastWrong}
+use Rattle.results.specs.AsInTheRust.{Report340, SixSeries, PointSeries, FigureSeries, MapSeries, FilledClosed, FilledAt, PastEnd, InHarmonic, HourAt, HourElsewhere, EveryWord, EntryInside, EntriesApart, TableEntry, CofionEntry, HmymEntry, FakmapEntry, MapsShaped, PFilled, DpFilled, FieldSums, MagfinArrays, CtGauss, PathCount, LongFive, RowsPast, ClockRange, PointClock, ShownClock, Clock24Stays, Clock0Becomes24, ClockMinus0Becomes24, CngtimSettled, ZeroLeaves, ExactZero, EveryMoved, EveryTimes, EveryLocal, Known, CutShort, LastWrong}
 use Rattle.results.proofs.series.Report340 as Series
 use Rattle.results.proofs.series.FigureSeries as Figured
 use Rattle.results.proofs.series.DailySeries
@@ -148,6 +147,12 @@ clock-minus-0-becomes-24 = Midnight.clock-minus-0-becomes-24
 
 pub cngtim-settled : CngtimSettled
 cngtim-settled time x isw h b = Wraps.cngtim-settled time x isw (between _ _ time h) (between _ _ (x .0) b)
+
+pub zero-leaves : ZeroLeaves
+zero-leaves = Wraps.zero-leaves
+
+pub exact-zero : ExactZero
+exact-zero = Wraps.exact-zero
 
 pub moved-in-day : EveryMoved
 moved-in-day = Wraps.moved-in-day

@@ -12,8 +12,8 @@ use Rattle.base.specs.declared.refusal.Verdict.{Verdict}
 use Rattle.base.specs.declared.refusal.Verdict.the-variants.{Accepted, Refused}
 use Rattle.base.specs.Refusal.{verdictReport}
 use Rattle.base.specs.Words.{wordAt}
-use Rattle.base.specs.MonthFile.{recordSize, monthFileSize, Part, monthRecordCheck, monthPart, sizes, monthFileCheck, WellMarked}
-use Rattle.base.specs.Tables.{tablesByRecord, PackedRecords, tableCheck, tablePart, tableFile}
+use Rattle.base.specs.MonthFile.{recordSize, monthFileSize, monthRecordCheck, monthPart, sizes, monthFileCheck, WellMarked}
+use Rattle.base.specs.Tables.{tablesByRecord, tables, xf2cof, PackedRecords, partOf, tableCheck, tablePart, tableFile}
 use Rattle.base.specs.Index.{indexOf, mapWord, rows, harmonics, indexCheck, GoodIndex, Reaches}
 use Rattle.base.specs.Blend.{IA, IB, IC}
 use Rattle.base.specs.Files.{filesCheck}
@@ -21,7 +21,7 @@ use Rattle.maps.specs.declared.inputs.Inputs.{Inputs}
 use Rattle.maps.specs.declared.figures.Shown.the-variants.{Points}
 use Rattle.maps.specs.Figures.{sheetPath, figuresOf, shownOf, figuresBuffer}
 use Rattle.results.specs.LaterBytes.{Alike}
-use Rattle.results.specs.ExhibitedFiles.{goodRecord, goodMonthFile}
+use Rattle.results.specs.ExhibitedFiles.{goodRecord, goodMonthFile, Below}
 
 -- ---- demand 1: the month file's check does its work or refuses by number, and names who earns it
 
@@ -44,15 +44,15 @@ RightSoFar s at (n ∷ ns) =
     × (at + n + 8 ≤ length s → wordAt s (at + n + 4) ≡ n)
     × RightSoFar s (at + n + 8) ns
 
--- the file ends before the records of the sizes ns from `at` on do, and the first four bytes that
--- are not there are at p
+-- the file ends before the records of the sizes ns from `at` on do, the markers that it has are
+-- right, and the first four bytes that are not all there are at p
 pub record EndsAt (s : List ℕ) (at : ℕ) (ns : List ℕ) (p : ℕ) : Type 0 where
   pub short : length s < at + withMarkers ns
   pub place : p ≡ length s / 4 * 4
   pub right : RightSoFar s at ns
 
 -- 'each refusal names the only inputs that earn it': 9 at p exactly where the file is short, the
--- markers that it has are right, and its first four missing bytes are at p.
+-- markers that it has are right, and the first four bytes that are not all there are at p.
 abbrev pub EndedRefused : Type 0
 EndedRefused =
     (s : List ℕ) (p : ℕ) →
@@ -132,8 +132,8 @@ VirtimInside =
     (month : List ℕ) → indexCheck month ≡ Accepted → (k : ℕ) → k < 6 →
     (j h : ℕ) → j ≤ mapWord (indexOf month) k 8 → h ≤ mapWord (indexOf month) k 9 → RowInside k j h
 
--- And `versy`'s basis of 76 numbers is written up to a word of the ladder that it reaches, and read
--- up to word 8, inside.
+-- And every word that the ladder reaches is below 76, up to which `versy` writes its basis of 76
+-- numbers, and so is word 8, up to which it reads it.
 abbrev pub VersyInside : Type 0
 VersyInside =
     (month : List ℕ) → indexCheck month ≡ Accepted → (k : ℕ) → k < 6 →
@@ -153,6 +153,10 @@ IndexAccepted = indexCheck goodMonthFile ≡ Accepted
 abbrev pub FilesAccepted : Type 0
 FilesAccepted = filesCheck goodRecord goodMonthFile ≡ Accepted
 
+-- The month file is made of bytes.
+abbrev pub FileOfBytes : Type 0
+FileOfBytes = Below 256 goodMonthFile
+
 -- Over these files `figures`, which judges no field, answers any inputs with their points.
 abbrev pub SheetShown : Type 0
 SheetShown = (x : Inputs) → shownOf goodRecord goodMonthFile x ≡ Points (sheetPath x .count)
@@ -169,6 +173,14 @@ SheetWritten =
 -- nothing between, and the last record ends at 38,552.
 abbrev pub TablesPacked : Type 0
 TablesPacked = PackedRecords 0 monthFileSize sizes tablesByRecord
+
+-- There are 20 of them.
+abbrev pub TwentyTables : Type 0
+TwentyTables = length tables ≡ 20
+
+-- An F2 record is its planes and nothing else.
+abbrev pub PlanesFill : Type 0
+PlanesFill = partOf xf2cof ≡ record { from = 0; size = recordSize }
 
 -- ---- demand 1: Table and Month record
 

@@ -8,7 +8,7 @@ use mathlib.Core.List.{List}
 use Prim.Native.Nat.{ℕ, suc, _+_, _-_, _*_, _^_, _≤_, _<_}
 use lib.Dec.{T}
 use lib.ListN.{length, getD, set, replicate}
-use lib.Ieee.{Float, nan, neg, lt, le}
+use lib.Ieee.{Float, nan, neg, lt, le, eq}
 use denote.Ref.{RefT, now}
 use Rattle.base.specs.declared.angle.Degrees.{Degrees}
 use Rattle.base.specs.declared.angle.Radians.{Radians}
@@ -104,8 +104,8 @@ PointSeries =
       g6 = omega 5 lat;
     }
 
--- So the figures of a point p that is there: its `f2m3` is Omega of the map 5, and its `fs` are
--- those of the maps 3, 2, 1, each times the Es factor.
+-- So the figures of a point p that is there: its `f2m3` is Omega of the fifth map, and its `fs` are
+-- those of the third, the second and the first, each times the Es factor.
 abbrev pub FigureSeries : Type 0
 FigureSeries =
     (f2 file : List ℕ) (i : Inputs) → indexCheck file ≡ Accepted → (p : ℕ) → 1 ≤ p → p ≤ sheetPath i .count →
@@ -173,7 +173,7 @@ HourElsewhere =
 
 -- ---- demand 2: the words of the tables
 
--- the word n of the table is the entry [k][j][i] of the Rust's array
+-- the word n of the table is an entry [k][j][i] of its array, as the Rust writes it
 pub record WordEntry (number n : ℕ) : Type 0 where
   pub i : ℕ
   pub j : ℕ
@@ -254,8 +254,8 @@ abbrev pub fieldStart : State Field
 fieldStart =
     state (set (replicate 49 o) 0 (decimal 10 1)) (replicate 49 o) (record { bv = o; bn = o; bphi = o })
 
--- After the degree n the Rust's array p holds Legendre's functions, by their recurrences in (n, m),
--- and 0 where it is never written.
+-- After the degree n the array p of the loops holds Legendre's functions, which are recurrences in
+-- (n, m), and 0 where it is never written.
 abbrev pub PFilled : Type 0
 PFilled =
     (x : Place) (n : ℕ) → n ≤ 6 →
@@ -399,12 +399,23 @@ pub record Settled (time : Float) (x : Degrees) (isw : Direction) : Type 0 where
   pub day : InDay (cngtimOf time x isw .time)
   pub change : DayChange (cngtimOf time x isw .day)
 
--- So for a time from 0 to 24 and a longitude of at most 181 degrees, which is farther than D2R and
--- R2D carry one that was typed in range.
+-- So for a time from 0 to 24 and a longitude of at most 181 degrees either way.
 abbrev pub CngtimSettled : Type 0
 CngtimSettled =
     (time : Float) (x : Degrees) (isw : Direction) → T (isTo (decimal 0 1) (decimal 240 1) time) →
     T (isTo (minusDecimal 1810 1) (decimal 1810 1) (x .0)) → Settled time x isw
+
+-- 'longitude 0 leaves the time and gives 0', either zero and any time.
+abbrev pub ZeroLeaves : Type 0
+ZeroLeaves =
+    (time : Float) (x : Degrees) (isw : Direction) → eq (x .0) (decimal 0 1) ≡ true →
+    cngtimOf time x isw ≡ record { time = time; day = decimal 0 1 }
+
+-- 'otherwise, after the shift, a time of exactly 0 gives -1', either zero.
+abbrev pub ExactZero : Type 0
+ExactZero =
+    (time : Float) (x : Degrees) (isw : Direction) → eq (x .0) (decimal 0 1) ≡ false →
+    T (eq (afterShift time (thetaOf x) isw) (decimal 0 1)) → cngtimOf time x isw .day ≡ minusDecimal 10 1
 
 abbrev pub MovedInDay : Moved → Type 0
 MovedInDay (To s) = InDay (s .time) × DayChange (s .day)

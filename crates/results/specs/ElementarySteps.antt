@@ -26,7 +26,7 @@ SqrtNarrow = (x : Float) → T (fits binary32 x) → narrowOf (sqrtOf binary64 x
 
 -- ---- demand 2: the elementary functions
 
--- what the code's five tables hold, as bit patterns, the lowest term first: sin, cos, atan, exp, ln
+-- the bit patterns of the code's five tables, the lowest term first: sin, cos, atan, exp, ln
 abbrev pub codeTerms : List (List ℕ)
 codeTerms =
     (0x3ff0000000000000 ∷ 0xbfc5555555555555 ∷ 0x3f81111111111111 ∷ 0xbf2a01a01a01a01a

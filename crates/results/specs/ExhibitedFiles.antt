@@ -2,7 +2,7 @@
 -- which every check accepts, and the files of document 01's known points (b) and (c). Assumes
 -- nothing.
 use mathlib.Core.List.{List, [], _∷_, _++_}
-use Prim.Native.Nat.{ℕ, _/_, _%_}
+use Prim.Native.Nat.{ℕ, _/_, _%_, _<_}
 use lib.ListN.{take, drop, replicate}
 use Rattle.base.specs.MonthFile.{recordSize, sizes}
 
@@ -18,15 +18,15 @@ wordBytes [] = []
 wordBytes (w ∷ ws) = fourBytes w ++ wordBytes ws
 
 -- records of these sizes, all zeros: each is its size, that many zeros, and its size again
-abbrev pub zeroRecords : List ℕ → List ℕ
-zeroRecords [] = []
-zeroRecords (n ∷ ns) = fourBytes n ++ (replicate n 0 ++ (fourBytes n ++ zeroRecords ns))
+abbrev pub fileOf : List ℕ → List ℕ
+fileOf [] = []
+fileOf (n ∷ ns) = fourBytes n ++ (replicate n 0 ++ (fourBytes n ++ fileOf ns))
 
 -- ---- files that are accepted
 
 -- a month file with this index table in its first record, and zeros in the eight others
 unfoldable pub fileWith : List ℕ → List ℕ
-fileWith table = fourBytes 240 ++ (wordBytes table ++ (fourBytes 240 ++ zeroRecords (drop 1 sizes)))
+fileWith table = fourBytes 240 ++ (wordBytes table ++ (fourBytes 240 ++ fileOf (drop 1 sizes)))
 
 -- every map climbs four or five rungs up to its last row, and has all of its harmonics
 abbrev pub goodIndexTable : List ℕ
@@ -45,11 +45,16 @@ goodMonthFile = fileWith goodIndexTable
 abbrev pub goodRecord : List ℕ
 goodRecord = replicate recordSize 0
 
+-- each number of a list is below the limit
+abbrev pub Below : ℕ → List ℕ → Type 0
+Below limit [] = Unit
+Below limit (n ∷ ns) = (n < limit) × Below limit ns
+
 -- ---- files that are not
 
 -- the first eight records, the ninth up to its closing marker, and what stands there
 unfoldable pub endingIn : List ℕ → List ℕ
-endingIn l = zeroRecords (take 8 sizes) ++ (fourBytes 1584 ++ (replicate 1584 0 ++ l))
+endingIn l = fileOf (take 8 sizes) ++ (fourBytes 1584 ++ (replicate 1584 0 ++ l))
 
 -- (b) '38,551 good bytes': the last byte is not there
 abbrev pub cutFile : List ℕ

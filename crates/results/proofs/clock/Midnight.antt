@@ -5,7 +5,7 @@ use mathlib.Core.Path.{_≡_, refl, ap, _∙_}
 use mathlib.Core.Bool.{cond}
 use lib.Ieee.{Float, round, neg, add, sub, lt, le}
 use Rattle.base.specs.declared.angle.Radians.{Radians}
-use Rattle.base.specs.Single.{_⊕_, _⊖_, _⊘_, decimal, minusDecimal}
+use Rattle.base.specs.Single.{_⊕_, _⊖_, decimal, minusDecimal}
 use Rattle.maps.specs.Layers.{clockOf}
 use Rattle.results.specs.AsInTheRust.{uncorrected}
 

@@ -31,11 +31,8 @@ use Rattle.base.proofs.order.Intervals.{exactly, add-in, sub-in, mul-in, mul-ab
 use Rattle.maps.specs.declared.ionosphere.clocks.Direction.{Direction}
 use Rattle.maps.specs.declared.ionosphere.clocks.Direction.the-variants.{ToLocal, ToUniversal}
 use Rattle.maps.specs.declared.ionosphere.clocks.Shifted.{Shifted}
-use Rattle.maps.specs.declared.ionosphere.clocks.Moved.{Moved}
 use Rattle.maps.specs.declared.ionosphere.clocks.Moved.the-variants.{To, Refused as NotMoved}
-use Rattle.maps.specs.declared.ionosphere.clocks.Times.{Times}
 use Rattle.maps.specs.declared.ionosphere.clocks.Times.the-variants.{Hours, Refused as NoTimes}
-use Rattle.maps.specs.declared.ionosphere.clocks.LocalTime.{LocalTime}
 use Rattle.maps.specs.declared.ionosphere.clocks.LocalTime.the-variants.{At, Refused as NoLocalTime}
 use Rattle.maps.specs.Clocks.{thetaOf, wholeOf, afterShift, cngdayOf, forLoop, wraps, cngtimOf, timeAt, geotimOf, timeCheck, hoursCheck, movedOf, timesOf, localTimeOf}
 use Rattle.results.specs.AsInTheRust.{InDay, DayChange, yesterday, today, tomorrow, Settled, MovedInDay, TimesInDay, LocalInDay}

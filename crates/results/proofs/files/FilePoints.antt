@@ -13,7 +13,7 @@ use Rattle.base.specs.Single.{decimal}
 use Rattle.base.specs.Words.{wordAt}
 use Rattle.base.specs.MonthFile.{sizes, monthFileCheck, MarkedToLast}
 use Rattle.base.specs.Blend.{blendOf, f2Weights, eWeights, heightWeights}
-use Rattle.results.specs.ExhibitedFiles.{fourBytes, zeroRecords, endingIn, cutFile, wrongFile}
+use Rattle.results.specs.ExhibitedFiles.{fourBytes, fileOf, endingIn, cutFile, wrongFile}
 use Rattle.base.proofs.layout.Walks.{no-open}
 use Rattle.results.proofs.files.Marks.{cut-short, last-wrong}
 use Rattle.results.proofs.files.MadeFiles.{word-in, length-file, length-front, marked}
@@ -27,22 +27,22 @@ module _ (l : List ℕ) where
       record {
         eight = marked _ [] 0 (take 8 sizes) (fourBytes 1584 ++ (replicate 1584 0 ++ l)) refl refl;
         ninth =
-            word-in _ (zeroRecords (take 8 sizes)) 36960 1584 (replicate 1584 0 ++ l) refl (sym (length-file (take 8 sizes)));
+            word-in _ (fileOf (take 8 sizes)) 36960 1584 (replicate 1584 0 ++ l) refl (sym (length-file (take 8 sizes)));
       }
 
   ending-length : length (endingIn l) ≡ 38548 + length l
   unfolding endingIn
   ending-length =
-      let a = length-front (zeroRecords (take 8 sizes)) 1584 l in
+      let a = length-front (fileOf (take 8 sizes)) 1584 l in
       let b = length-file (take 8 sizes) in
       omega arith
 
   ending-word : (n : ℕ) → l ≡ fourBytes n ++ [] → wordAt (endingIn l) 38548 ≡ n
   unfolding endingIn
   ending-word n e =
-      word-in _ (zeroRecords (take 8 sizes) ++ (fourBytes 1584 ++ (replicate 1584 0 ++ []))) 38548 n []
-      (ap (λ (x : List ℕ). zeroRecords (take 8 sizes) ++ (fourBytes 1584 ++ (replicate 1584 0 ++ x))) e ∙ simp append-nil)
-      (let a = length-front (zeroRecords (take 8 sizes)) 1584 [] in let b = length-file (take 8 sizes) in omega arith)
+      word-in _ (fileOf (take 8 sizes) ++ (fourBytes 1584 ++ (replicate 1584 0 ++ []))) 38548 n []
+      (ap (λ (x : List ℕ). fileOf (take 8 sizes) ++ (fourBytes 1584 ++ (replicate 1584 0 ++ x))) e ∙ simp append-nil)
+      (let a = length-front (fileOf (take 8 sizes)) 1584 [] in let b = length-file (take 8 sizes) in omega arith)
 
 -- ---- the rows
 

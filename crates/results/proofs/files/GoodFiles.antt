@@ -19,8 +19,8 @@ use Rattle.base.specs.Words.{wordAt}
 use Rattle.base.specs.MonthFile.{recordSize, monthFileSize, sizes, monthFileCheck, Marked}
 use Rattle.base.specs.Index.{indexOf, mapWord, rows, harmonics, climbs, goodMap, indexCheck, GoodIndex}
 use Rattle.base.specs.Files.{fileCheck, filesCheck}
-use Rattle.results.specs.ExhibitedFiles.{fourBytes, wordBytes, zeroRecords, fileWith, goodIndexTable}
-pub use Rattle.results.specs.ExhibitedFiles.{goodMonthFile, goodRecord}
+use Rattle.results.specs.ExhibitedFiles.{fourBytes, fileOf, Below}
+unfoldable pub use Rattle.results.specs.ExhibitedFiles.{wordBytes, fileWith, goodIndexTable, goodMonthFile, goodRecord}
 use Rattle.base.proofs.verdicts.Picks.{cond-true}
 use Rattle.base.proofs.ladder.Ladders.{six, limits, good-known}
 use Rattle.base.proofs.ladder.Indexing.{index-word}
@@ -54,7 +54,7 @@ module _ (table : List ℕ) (n : length table ≡ 60) where
   file-length : length (fileWith table) ≡ monthFileSize
   unfolding fileWith
   file-length =
-      let a = length-append (wordBytes table) (fourBytes 240 ++ zeroRecords (drop 1 sizes)) in
+      let a = length-append (wordBytes table) (fourBytes 240 ++ fileOf (drop 1 sizes)) in
       let b = length-words table in
       let d = length-file (drop 1 sizes) in
       omega arith
@@ -62,8 +62,8 @@ module _ (table : List ℕ) (n : length table ≡ 60) where
   file-marks : Marked (fileWith table) 0 sizes
   unfolding fileWith
   file-marks = (
-    word-in _ [] 0 240 (wordBytes table ++ (fourBytes 240 ++ zeroRecords (drop 1 sizes))) refl refl,
-    word-in _ (fourBytes 240 ++ wordBytes table) 244 240 (zeroRecords (drop 1 sizes)) refl (sym front),
+    word-in _ [] 0 240 (wordBytes table ++ (fourBytes 240 ++ fileOf (drop 1 sizes))) refl refl,
+    word-in _ (fourBytes 240 ++ wordBytes table) 244 240 (fileOf (drop 1 sizes)) refl (sym front),
     marked _ (fourBytes 240 ++ (wordBytes table ++ fourBytes 240)) 248 (drop 1 sizes) [] (simp (append-assoc, append-nil))
         (let a = length-append (wordBytes table) (fourBytes 240) in let b = length-words table in omega arith),
   )
@@ -76,7 +76,7 @@ module _ (table : List ℕ) (n : length table ≡ 60) where
   unfolding fileWith
   table-read k j h l =
       index-word (fileWith table) k j h l
-      ∙ words-in _ (fourBytes 240) 4 table (fourBytes 240 ++ zeroRecords (drop 1 sizes)) refl refl (k * 10 + j) (omega arith)
+      ∙ words-in _ (fourBytes 240) 4 table (fourBytes 240 ++ fileOf (drop 1 sizes)) refl refl (k * 10 + j) (omega arith)
 
   module _ (good : (k : ℕ) → k < 6 → GoodIndex (mapWord table k) (getD rows k 0) (getD harmonics k 0)) where
     pub made-index : indexCheck (fileWith table) ≡ Accepted
@@ -94,11 +94,6 @@ module _ (table : List ℕ) (n : length table ≡ 60) where
 
 -- ---- it is made of bytes, where the table is of words
 
--- each number of a list is below the limit
-abbrev pub Below : ℕ → List ℕ → Type 0
-Below limit [] = Unit
-Below limit (n ∷ ns) = (n < limit) × Below limit ns
-
 below-append : (limit : ℕ) (xs ys : List ℕ) → Below limit xs → Below limit ys → Below limit (xs ++ ys)
 below-append limit [] ys a b = b
 below-append limit (x ∷ xs) ys a b = (a .0, below-append limit xs ys (a .1) b)
@@ -114,12 +109,12 @@ words-bytes : (ws : List ℕ) → Below (2 ^ 32) ws → Below 256 (wordBytes ws)
 words-bytes [] b = tt
 words-bytes (w ∷ ws) b = below-append 256 (fourBytes w) (wordBytes ws) (four-bytes w (b .0)) (words-bytes ws (b .1))
 
-file-bytes : (ns : List ℕ) → Below (2 ^ 32) ns → Below 256 (zeroRecords ns)
+file-bytes : (ns : List ℕ) → Below (2 ^ 32) ns → Below 256 (fileOf ns)
 file-bytes [] b = tt
 file-bytes (n ∷ ns) b =
-    let rest = fourBytes n ++ zeroRecords ns in
+    let rest = fourBytes n ++ fileOf ns in
     below-append 256 (fourBytes n) (replicate n 0 ++ rest) (four-bytes n (b .0))
-    (below-append 256 (replicate n 0) rest (zero-bytes n) (below-append 256 (fourBytes n) (zeroRecords ns) (four-bytes n (b .0)) (file-bytes ns (b .1))))
+    (below-append 256 (replicate n 0) rest (zero-bytes n) (below-append 256 (fourBytes n) (fileOf ns) (four-bytes n (b .0)) (file-bytes ns (b .1))))
 
 all-below : ℕ → List ℕ → Bool
 all-below limit [] = true
@@ -133,7 +128,7 @@ below-all limit (n ∷ ns) t = (ltb→lt n limit (and-l (ltb n limit) (all-below
 pub made-bytes : (table : List ℕ) → Below (2 ^ 32) table → Below 256 (fileWith table)
 unfolding fileWith all-below
 made-bytes table b =
-    let others = zeroRecords (drop 1 sizes) in
+    let others = fileOf (drop 1 sizes) in
     let rest = fourBytes 240 ++ others in
     below-append 256 (fourBytes 240) (wordBytes table ++ rest) (four-bytes 240 (lit< tt))
     (below-append 256 (wordBytes table) rest (words-bytes table b)

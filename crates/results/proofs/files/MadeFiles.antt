@@ -2,20 +2,20 @@
 -- it are counted, and none is computed. Assumes nothing.
 use mathlib.Core.Path.{_≡_, refl, ap, _∙_}
 use mathlib.Core.List.{List, [], _∷_, _++_, append-assoc, append-nil}
-use Prim.Native.Nat.{ℕ, _+_, _/_, _%_}
+use Prim.Native.Nat.{ℕ, _+_, _%_}
 use native.Mathlib.Omega.{arith}
 use lib.ListN.{length, getD, replicate, length-append, length-replicate}
 use lib.Seq.{getD-append-seam, getD-append-add}
 use Rattle.base.specs.Words.{wordAt}
 use Rattle.base.specs.MonthFile.{Marked}
-use Rattle.results.specs.ExhibitedFiles.{fourBytes, zeroRecords}
+pub use Rattle.results.specs.ExhibitedFiles.{fourBytes, fileOf}
 use Rattle.results.specs.AcceptedFiles.{withMarkers}
 
-pub length-file : (ns : List ℕ) → length (zeroRecords ns) ≡ withMarkers ns
+pub length-file : (ns : List ℕ) → length (fileOf ns) ≡ withMarkers ns
 length-file [] = refl
 length-file (n ∷ ns) =
     let h = length-file ns in
-    let e : length (replicate n 0 ++ (fourBytes n ++ zeroRecords ns)) ≡ n + length (fourBytes n ++ zeroRecords ns) = length-append (replicate n 0) (fourBytes n ++ zeroRecords ns) ∙ ap (λ (x : ℕ). x + length (fourBytes n ++ zeroRecords ns)) (length-replicate n 0) in
+    let e : length (replicate n 0 ++ (fourBytes n ++ fileOf ns)) ≡ n + length (fourBytes n ++ fileOf ns) = length-append (replicate n 0) (fourBytes n ++ fileOf ns) ∙ ap (λ (x : ℕ). x + length (fourBytes n ++ fileOf ns)) (length-replicate n 0) in
     omega arith
 
 pub word-in : (s pre : List ℕ) (at n : ℕ) (r : List ℕ) → s ≡ pre ++ (fourBytes n ++ r) → at ≡ length pre → wordAt s at ≡ n
@@ -33,10 +33,10 @@ length-front pre n r =
     let d = length-replicate {A = ℕ} n 0 in
     omega arith
 
-pub marked : (s pre : List ℕ) (at : ℕ) (ns rest : List ℕ) → s ≡ pre ++ (zeroRecords ns ++ rest) → at ≡ length pre → Marked s at ns
+pub marked : (s pre : List ℕ) (at : ℕ) (ns rest : List ℕ) → s ≡ pre ++ (fileOf ns ++ rest) → at ≡ length pre → Marked s at ns
 marked s pre at [] rest e l = tt
 marked s pre at (n ∷ ns) rest e l = (
-  word-in s pre at n ((replicate n 0 ++ (fourBytes n ++ zeroRecords ns)) ++ rest) e l,
-  word-in s (pre ++ (fourBytes n ++ (replicate n 0 ++ []))) (at + n + 4) n (zeroRecords ns ++ rest) (e ∙ simp (append-assoc, append-nil)) (omega (arith, length-front pre n [])),
+  word-in s pre at n ((replicate n 0 ++ (fourBytes n ++ fileOf ns)) ++ rest) e l,
+  word-in s (pre ++ (fourBytes n ++ (replicate n 0 ++ []))) (at + n + 4) n (fileOf ns ++ rest) (e ∙ simp (append-assoc, append-nil)) (omega (arith, length-front pre n [])),
   marked s (pre ++ (fourBytes n ++ (replicate n 0 ++ fourBytes n))) (at + n + 8) ns rest (e ∙ simp append-assoc) (omega (arith, length-front pre n (fourBytes n))),
 )

@@ -12,7 +12,7 @@ use Rattle.base.specs.declared.refusal.Verdict.{Verdict}
 use Rattle.base.specs.declared.refusal.Verdict.the-variants.{Accepted}
 use Rattle.base.specs.Refusal.{verdictReport, refuseUnless, _then_}
 use Rattle.base.specs.Ranges.{isMonth, monthCheck}
-use Rattle.base.specs.MonthFile.{recordSize, Part, monthRecordCheck, monthPart}
+use Rattle.base.specs.MonthFile.{recordSize, monthRecordCheck, monthPart}
 use Rattle.base.proofs.verdicts.Picks.{cond-true}
 use Rattle.base.proofs.ladder.Ladders.{and-true}
 use Rattle.base.proofs.layout.Records.{MonthThere, month-known, month-part}

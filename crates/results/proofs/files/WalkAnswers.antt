@@ -12,7 +12,7 @@ use lib.ListN.{length, take}
 use lib.Seq.{length-take-le, getD-take}
 use Rattle.base.specs.declared.refusal.Refusal.the-variants.{Ended, Marker}
 use Rattle.base.specs.declared.refusal.Verdict.{Verdict}
-use Rattle.base.specs.declared.refusal.Verdict.the-variants.{Accepted, Refused}
+use Rattle.base.specs.declared.refusal.Verdict.the-variants.{Refused}
 use Rattle.base.specs.Refusal.{verdictReport}
 use Rattle.base.specs.Words.{wordOf, wordAt}
 use Rattle.base.specs.MonthFile.{monthFileSize, sizes, Four, layout, isRight, walk, monthFileCheck, Marked, WellMarked}

@@ -2,7 +2,6 @@
 -- both formats, and of the four operations with a NaN on either side. Comparisons with a NaN fail,
 -- and what is then worked out is a NaN at its first step. Assumes nothing.
 use mathlib.Core.Path.{_≡_, refl, ap}
-use mathlib.Core.List.{List, [], _∷_}
 use lib.Ieee.{Float, nan, inf, fin, Format, neg, add, sub, mul, div, lt, le, eq, round}
 use Rattle.base.specs.Double.{fraction}
 use Rattle.base.specs.Number.{negative, absOf, withSign, narrowOf, sqrtOf}

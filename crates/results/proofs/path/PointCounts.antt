@@ -2,7 +2,6 @@
 -- 12,740 km at least, by interval arithmetic from the range of the arc cosine. Assumes nothing.
 use mathlib.Core.Path.{_≡_, refl, ap, _∙_}
 use mathlib.Core.Bool.{Bool, true, false, not, cond}
-use Prim.Native.Nat.{ℕ}
 use lib.Dec.{T, T-not, not-T}
 use lib.Ieee.{Float, nan, inf, fin, binary32, round, add, neg, sub, mul, lt, le, isNan}
 use lib.Ieee.Bits.{is-false}
