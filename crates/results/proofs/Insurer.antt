@@ -5,9 +5,10 @@ use Rattle.worksheet.proofs.force.Lasting as Lasting
 use Rattle.worksheet.proofs.force.Unbroken as Unbroken
 use Rattle.jutetrowel.specs.Words.{worksheetOf}
 use Rattle.jutetrowel.proofs.lists.InsuredOver as Over
-use Rattle.results.specs.Insurer.{InsurersSentence, InsurersSentenceOpened, StayInRange, AlwaysShown, FirstShowing, ShowingsExist, InsurersSentenceLent, InsurersSentenceOver, ChangeNeverCancelled, ChangeNeverCancelledOver, CommitSource, ChangeSource, UndisturbedDraft, InsurersLine, InsurersLineLent, InsurersLineOver, OpenedInForce, InputsInForce, InForceOver, BegunInForce, CommitsExactly, InForceExactly, OpenedExactly}
+use Rattle.results.specs.Insurer.{InsurersSentence, InsurersSentenceOpened, InsurersSentenceHanded, StayInRange, AlwaysShown, FirstShowing, ShowingsExist, InsurersSentenceLent, InsurersSentenceOver, ChangeNeverCancelled, ChangeNeverCancelledOver, CommitSource, ChangeSource, UndisturbedDraft, InsurersLine, InsurersLineLent, InsurersLineOver, OpenedInForce, InputsInForce, InForceOver, BegunInForce, CommitsExactly, InForceExactly, OpenedExactly}
 use Rattle.results.proofs.files.GoodFiles.{goodRecord, goodMonthFile, files-accepted}
 use Rattle.results.proofs.sheet.AlwaysShown as Shown
+use Rattle.results.proofs.sheet.HandedBack as HandedBack
 use Rattle.results.proofs.sheet.ClosedDesks.{at-rest}
 
 pub insurers-sentence : InsurersSentence
@@ -15,6 +16,9 @@ insurers-sentence = Unbroken.insurers-sentence
 
 pub insurers-sentence-opened : InsurersSentenceOpened
 insurers-sentence-opened = Over.insurers-sentence-opened
+
+pub insurers-sentence-handed : InsurersSentenceHanded
+insurers-sentence-handed = HandedBack.insurers-sentence-handed
 
 pub stay-in-range : StayInRange
 stay-in-range = Shown.stay-in-range

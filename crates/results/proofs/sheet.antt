@@ -4,5 +4,6 @@ pub mod GoodSheet
 pub mod Ignored
 pub mod KnownPoints
 pub mod AlwaysShown
+pub mod HandedBack
 pub mod ClosedDesks
 pub mod ShownClocks

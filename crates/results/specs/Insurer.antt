@@ -21,8 +21,9 @@ use Rattle.worksheet.specs.Desks.{draftAt, openOf, openedOf}
 use Rattle.worksheet.specs.Showing.{Source, pair}
 use Rattle.worksheet.specs.Journal.{Call, begin, commit, show, shown, Entry, accepted, good, step, run}
 use Rattle.worksheet.specs.InForce.{Commit, changed, changesBy, commitsInForce, inForce, commitsLeft, startLeft, FiguresOf, Drafted, CommitInForce, InForceBy, NeverCancelled, Insured}
+use Rattle.jutetrowel.specs.declared.answers.Showing.{Showing}
 use Rattle.jutetrowel.specs.Words.{worksheetOf, wordsAfter}
-use Rattle.jutetrowel.specs.Calls.{CallsSingles, entriesOver, wordsOver}
+use Rattle.jutetrowel.specs.Calls.{CallsSingles, Shows, entriesOver, wordsOver}
 
 -- ---- two words of this page
 
@@ -62,6 +63,18 @@ InsurersSentenceOpened =
     entriesOver (pair f2 file) cs (wordsAfter (openedOf s) words)
     ≡ before ++ (acceptedShowing lent count figures ∷ later) →
     Insured (pair f2 file) (openedOf s .sheet .inputs) before count figures
+
+-- The same by what the caller sees: after an open that is accepted and any list of the library's
+-- calls, `jt_show` of the worksheet hands back r and leaves `figures` in the buffer (`Shows`, its
+-- contract); where r's number is 0, the figures and r's points are insured by the list before
+abbrev pub InsurersSentenceHanded : Type 0
+InsurersSentenceHanded =
+    (f2 file s words : List ℕ) → openedOf s .answer ≡ Accepted → (cs : List Call) → CallsSingles cs →
+    (lent figures : List Float) (r : Showing) →
+    let l = wordsAfter (openedOf s) words in
+    Shows (step (pair f2 file) (show 0 lent) (worksheetOf (wordsOver (pair f2 file) cs l)) .answer) r figures →
+    r .number ≡ 0 →
+    Insured (pair f2 file) (openedOf s .sheet .inputs) (entriesOver (pair f2 file) cs l) (r .points) figures
 
 -- ---- and there are such showings
 
