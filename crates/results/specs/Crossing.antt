@@ -23,8 +23,8 @@ use Rattle.jutetrowel.specs.Answers.{answerOf, showingOf}
 use Rattle.jutetrowel.specs.Words.{worksheetOf, sheetWords, SheetSingles}
 use Rattle.jutetrowel.specs.Calls.{CallsSingles, entriesOver, wordsOver}
 
--- ---- DEMAND 2: a field has the same bits in the program, in the library and on the worksheet.
--- f k is the word of field k, counted from 0
+-- ---- DEMAND 3, 'bit for bit': fields cross to words and back. f k is the word of field k, counted
+-- from 0
 
 -- Fields written as 14 words and read again are the same fields, if their numbers are values of an
 -- f32

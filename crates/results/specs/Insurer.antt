@@ -2,7 +2,7 @@
 -- crates/worksheet/specs/Journal.antt (calls, entries, `run`) and InForce.antt (`Insured`,
 -- `NeverCancelled`, `takenBack`), those over the library's words in
 -- crates/jutetrowel/specs/Calls.antt. Assumes nothing.
-use mathlib.Core.List.{List, [], _∷_, _++_, List·Memᴰ}
+use mathlib.Core.List.{List, [], _∷_, _++_, reverse, List·Memᴰ}
 use mathlib.Core.Bool.{true}
 use mathlib.Core.Path.{_≡_}
 use Prim.Native.Nat.{ℕ}
@@ -45,8 +45,9 @@ pub record DesksClosed (w : Worksheet) : Type 0 where
 
 -- Of every list of calls on a worksheet that opens, with one record and one month file lent
 -- throughout: each accepted showing of the worksheet gave the number of points and all figures of
--- ONE set of inputs, which is the opened inputs with the changes of exactly those commits before
--- the showing that were accepted and not taken back, and each change was never cancelled
+-- ONE set of inputs: the opened inputs with the changes of exactly those commits before the showing
+-- that were accepted and not taken back before it, in their order; and each of these changes stands
+-- in a draft that was committed and never cancelled (`NeverCancelled`)
 abbrev pub InsurersSentence : Type 0
 InsurersSentence =
     (f2 file : List ℕ) (opened : Inputs) → openOf opened .answer ≡ Accepted →
@@ -162,14 +163,23 @@ ChangeSource =
     List·Memᴰ e (changesBy (commitsInForce w (run source cs w .entries))) →
     InForceBy (run source cs w .entries) e
 
--- A draft that is committed was begun before, on inputs that are still in force at the commit;
--- between the two nobody committed or took back, and it was not cancelled or begun anew
+-- A draft that is committed was begun before, while the inputs were in force that still are at the
+-- commit; between the two nobody committed or took back, and it was not cancelled or begun anew;
+-- its own calls are that begin and what belongs to the desk between the two
 abbrev pub UndisturbedDraft : Type 0
 UndisturbedDraft =
     (source : Source) (w : Worksheet) → DesksClosed w →
     (cs : List Call) (before later : List Entry) (x : Entry) (n : ℕ) →
     run source cs w .entries ≡ before ++ (x ∷ later) → x .call ≡ commit n → good x ≡ true →
     Drafted w n before
+
+-- So each commit in force for itself, where the same change was also made elsewhere: it was
+-- accepted and not taken back, and its draft is such a one
+abbrev pub CommitUndisturbed : Type 0
+CommitUndisturbed =
+    (source : Source) (w : Worksheet) → DesksClosed w → (cs : List Call) (c : Commit) →
+    List·Memᴰ c (commitsInForce w (run source cs w .entries)) →
+    CommitInForce (run source cs w .entries) c × Drafted w (c .desk) (reverse (c .past))
 
 -- ---- 'from one sunspot number, one hour and one route': the set is the inputs in force, a fold
 -- over the entries that looks at no draft

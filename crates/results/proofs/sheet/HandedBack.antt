@@ -64,8 +64,9 @@ insurers-sentence-handed f2 file s words h cs k lent figures r given zero =
     let points : showOf source 0 lent w ≡ Points (r .points) =
     shown-number (showOf source 0 lent w) number ∙ ap (λ (x : Showing). Points (x .points)) (sym (given .0)) in
     let whole : showBuffer source 0 lent w ≡ figures = sym (given .1) in
-    let last : entryOf source (show 0 lent) w ≡ record { call = show 0 lent; answer = shown (Points (r .points)) figures } =
+    let x : Entry = record { call = show 0 lent; answer = shown (Points (r .points)) figures } in
+    let last : entryOf source (show 0 lent) w ≡ x =
     λ t. record { call = show 0 lent; answer = shown (points t) (whole t) } in
     insurers-sentence-opened f2 file s words h (cs ++ (show 0 lent ∷ [])) (singles-after cs (show 0 lent) k tt)
     (entriesOver source cs l) [] lent figures (r .points)
-    (entries-after source cs (show 0 lent) l ∙ ap (λ (x : Entry). entriesOver source cs l ++ (x ∷ [])) last)
+    (entries-after source cs (show 0 lent) l ∙ ap (λ (y : Entry). entriesOver source cs l ++ (y ∷ [])) last)
