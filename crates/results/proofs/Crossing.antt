@@ -5,7 +5,8 @@ use lib.Dec.{lit<}
 use Rattle.maps.proofs.sheet.Codec as Codec
 use Rattle.jutetrowel.proofs.crossing.Returned as Returned
 use Rattle.jutetrowel.proofs.lists.Carried as Carried
-use Rattle.results.specs.Crossing.{FieldsBack, FromSingle, WordsBack, ReadBack, AllCalls}
+use Rattle.results.specs.Crossing.{FieldsBack, FromSingle, WordsBack, AcceptedNumber, ShownNumber, ReadBack, AllCalls}
+use Rattle.results.proofs.sheet.HandedBack as HandedBack
 
 pub fields-back : FieldsBack
 fields-back = Codec.fields-back
@@ -30,6 +31,12 @@ words-back f h =
       lat = h 12 (lit< tt) (λ e. omega arith) (λ e. omega arith);
       lon = h 13 (lit< tt) (λ e. omega arith) (λ e. omega arith);
     })
+
+pub accepted-number : AcceptedNumber
+accepted-number = HandedBack.accepted-number
+
+pub shown-number : ShownNumber
+shown-number = HandedBack.shown-number
 
 pub read-back : ReadBack
 read-back = Returned.read-back

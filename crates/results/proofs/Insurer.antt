@@ -1,13 +1,15 @@
 -- The insurer's question: each statement of specs/Insurer.antt, from where the work is done.
 -- Assumes nothing.
+use mathlib.Core.List.{reverse}
 use Rattle.worksheet.proofs.force.Insured as Line
 use Rattle.worksheet.proofs.force.Lasting as Lasting
 use Rattle.worksheet.proofs.force.Unbroken as Unbroken
 use Rattle.jutetrowel.specs.Words.{worksheetOf}
 use Rattle.jutetrowel.proofs.lists.InsuredOver as Over
-use Rattle.results.specs.Insurer.{InsurersSentence, InsurersSentenceOpened, StayInRange, AlwaysShown, FirstShowing, ShowingsExist, InsurersSentenceLent, InsurersSentenceOver, ChangeNeverCancelled, ChangeNeverCancelledOver, CommitSource, ChangeSource, UndisturbedDraft, InsurersLine, InsurersLineLent, InsurersLineOver, OpenedInForce, InputsInForce, InForceOver, BegunInForce, CommitsExactly, InForceExactly, OpenedExactly}
-use Rattle.results.proofs.files.GoodFiles.{goodRecord, goodMonthFile, files-accepted}
+use Rattle.results.specs.Insurer.{InsurersSentence, InsurersSentenceOpened, InsurersSentenceHanded, StayInRange, AlwaysShown, FirstShowing, ShowingsExist, InsurersSentenceLent, InsurersSentenceOver, ChangeNeverCancelled, ChangeNeverCancelledOver, CommitSource, ChangeSource, UndisturbedDraft, CommitUndisturbed, InsurersLine, InsurersLineLent, InsurersLineOver, OpenedInForce, InputsInForce, InForceOver, BegunInForce, CommitsExactly, InForceExactly, OpenedExactly}
+use Rattle.results.proofs.files.GoodFiles.{files-accepted}
 use Rattle.results.proofs.sheet.AlwaysShown as Shown
+use Rattle.results.proofs.sheet.HandedBack as HandedBack
 use Rattle.results.proofs.sheet.ClosedDesks.{at-rest}
 
 pub insurers-sentence : InsurersSentence
@@ -15,6 +17,9 @@ insurers-sentence = Unbroken.insurers-sentence
 
 pub insurers-sentence-opened : InsurersSentenceOpened
 insurers-sentence-opened = Over.insurers-sentence-opened
+
+pub insurers-sentence-handed : InsurersSentenceHanded
+insurers-sentence-handed = HandedBack.insurers-sentence-handed
 
 pub stay-in-range : StayInRange
 stay-in-range = Shown.stay-in-range
@@ -26,7 +31,7 @@ pub first-showing : FirstShowing
 first-showing = Shown.first-showing
 
 pub showings-exist : ShowingsExist
-showings-exist = (goodRecord, (goodMonthFile, Shown.first-showing goodRecord goodMonthFile files-accepted))
+showings-exist = (_, (_, Shown.first-showing _ _ files-accepted))
 
 pub insurers-sentence-lent : InsurersSentenceLent
 insurers-sentence-lent source w h = Unbroken.insurers-sentence-lent source w (at-rest w h)
@@ -48,6 +53,14 @@ change-source source w h = Line.change-source source w (at-rest w h)
 
 pub undisturbed-draft : UndisturbedDraft
 undisturbed-draft source w h = Line.undisturbed-draft source w (at-rest w h)
+
+pub commit-undisturbed : CommitUndisturbed
+commit-undisturbed source w h cs c m =
+    let rest = at-rest w h in
+    let k = Line.commit-source source w rest cs c m in
+    let committed = Unbroken.commit-call (c .desk) (c .entry .call) (k .is-commit) in
+    let before = reverse (c .past) in
+    (k, Line.undisturbed-draft source w rest cs before (k .after) (c .entry) (c .desk) (k .split) committed (k .committed))
 
 pub insurers-line : InsurersLine
 insurers-line = Line.insurers-line

@@ -3,5 +3,6 @@ pub mod FigurePlaces
 pub mod GoodSheet
 pub mod Ignored
 pub mod AlwaysShown
+pub mod HandedBack
 pub mod ClosedDesks
 pub mod ShownClocks

@@ -10,16 +10,21 @@ use Prim.Native.Nat.{ℕ, _^_, _<_}
 use lib.Dec.{T}
 use lib.ListN.{getD}
 use lib.Ieee.{binary32, isNan, ofBits}
+use Rattle.base.specs.declared.refusal.Verdict.{Verdict}
+use Rattle.base.specs.declared.refusal.Verdict.the-variants.{Accepted}
 use Rattle.maps.specs.declared.inputs.Inputs.{Inputs}
+use Rattle.maps.specs.declared.figures.Shown.{Shown}
+use Rattle.maps.specs.declared.figures.Shown.the-variants.{Points}
 use Rattle.maps.specs.Inputs.{inputsFrom, wordsTo, fieldWords, Singles}
 use Rattle.worksheet.specs.declared.desks.Worksheet.{Worksheet}
 use Rattle.worksheet.specs.Showing.{Source}
 use Rattle.worksheet.specs.Journal.{Call, run}
+use Rattle.jutetrowel.specs.Answers.{answerOf, showingOf}
 use Rattle.jutetrowel.specs.Words.{worksheetOf, sheetWords, SheetSingles}
 use Rattle.jutetrowel.specs.Calls.{CallsSingles, entriesOver, wordsOver}
 
--- ---- DEMAND 2: a field has the same bits in the program, in the library and on the worksheet.
--- f k is the word of field k, counted from 0
+-- ---- DEMAND 3, 'bit for bit': fields cross to words and back. f k is the word of field k, counted
+-- from 0
 
 -- Fields written as 14 words and read again are the same fields, if their numbers are values of an
 -- f32
@@ -40,6 +45,16 @@ abbrev pub WordsBack : Type 0
 WordsBack =
     (f : ℕ → ℕ) → ((k : ℕ) → k < 14 → (k ≡ 0 → ⊥) → (k ≡ 7 → ⊥) → WrittenWord (f k)) →
     fieldWords (inputsFrom f) ≡ wordsTo f
+
+-- ---- DEMAND 1: 'either does its work or refuses by a number of document 01'
+
+-- Where a call of the library hands back the number 0, nothing was refused
+abbrev pub AcceptedNumber : Type 0
+AcceptedNumber = (v : Verdict) → answerOf v .number ≡ 0 → v ≡ Accepted
+
+-- Where a showing hands back the number 0, it was accepted with the points that it hands back
+abbrev pub ShownNumber : Type 0
+ShownNumber = (x : Shown) → showingOf x .number ≡ 0 → x ≡ Points (showingOf x .points)
 
 -- ---- DEMAND 3 of the library's calls rests on this
 

@@ -20,8 +20,8 @@ use Rattle.maps.specs.Figures.{hourOf, headOf, pointRow, figureRow, sheetPath, 
 use Rattle.results.specs.LaterBytes.{Alike}
 use Rattle.results.specs.SamePaths.{SamePath, SameEnd, SamePole, SameWork}
 
--- ---- DEMAND 2: 'Blank figures, the same figures each time or a buffer left as lent fail'; accepted,
--- the whole buffer is written
+-- ---- DEMAND 2: 'Blank figures, the same figures each time or a buffer left as lent fail';
+-- accepted, the whole buffer is written
 
 -- Where the files pass their checks, the buffer is the figures, whatever it held
 abbrev pub AllOverwritten : Type 0

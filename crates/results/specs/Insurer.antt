@@ -2,7 +2,7 @@
 -- crates/worksheet/specs/Journal.antt (calls, entries, `run`) and InForce.antt (`Insured`,
 -- `NeverCancelled`, `takenBack`), those over the library's words in
 -- crates/jutetrowel/specs/Calls.antt. Assumes nothing.
-use mathlib.Core.List.{List, [], _∷_, _++_, List·Memᴰ}
+use mathlib.Core.List.{List, [], _∷_, _++_, reverse, List·Memᴰ}
 use mathlib.Core.Bool.{true}
 use mathlib.Core.Path.{_≡_}
 use Prim.Native.Nat.{ℕ}
@@ -21,8 +21,9 @@ use Rattle.worksheet.specs.Desks.{draftAt, openOf, openedOf}
 use Rattle.worksheet.specs.Showing.{Source, pair}
 use Rattle.worksheet.specs.Journal.{Call, begin, commit, show, shown, Entry, accepted, good, step, run}
 use Rattle.worksheet.specs.InForce.{Commit, changed, changesBy, commitsInForce, inForce, commitsLeft, startLeft, FiguresOf, Drafted, CommitInForce, InForceBy, NeverCancelled, Insured}
+use Rattle.jutetrowel.specs.declared.answers.Showing.{Showing}
 use Rattle.jutetrowel.specs.Words.{worksheetOf, wordsAfter}
-use Rattle.jutetrowel.specs.Calls.{CallsSingles, entriesOver, wordsOver}
+use Rattle.jutetrowel.specs.Calls.{CallsSingles, Shows, entriesOver, wordsOver}
 
 -- ---- two words of this page
 
@@ -44,8 +45,9 @@ pub record DesksClosed (w : Worksheet) : Type 0 where
 
 -- Of every list of calls on a worksheet that opens, with one record and one month file lent
 -- throughout: each accepted showing of the worksheet gave the number of points and all figures of
--- ONE set of inputs, which is the opened inputs with the changes of exactly those commits before
--- the showing that were accepted and not taken back, and each change was never cancelled
+-- ONE set of inputs: the opened inputs with the changes of exactly those commits before the showing
+-- that were accepted and not taken back before it, in their order; and each of these changes stands
+-- in a draft that was committed and never cancelled (`NeverCancelled`)
 abbrev pub InsurersSentence : Type 0
 InsurersSentence =
     (f2 file : List ℕ) (opened : Inputs) → openOf opened .answer ≡ Accepted →
@@ -62,6 +64,18 @@ InsurersSentenceOpened =
     entriesOver (pair f2 file) cs (wordsAfter (openedOf s) words)
     ≡ before ++ (acceptedShowing lent count figures ∷ later) →
     Insured (pair f2 file) (openedOf s .sheet .inputs) before count figures
+
+-- The same by what the caller sees: after an open that is accepted and any list of the library's
+-- calls, `jt_show` of the worksheet hands back r and leaves `figures` in the buffer (`Shows`, its
+-- contract); where r's number is 0, the figures and r's points are insured by the list before
+abbrev pub InsurersSentenceHanded : Type 0
+InsurersSentenceHanded =
+    (f2 file s words : List ℕ) → openedOf s .answer ≡ Accepted → (cs : List Call) → CallsSingles cs →
+    (lent figures : List Float) (r : Showing) →
+    let l = wordsAfter (openedOf s) words in
+    Shows (step (pair f2 file) (show 0 lent) (worksheetOf (wordsOver (pair f2 file) cs l)) .answer) r figures →
+    r .number ≡ 0 →
+    Insured (pair f2 file) (openedOf s .sheet .inputs) (entriesOver (pair f2 file) cs l) (r .points) figures
 
 -- ---- and there are such showings
 
@@ -149,14 +163,23 @@ ChangeSource =
     List·Memᴰ e (changesBy (commitsInForce w (run source cs w .entries))) →
     InForceBy (run source cs w .entries) e
 
--- A draft that is committed was begun before, on inputs that are still in force at the commit;
--- between the two nobody committed or took back, and it was not cancelled or begun anew
+-- A draft that is committed was begun before, while the inputs were in force that still are at the
+-- commit; between the two nobody committed or took back, and it was not cancelled or begun anew;
+-- its own calls are that begin and what belongs to the desk between the two
 abbrev pub UndisturbedDraft : Type 0
 UndisturbedDraft =
     (source : Source) (w : Worksheet) → DesksClosed w →
     (cs : List Call) (before later : List Entry) (x : Entry) (n : ℕ) →
     run source cs w .entries ≡ before ++ (x ∷ later) → x .call ≡ commit n → good x ≡ true →
     Drafted w n before
+
+-- So each commit in force for itself, where the same change was also made elsewhere: it was
+-- accepted and not taken back, and its draft is such a one
+abbrev pub CommitUndisturbed : Type 0
+CommitUndisturbed =
+    (source : Source) (w : Worksheet) → DesksClosed w → (cs : List Call) (c : Commit) →
+    List·Memᴰ c (commitsInForce w (run source cs w .entries)) →
+    CommitInForce (run source cs w .entries) c × Drafted w (c .desk) (reverse (c .past))
 
 -- ---- 'from one sunspot number, one hour and one route': the set is the inputs in force, a fold
 -- over the entries that looks at no draft

@@ -1,2 +1,2 @@
-// What follows from the definitions of base, maps and worksheet: statements in specs/, their proofs
-// in rooms. No code.
+// What follows from the definitions of base, maps, worksheet and jutetrowel: statements in specs/,
+// their proofs in rooms. No code.

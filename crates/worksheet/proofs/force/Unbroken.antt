@@ -59,7 +59,7 @@ isSettling n (belonging m even es) = false
 isSettling n returning = false
 isSettling n showing = false
 
-commit-call : (n : ℕ) (c : Call) → roleOf c ≡ settling n → c ≡ commit n
+pub commit-call : (n : ℕ) (c : Call) → roleOf c ≡ settling n → c ≡ commit n
 unfolding isSettling
 commit-call n c e = go c (ap (isSettling n) e ∙ eq-eqb n n refl)
   where
