@@ -2,6 +2,7 @@
 -- nothing.
 use Rattle.results.proofs.numbers.Sizes.{range-between}
 use Rattle.results.proofs.finite.AcceptedFields.{accepted-in-range as accepted-in-range-proved}
+use Rattle.results.proofs.finite.SoundFiles.{sound-sheets as sound-sheets-proved}
 use Rattle.results.proofs.finite.FiniteSheets.{
   point-numbers as point-numbers-proved,
   sheet-path-finite as sheet-path-finite-proved,
@@ -37,6 +38,7 @@ use Rattle.results.specs.FiniteOrNot.{
   SheetGroundFinite,
   EHeight,
   EsHeight,
+  SoundSheets,
   PointMapped,
   SheetEsFinite,
   SheetLayers,
@@ -80,6 +82,9 @@ e-height = e-height-proved
 
 pub es-height : EsHeight
 es-height = es-height-proved
+
+pub sound-sheets : SoundSheets
+sound-sheets = sound-sheets-proved
 
 pub point-mapped : PointMapped
 point-mapped f2 file i p s t = point-mapped-proved f2 file i p t s

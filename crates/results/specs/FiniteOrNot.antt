@@ -22,6 +22,7 @@ use Rattle.base.specs.Ranges.{isTo, isMonth}
 use Rattle.base.specs.Words.{floatAt}
 use Rattle.base.specs.Tables.{startOf, wordsOf, xf2cof, xfm3cf, anew}
 use Rattle.base.specs.Index.{indexCheck}
+use Rattle.base.specs.Files.{filesCheck}
 use Rattle.maps.specs.declared.inputs.Inputs.{Inputs}
 use Rattle.maps.specs.declared.inputs.Factors.{Factors}
 use Rattle.maps.specs.declared.geometry.ControlPoint.{ControlPoint}
@@ -223,6 +224,17 @@ abbrev pub EsHeight : Type 0
 EsHeight = (g : Gammas) (psc3 : Float) → esindOf g psc3 .hs ≡ decimal 1100 1
 
 -- ---- demand 2, the maps, Es and the layers at every point of a sound sheet
+
+-- two files that the checks accept, and with which a sheet is sound
+pub record SoundFiles (i : Inputs) : Type 0 where
+  pub f2 : List ℕ
+  pub file : List ℕ
+  pub accepted : filesCheck f2 file ≡ Accepted
+  pub sound : SoundSheet f2 file i
+
+-- There are such files for all inputs whose fields are in range.
+abbrev pub SoundSheets : Type 0
+SoundSheets = (i : Inputs) → RouteInRange i → FieldsInRange i → SoundFiles i
 
 -- each of the six map values is a number of at most 2 ^ 50 in size
 pub record MapsBounded (g : Gammas) : Type 0 where
