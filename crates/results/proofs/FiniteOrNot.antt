@@ -12,6 +12,7 @@ use Rattle.results.proofs.finite.FiniteSheets.{
   sheet-es-finite as sheet-es-finite-proved,
   sheet-layers as sheet-layers-proved,
   sheet-finite as sheet-finite-proved,
+  zenang-range as zenang-range-proved,
   beyond-none as beyond-none-proved,
   none-beyond as none-beyond-proved,
 }
@@ -22,6 +23,7 @@ use Rattle.results.proofs.finite.FiniteLayers.{
   zenang-example as zenang-example-proved,
   rat-nan as rat-nan-proved,
   yi2-nan as yi2-nan-proved,
+  hpf2-finite as hpf2-finite-proved,
   hpf2-at-zero as hpf2-at-zero-proved,
 }
 use Rattle.results.proofs.finite.NoSun.{no-sun-layers as no-sun-layers-proved, no-sun-row as no-sun-row-proved}
@@ -43,11 +45,13 @@ use Rattle.results.specs.FiniteOrNot.{
   SheetEsFinite,
   SheetLayers,
   SheetFinite,
+  ZenangRange,
   BeyondNone,
   NoneBeyond,
   ZenangExample,
   RatNan,
   Yi2Nan,
+  Hpf2Finite,
   Hpf2AtZero,
   NoSunLayers,
   NoSunRow,
@@ -98,6 +102,9 @@ sheet-layers f2 file i p s t = sheet-layers-proved f2 file i p t s
 pub sheet-finite : SheetFinite
 sheet-finite f2 file i p s t = sheet-finite-proved f2 file i p t s
 
+pub zenang-range : ZenangRange
+zenang-range = zenang-range-proved
+
 pub beyond-none : BeyondNone
 beyond-none f2 file i p r f month t = beyond-none-proved f2 file i p t r f month
 
@@ -112,6 +119,9 @@ rat-nan = rat-nan-proved
 
 pub yi2-nan : Yi2Nan
 yi2-nan = yi2-nan-proved
+
+pub hpf2-finite : Hpf2Finite
+hpf2-finite m ssn gmt psc hmym pt mag g t = hpf2-finite-proved m ssn gmt psc hmym pt mag g t .size
 
 pub hpf2-at-zero : Hpf2AtZero
 hpf2-at-zero = hpf2-at-zero-proved

@@ -41,10 +41,11 @@ use Rattle.results.specs.FiniteOrNot.{
   zenithCosine,
   sheetCosine,
   MapsBounded,
+  CosineClear,
   LayerFigures,
   Ordinary,
 }
-use Rattle.results.proofs.numbers.Sizes.{Sized, range-between, larger}
+use Rattle.results.proofs.numbers.Sizes.{Sized, range-between, between-range, larger}
 use Rattle.results.proofs.clock.Clock.{Hour, Longitude}
 use Rattle.maps.specs.declared.inputs.Inputs.{Inputs}
 use Rattle.maps.specs.declared.geometry.PathGeometry.{PathGeometry}
@@ -63,6 +64,7 @@ use Rattle.results.proofs.finite.FiniteLayers.{
   cosineOf,
   ground-finite,
   e-height,
+  zenang-range as zenang-range-at,
   beyond-none as beyond-none-at,
   none-beyond as none-beyond-at,
 }
@@ -274,6 +276,12 @@ module _ (f2 file : List ℕ) (i : Inputs) (p : ℕ) where
           ),
         ),
       )
+
+  -- from 0 to 230 degrees, of any inputs and files
+  pub zenang-range : CosineClear (sheetCosine i p) → T (isTo (decimal 0 1) (decimal 2300 1) (sheetLayers f2 file i p .zenang .0))
+  unfolding hourOf hourFrom monthlyOf
+  zenang-range w =
+      between-range (zenang-range-at (h .monthly) (i .ssn) (i .gmt) (i .psc) (h .hmym) (sheetPoint i p) (sheetField i p) (sheetMaps f2 file i p) w)
 
   module _ (t : PointThere i p) where
     -- the ground pair, of any inputs and files
