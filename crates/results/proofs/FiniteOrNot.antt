@@ -2,6 +2,7 @@
 -- nothing.
 use Rattle.results.proofs.numbers.Sizes.{range-between}
 use Rattle.results.proofs.finite.AcceptedFields.{accepted-in-range as accepted-in-range-proved}
+use Rattle.results.proofs.finite.SoundFiles.{sound-sheets as sound-sheets-proved}
 use Rattle.results.proofs.finite.FiniteSheets.{
   point-numbers as point-numbers-proved,
   sheet-path-finite as sheet-path-finite-proved,
@@ -11,6 +12,7 @@ use Rattle.results.proofs.finite.FiniteSheets.{
   sheet-es-finite as sheet-es-finite-proved,
   sheet-layers as sheet-layers-proved,
   sheet-finite as sheet-finite-proved,
+  zenang-range as zenang-range-proved,
   beyond-none as beyond-none-proved,
   none-beyond as none-beyond-proved,
 }
@@ -21,6 +23,7 @@ use Rattle.results.proofs.finite.FiniteLayers.{
   zenang-example as zenang-example-proved,
   rat-nan as rat-nan-proved,
   yi2-nan as yi2-nan-proved,
+  hpf2-finite as hpf2-finite-proved,
   hpf2-at-zero as hpf2-at-zero-proved,
 }
 use Rattle.results.proofs.finite.NoSun.{no-sun-layers as no-sun-layers-proved, no-sun-row as no-sun-row-proved}
@@ -37,15 +40,18 @@ use Rattle.results.specs.FiniteOrNot.{
   SheetGroundFinite,
   EHeight,
   EsHeight,
+  SoundSheets,
   PointMapped,
   SheetEsFinite,
   SheetLayers,
   SheetFinite,
+  ZenangRange,
   BeyondNone,
   NoneBeyond,
   ZenangExample,
   RatNan,
   Yi2Nan,
+  Hpf2Finite,
   Hpf2AtZero,
   NoSunLayers,
   NoSunRow,
@@ -81,6 +87,9 @@ e-height = e-height-proved
 pub es-height : EsHeight
 es-height = es-height-proved
 
+pub sound-sheets : SoundSheets
+sound-sheets = sound-sheets-proved
+
 pub point-mapped : PointMapped
 point-mapped f2 file i p s t = point-mapped-proved f2 file i p t s
 
@@ -92,6 +101,9 @@ sheet-layers f2 file i p s t = sheet-layers-proved f2 file i p t s
 
 pub sheet-finite : SheetFinite
 sheet-finite f2 file i p s t = sheet-finite-proved f2 file i p t s
+
+pub zenang-range : ZenangRange
+zenang-range = zenang-range-proved
 
 pub beyond-none : BeyondNone
 beyond-none f2 file i p r f month t = beyond-none-proved f2 file i p t r f month
@@ -107,6 +119,9 @@ rat-nan = rat-nan-proved
 
 pub yi2-nan : Yi2Nan
 yi2-nan = yi2-nan-proved
+
+pub hpf2-finite : Hpf2Finite
+hpf2-finite m ssn gmt psc hmym pt mag g t = hpf2-finite-proved m ssn gmt psc hmym pt mag g t .size
 
 pub hpf2-at-zero : Hpf2AtZero
 hpf2-at-zero = hpf2-at-zero-proved

@@ -7,5 +7,6 @@ pub mod FiniteMaps
 pub mod FiniteLayers
 pub mod FiniteFigures
 pub mod AcceptedFields
+pub mod SoundFiles
 pub mod FiniteSheets
 pub mod NoSun

@@ -22,6 +22,7 @@ use Rattle.base.specs.Ranges.{isTo, isMonth}
 use Rattle.base.specs.Words.{floatAt}
 use Rattle.base.specs.Tables.{startOf, wordsOf, xf2cof, xfm3cf, anew}
 use Rattle.base.specs.Index.{indexCheck}
+use Rattle.base.specs.Files.{filesCheck}
 use Rattle.maps.specs.declared.inputs.Inputs.{Inputs}
 use Rattle.maps.specs.declared.inputs.Factors.{Factors}
 use Rattle.maps.specs.declared.geometry.ControlPoint.{ControlPoint}
@@ -224,6 +225,17 @@ EsHeight = (g : Gammas) (psc3 : Float) → esindOf g psc3 .hs ≡ decimal 1100 1
 
 -- ---- demand 2, the maps, Es and the layers at every point of a sound sheet
 
+-- two files that the checks accept, and with which a sheet is sound
+pub record SoundFiles (i : Inputs) : Type 0 where
+  pub f2 : List ℕ
+  pub file : List ℕ
+  pub accepted : filesCheck f2 file ≡ Accepted
+  pub sound : SoundSheet f2 file i
+
+-- There are such files for all inputs whose fields are in range.
+abbrev pub SoundSheets : Type 0
+SoundSheets = (i : Inputs) → RouteInRange i → FieldsInRange i → SoundFiles i
+
 -- each of the six map values is a number of at most 2 ^ 50 in size
 pub record MapsBounded (g : Gammas) : Type 0 where
   pub g1 : UpToPower 50 (g .g1)
@@ -306,8 +318,15 @@ SheetFinite =
 
 -- ---- demand 2, where a figure is NaN or infinite
 
--- With both ends, hour and month in range, and whatever the rest: where the cosine came out beyond 1
--- in size, `zenang` is NaN,
+-- Whatever inputs and files: where the cosine is a number of at most 1 in size, `zenang` is from 0
+-- to 230 degrees.
+abbrev pub ZenangRange : Type 0
+ZenangRange =
+    (f2 file : List ℕ) (i : Inputs) (p : ℕ) → CosineClear (sheetCosine i p) →
+    T (isTo (decimal 0 1) (decimal 2300 1) (sheetLayers f2 file i p .zenang .0))
+
+-- With both ends, hour and month in range, and whatever the rest: where the cosine came out beyond
+-- 1 in size, `zenang` is NaN,
 abbrev pub BeyondNone : Type 0
 BeyondNone =
     (f2 file : List ℕ) (i : Inputs) (p : ℕ) → EndsInRange i → HourInRange i → T (isMonth (i .month)) →
@@ -342,7 +361,14 @@ Yi2Nan =
     (pt : ControlPoint) (mag : MagneticVars) (g : Gammas) →
     let l = layersOf m ssn gmt psc hmym pt mag g in l .zenang .0 ≡ nan → getD (l .yi) 2 nan ≡ nan
 
--- Of all arguments: where f2m3 is a zero, `hpf2` is the infinity of its sign.
+-- Of all arguments: where f2m3 is 2 ^ -60 at least in size, `hpf2` is finite,
+abbrev pub Hpf2Finite : Type 0
+Hpf2Finite =
+    (m : Monthly) (ssn gmt : Float) (psc : Factors) (hmym : List Float)
+    (pt : ControlPoint) (mag : MagneticVars) (g : Gammas) →
+    let l = layersOf m ssn gmt psc hmym pt mag g in FactorClear l → UpToPower 71 (l .hpf2)
+
+-- and where f2m3 is a zero, `hpf2` is the infinity of its sign.
 abbrev pub Hpf2AtZero : Type 0
 Hpf2AtZero =
     (m : Monthly) (ssn gmt : Float) (psc : Factors) (hmym : List Float)

@@ -61,7 +61,7 @@ module _ (m : Monthly) (ssn gmt : Float) (psc : Factors) (hmym : List Float) (pt
     rat = λ w. between-range (rat-finite m ssn gmt psc hmym pt mag g F K L Q G w);
     hpf2-number = hpf2-number m ssn gmt psc hmym pt mag g F K L Q G;
     abiy-number = abiy-number m ssn gmt psc hmym pt mag g F K L Q G;
-    hpf2 = λ t. hpf2-finite m ssn gmt psc hmym pt mag g F K L Q G (factor-off t) .size;
+    hpf2 = λ t. hpf2-finite m ssn gmt psc hmym pt mag g t .size;
     abiy = λ t. abiy-sized m ssn gmt psc hmym pt mag g F K L Q G t .size;
     yi1 = λ t u. yi1-sized m ssn gmt psc hmym pt mag g F K L Q G (factor-off t) (f1-off u) .size;
     hi1 = λ t u. hi1-sized m ssn gmt psc hmym pt mag g F K L Q G (factor-off t) (f1-off u) .size;

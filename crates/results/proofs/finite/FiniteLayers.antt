@@ -804,6 +804,13 @@ less-number (fin s m e) h = unfold neg sub in add-number binary32 (fin s m e) (n
 height-number : (g5 : Float) → T (finite g5) → T (not (isNan (decimal 14900 1 ⊘ g5 ⊖ decimal 1760 1)))
 height-number g5 p = less-number (decimal 14900 1 ⊘ g5) (quotient-number g5 p)
 
+-- it is finite where f2m3 is not within 2 ^ -60 of zero
+pub hpf2-finite :
+    (m : Monthly) (ssn gmt : Float) (psc : Factors) (hmym : List Float) (pt : ControlPoint) (mag : MagneticVars) (g : Gammas) →
+    T (le (fin false 1 (negsuc 59)) (absOf (layersOf m ssn gmt psc hmym pt mag g .f2m3))) → Sized (fin false 1 (pos 71)) (layersOf m ssn gmt psc hmym pt mag g .hpf2)
+unfolding layersOf
+hpf2-finite m ssn gmt psc hmym pt mag g t = hpf2-sized (g .g5) t
+
 -- at zero it is infinite, with zero's sign
 at-zero : (s : Bool) (e : ℤ) → decimal 14900 1 ⊘ fin s 0 e ⊖ decimal 1760 1 ≡ inf s
 unfolding decimal round neg add sub div
@@ -975,11 +982,6 @@ module _ (m : Monthly) (ssn gmt : Float) (psc : Factors) (hmym : List Float) (pt
   pub f2m3-sized : Sized gammas (layersOf m ssn gmt psc hmym pt mag g .f2m3)
   unfolding layersOf
   f2m3-sized = G .g5
-
-  -- hpf2 is finite where f2m3 is not within 2 ^ -60 of zero
-  pub hpf2-finite : T (le (fin false 1 (negsuc 59)) (absOf (g .g5))) → Sized (fin false 1 (pos 71)) (layersOf m ssn gmt psc hmym pt mag g .hpf2)
-  unfolding layersOf
-  hpf2-finite t = hpf2-sized (g .g5) t
 
   -- rat is finite where the zenith angle is a number
   pub rat-finite : Within (cosineOf m gmt pt) → Between (fin false 1 (pos 0)) noises (layersOf m ssn gmt psc hmym pt mag g .rat)

@@ -41,10 +41,11 @@ use Rattle.results.specs.FiniteOrNot.{
   zenithCosine,
   sheetCosine,
   MapsBounded,
+  CosineClear,
   LayerFigures,
   Ordinary,
 }
-use Rattle.results.proofs.numbers.Sizes.{Sized, range-between, larger}
+use Rattle.results.proofs.numbers.Sizes.{Sized, range-between, between-range, larger}
 use Rattle.results.proofs.clock.Clock.{Hour, Longitude}
 use Rattle.maps.specs.declared.inputs.Inputs.{Inputs}
 use Rattle.maps.specs.declared.geometry.PathGeometry.{PathGeometry}
@@ -63,6 +64,7 @@ use Rattle.results.proofs.finite.FiniteLayers.{
   cosineOf,
   ground-finite,
   e-height,
+  zenang-range as zenang-range-at,
   beyond-none as beyond-none-at,
   none-beyond as none-beyond-at,
 }
@@ -100,18 +102,19 @@ ranged-finite : (lo hi x : Float) → T (finite lo) → T (finite hi) → T (isT
 ranged-finite lo hi x a b t = finite-between lo x hi a b (and-l (le lo x) (le x hi) t) (and-r (le lo x) (le x hi) t)
 
 -- ---- lists of finite numbers
-abbrev Finite : List Float → Type 0
-Finite [] = Unit
-Finite (x ∷ xs) = T (finite x) × Finite xs
+infixr 50 _and_
+data Finite : List Float → Type 0 where
+  none : Finite []
+  _and_ : {x : Float} {xs : List Float} → T (finite x) → Finite xs → Finite (x ∷ xs)
 
 finite-at : (l : List Float) → Finite l → (k : ℕ) → k < length l → T (finite (getD l k nan))
 finite-at [] h k b = absurd (not-suc-le-zero b)
-finite-at (x ∷ xs) h zero b = h .0
-finite-at (x ∷ xs) h (suc k) b = finite-at xs (h .1) k (le-of-suc-le-suc b)
+finite-at (x ∷ xs) (p and ps) zero b = p
+finite-at (x ∷ xs) (p and ps) (suc k) b = finite-at xs ps k (le-of-suc-le-suc b)
 
 six-finite : (g : PathGeometry) → FiniteHead g → Finite (headOf g)
 unfolding headOf
-six-finite g p = (p .gcd, (p .«gcd_km», (p .btr, (p .brt, (p .rlatd, (p .alatd, tt))))))
+six-finite g p = p .gcd and p .«gcd_km» and p .btr and p .brt and p .rlatd and p .alatd and none
 
 abbrev longWay : Inputs → Bool
 longWay i = isLong (i .route .«long_path»)
@@ -204,76 +207,43 @@ module _ (f2 file : List ℕ) (i : Inputs) (p : ℕ) where
       EsFinite (sheetEs f2 file i p) → Finite (pointRow h i (sheetPoint i p))
   unfolding pointRow numbersOf decimal round
   row-finite a b c o d =
-      let g = ground-finite (h .monthly) (h .fakmap) (sheetPoint i p .lat) (sheetField i p .«east_lon») in (
-        a .rd,
-        (
-          a .lat,
-          (
-            a .lon,
-            (
-              a .gmlat,
-              (
-                b .gyz,
-                (
-                  b .gmdip,
-                  (
-                    b .«east_lon»,
-                    (
-                      ranged-finite (fin false 1 (negsuc 4)) (fin false 1 (pos 53)) _ tt tt (c .fi0),
-                      (
-                        up-to-finite 55 _ (c .fi1),
-                        (
-                          up-to-finite 54 _ (c .fi2),
-                          (
-                            constants .0,
-                            (
-                              up-to-finite 126 _ (c .yi1 (o .f2m3) (o .f1)),
-                              (
-                                up-to-finite 126 _ (c .yi2 (o .cosine) (o .f2m3) (o .f1)),
-                                (
-                                  constants .1,
-                                  (
-                                    up-to-finite 126 _ (c .hi1 (o .f2m3) (o .f1)),
-                                    (
-                                      up-to-finite 126 _ (c .hi2 (o .f2m3) (o .f1)),
-                                      (
-                                        up-to-finite 50 _ (c .f2m3),
-                                        (
-                                          up-to-finite 71 _ (c .hpf2 (o .f2m3)),
-                                          (
-                                            ranged-finite (fin false 1 (pos 0)) (fin false 1 (pos 111)) _ tt tt (c .rat (o .cosine)),
-                                            (
-                                              up-to-finite 125 _ (c .abiy (o .e)),
-                                              (
-                                                c .clck,
-                                                (
-                                                  ranged-finite (decimal 0 1) (decimal 2300 1) _ tt tt (c .zenang (o .cosine)),
-                                                  (
-                                                    up-to-finite 27 _ (c .zenmax),
-                                                    (d .fs0, (d .fs1, (d .fs2, (d .hs, (g .0, (g .1, tt)))))),
-                                                  ),
-                                                ),
-                                              ),
-                                            ),
-                                          ),
-                                        ),
-                                      ),
-                                    ),
-                                  ),
-                                ),
-                              ),
-                            ),
-                          ),
-                        ),
-                      ),
-                    ),
-                  ),
-                ),
-              ),
-            ),
-          ),
-        ),
-      )
+      let g = ground-finite (h .monthly) (h .fakmap) (sheetPoint i p .lat) (sheetField i p .«east_lon») in
+      a .rd
+      and a .lat
+      and a .lon
+      and a .gmlat
+      and b .gyz
+      and b .gmdip
+      and b .«east_lon»
+      and ranged-finite (fin false 1 (negsuc 4)) (fin false 1 (pos 53)) _ tt tt (c .fi0)
+      and up-to-finite 55 _ (c .fi1)
+      and up-to-finite 54 _ (c .fi2)
+      and constants .0
+      and up-to-finite 126 _ (c .yi1 (o .f2m3) (o .f1))
+      and up-to-finite 126 _ (c .yi2 (o .cosine) (o .f2m3) (o .f1))
+      and constants .1
+      and up-to-finite 126 _ (c .hi1 (o .f2m3) (o .f1))
+      and up-to-finite 126 _ (c .hi2 (o .f2m3) (o .f1))
+      and up-to-finite 50 _ (c .f2m3)
+      and up-to-finite 71 _ (c .hpf2 (o .f2m3))
+      and ranged-finite (fin false 1 (pos 0)) (fin false 1 (pos 111)) _ tt tt (c .rat (o .cosine))
+      and up-to-finite 125 _ (c .abiy (o .e))
+      and c .clck
+      and ranged-finite (decimal 0 1) (decimal 2300 1) _ tt tt (c .zenang (o .cosine))
+      and up-to-finite 27 _ (c .zenmax)
+      and d .fs0
+      and d .fs1
+      and d .fs2
+      and d .hs
+      and g .0
+      and g .1
+      and none
+
+  -- from 0 to 230 degrees, of any inputs and files
+  pub zenang-range : CosineClear (sheetCosine i p) → T (isTo (decimal 0 1) (decimal 2300 1) (sheetLayers f2 file i p .zenang .0))
+  unfolding hourOf hourFrom monthlyOf
+  zenang-range w =
+      between-range (zenang-range-at (h .monthly) (i .ssn) (i .gmt) (i .psc) (h .hmym) (sheetPoint i p) (sheetField i p) (sheetMaps f2 file i p) w)
 
   module _ (t : PointThere i p) where
     -- the ground pair, of any inputs and files
