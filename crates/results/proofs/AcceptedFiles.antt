@@ -3,7 +3,7 @@ use mathlib.Core.Path.{_∙_}
 use native.Mathlib.Omega.{arith}
 use Rattle.base.proofs.ladder.Indexing
 use Rattle.base.proofs.layout.Parts
-use Rattle.results.specs.AcceptedFiles.{MonthFileGood, EndedRefused, MarkerRefused, FileAnswers, IndexGood, IndexRefused, VirtimInside, VersyInside, MonthFileAccepted, IndexAccepted, FilesAccepted, FileOfBytes, SheetShown, SheetWritten, TablesPacked, TwentyTables, PlanesFill, TableInside, MonthInside, ZeroThere, ThereZero, MonthAccepted, MonthZero, TableCheckLater, TableBytesLater, MonthCheckLater, MonthBytesLater}
+use Rattle.results.specs.AcceptedFiles.{MonthFileGood, EndedRefused, MarkerRefused, FileAnswers, IndexGood, IndexRefused, VirtimInside, VersyInside, MonthFileAccepted, IndexAccepted, FilesAccepted, FileOfBytes, SheetShown, SheetWritten, TablesPacked, TwentyTables, PlanesFill, TableInside, MonthInside, ZeroThere, ThereZero, MonthAccepted, MonthZero, TableCheckLater, TableBytesLater, MonthCheckLater, MonthBytesLater, CutAnywhere, TablePartLater, MonthPartLater}
 use Rattle.results.proofs.files.Marks
 use Rattle.results.proofs.files.WalkAnswers
 use Rattle.results.proofs.files.IndexAnswers
@@ -26,6 +26,9 @@ marker-refused = WalkAnswers.marker-refused
 
 pub file-answers : FileAnswers
 file-answers = WalkAnswers.file-answers
+
+pub cut-anywhere : CutAnywhere
+cut-anywhere = WalkAnswers.cut-anywhere
 
 -- ---- the index check
 
@@ -105,11 +108,17 @@ pub table-check-later : TableCheckLater
 table-check-later number f g s t b a =
     LaterParts.table-record-later number f g s b ∙ LaterParts.table-month-later number g s t a
 
+pub table-part-later : TablePartLater
+table-part-later = LaterParts.table-part-later
+
 pub table-bytes-later : TableBytesLater
 table-bytes-later = LaterParts.table-bytes-later
 
 pub month-check-later : MonthCheckLater
 month-check-later = LaterParts.month-check-later
+
+pub month-part-later : MonthPartLater
+month-part-later = LaterParts.month-part-later
 
 pub month-bytes-later : MonthBytesLater
 month-bytes-later = LaterParts.month-bytes-later

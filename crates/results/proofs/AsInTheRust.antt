@@ -8,13 +8,14 @@ use Rattle.base.proofs.order.Order.{Between}
 use Rattle.maps.proofs.sums.GeographicFunctions
 use Rattle.maps.proofs.field.FieldSums as Sums
 use Rattle.maps.proofs.field.Legendre
-use Rattle.results.specs.AsInTheRust.{Report340, SixSeries, PointSeries, FigureSeries, MapSeries, FilledClosed, FilledAt, PastEnd, InHarmonic, HourAt, HourElsewhere, EveryWord, EntryInside, EntriesApart, TableEntry, CofionEntry, HmymEntry, FakmapEntry, MapsShaped, PFilled, DpFilled, FieldSums, MagfinArrays, CtGauss, PathCount, LongFive, RowsPast, ClockRange, PointClock, ShownClock, Clock24Stays, Clock0Becomes24, ClockMinus0Becomes24, CngtimSettled, ZeroLeaves, ExactZero, EveryMoved, EveryTimes, EveryLocal, Known, CutShort, LastWrong}
+use Rattle.results.specs.AsInTheRust.{Report340, SixSeries, PointSeries, FigureSeries, MapSeries, FilledClosed, FilledAt, PastEnd, InHarmonic, HourAt, HourElsewhere, EveryWord, EntryInside, EntriesApart, TableEntry, CofionEntry, HmymEntry, FakmapEntry, MapsShaped, PFilled, DpFilled, FieldSums, MagfinArrays, CtGauss, PathCount, LongFive, RowsPast, ClockRange, PointClock, ShownClock, Clock24Stays, Clock0Becomes24, ClockMinus0Becomes24, CngtimSettled, ZeroLeaves, ExactZero, EveryMoved, EveryTimes, EveryLocal, Known, CutShort, LastWrong, PartsMeet, PartsEnd, LineEntry, AbmapEntry, RowGmlat, SignMinusZero, SignNan}
 use Rattle.results.proofs.series.Report340 as Series
 use Rattle.results.proofs.series.FigureSeries as Figured
 use Rattle.results.proofs.series.DailySeries
 use Rattle.results.proofs.files.TableEntries
 use Rattle.results.proofs.files.Marks
 use Rattle.results.proofs.files.FilePoints
+use Rattle.results.proofs.path.SignRules
 use Rattle.results.proofs.path.PointCounts
 use Rattle.results.proofs.path.PointRows
 use Rattle.results.proofs.path.Longitudes
@@ -55,6 +56,12 @@ past-end = GeographicFunctions.past-end
 pub in-harmonic : InHarmonic
 in-harmonic = GeographicFunctions.in-harmonic
 
+pub parts-meet : PartsMeet
+parts-meet = DailySeries.parts-meet
+
+pub parts-end : PartsEnd
+parts-end = DailySeries.parts-end
+
 pub ab-at : HourAt
 ab-at = DailySeries.ab-at
 
@@ -83,6 +90,12 @@ hmym-entry = TableEntries.hmym-entry
 
 pub fakmap-entry : FakmapEntry
 fakmap-entry = TableEntries.fakmap-entry
+
+pub line-entry : LineEntry
+line-entry = TableEntries.line-entry
+
+pub abmap-entry : AbmapEntry
+abmap-entry = TableEntries.abmap-entry
 
 pub maps-shaped : MapsShaped
 maps-shaped = TableEntries.maps-shaped
@@ -115,6 +128,15 @@ long-five = PointCounts.long-five
 
 pub rows-past : RowsPast
 rows-past = PointRows.rows-past
+
+pub row-gmlat : RowGmlat
+row-gmlat = PointRows.row-gmlat
+
+pub sign-minus-zero : SignMinusZero
+sign-minus-zero = SignRules.sign-minus-zero
+
+pub sign-nan : SignNan
+sign-nan = SignRules.sign-nan
 
 -- ---- the clocks
 

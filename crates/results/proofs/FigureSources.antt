@@ -1,7 +1,7 @@
 -- What the figures come from: each statement of specs/FigureSources.antt, from where the work is
 -- done. Assumes nothing.
 use Rattle.maps.proofs.sheet.Alone as Alone
-use Rattle.results.specs.FigureSources.{AllOverwritten, SameFigures, NoneWritten, RefusedLeft, LaterFigures, LaterAnswer, LaterRecordFigures, LaterRecordAnswer, LaterMonthFigures, LaterMonthAnswer, HeadAt, FigureAt, PresentAt, AbsentAt, SameHead, PathAndPole, PoleOnly, OnlyRadians}
+use Rattle.results.specs.FigureSources.{AllOverwritten, SameFigures, NoneWritten, RefusedLeft, LaterFigures, LaterAnswer, LaterRecordFigures, LaterRecordAnswer, LaterMonthFigures, LaterMonthAnswer, HeadAt, FigureAt, PresentAt, AbsentAt, SameHead, PathAndPole, PoleOnly, OnlyRadians, LaterBuffer}
 use Rattle.results.proofs.sheet.Ignored as Ignored
 use Rattle.results.proofs.sheet.FigurePlaces as FigurePlaces
 use Rattle.results.proofs.path.PointRows as PointRows
@@ -24,6 +24,9 @@ later-figures = Ignored.later-figures
 
 pub later-answer : LaterAnswer
 later-answer = Ignored.later-answer
+
+pub later-buffer : LaterBuffer
+later-buffer = Ignored.later-buffer
 
 pub later-record-figures : LaterRecordFigures
 later-record-figures = Ignored.later-record-figures

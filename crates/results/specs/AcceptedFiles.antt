@@ -90,6 +90,11 @@ pub data FileAnswer : Verdict → Type 0 where
 abbrev pub FileAnswers : Type 0
 FileAnswers = (s : List ℕ) → FileAnswer (monthFileCheck s)
 
+-- A good file cut to n bytes is refused by 9 at the last multiple of four, where the walk stops.
+abbrev pub CutAnywhere : Type 0
+CutAnywhere =
+    (s : List ℕ) (n : ℕ) → WellMarked s → n < monthFileSize → monthFileCheck (take n s) ≡ Refused (Ended (n / 4 * 4))
+
 -- ---- demand 1: the index check
 
 -- the words of the map k, counted from 0, are good
@@ -237,7 +242,13 @@ TableCheckLater =
     (number : ℕ) (f g s t : List ℕ) → Alike recordSize f g → Alike monthFileSize s t →
     tableCheck number f s ≡ tableCheck number g t
 
--- And the same bytes are handed back.
+-- The part that is handed back lies in the same place,
+abbrev pub TablePartLater : Type 0
+TablePartLater =
+    (number : ℕ) (f g s t : RefT (List ℕ)) → Alike recordSize (now f) (now g) → Alike monthFileSize (now s) (now t) →
+    tablePart number (now f) (now s) ≡ tablePart number (now g) (now t)
+
+-- and has the same bytes.
 abbrev pub TableBytesLater : Type 0
 TableBytesLater =
     (number : ℕ) (f g s t : RefT (List ℕ)) → Alike recordSize (now f) (now g) → Alike monthFileSize (now s) (now t) →
@@ -251,7 +262,11 @@ TableBytesLater =
 abbrev pub MonthCheckLater : Type 0
 MonthCheckLater = (s t : List ℕ) (m : ℕ) → Alike (m * recordSize) s t → monthRecordCheck s m ≡ monthRecordCheck t m
 
--- And the same bytes are handed back.
+-- Its part lies in the same place,
+abbrev pub MonthPartLater : Type 0
+MonthPartLater = (s t : List ℕ) (m : ℕ) → Alike (m * recordSize) s t → monthPart s m ≡ monthPart t m
+
+-- and has the same bytes.
 abbrev pub MonthBytesLater : Type 0
 MonthBytesLater =
     (s t : List ℕ) (m : ℕ) → Alike (m * recordSize) s t →

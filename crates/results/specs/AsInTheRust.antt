@@ -17,12 +17,13 @@ use Rattle.base.specs.declared.refusal.Verdict.the-variants.{Accepted, Refused}
 use Rattle.base.specs.Single.{_⊕_, _⊖_, _⊗_, _⊘_, decimal, minusDecimal}
 use Rattle.base.specs.Double.{fraction}
 use Rattle.base.specs.Constants.{PI, PI2}
+use Rattle.base.specs.Number.{absOf}
 use Rattle.base.specs.Elementary.{cos32Of}
 use Rattle.base.specs.Ranges.{isTo}
 use Rattle.base.specs.Words.{wordAt, floatAt}
 use Rattle.base.specs.Fill.{tabulate}
 use Rattle.base.specs.MonthFile.{monthFileSize, IsPart, monthFileCheck, MarkedToLast}
-use Rattle.base.specs.Tables.{startOf, wordsOf, planeOf, holding, ikim, fakmap, xpmap, dimension, HasEntry, entryWord, entryPlace, partOf, tableCheck, tablePart, tableFile}
+use Rattle.base.specs.Tables.{startOf, wordsOf, planeOf, holding, ikim, fakmap, xpmap, dimension, HasEntry, entryWord, entryPlace, partOf, tableCheck, tablePart, tableFile, abmap}
 use Rattle.base.specs.Index.{indexOf, mapWord, rows, indexCheck, Climbs, Reaches}
 use Rattle.base.specs.Blend.{IA, IB, IC, blendOf, heightWeights, cofionOf, hmymOf, fakmapOf, mapTables, coefficientOf}
 use Rattle.maps.specs.declared.inputs.Inputs.{Inputs}
@@ -44,7 +45,7 @@ use Rattle.maps.specs.Versy.{harmonicOf, geographicOf, filledOf, topOf, versyOf
 use Rattle.maps.specs.Series.{omegaOf}
 use Rattle.maps.specs.Ionosphere.{hourMapsOf, gammasAt}
 use Rattle.maps.specs.Magnetic.{o, HC, CT, entry, clampedPlace, pOf, dpOf, bvOf, bnOf, bphiOf, magfinOf, eastOf, magvarOf, at7, placedOf, State, state, degreeOf, expansionOf}
-use Rattle.maps.specs.Geometry.{absent, nowhere, pathOf}
+use Rattle.maps.specs.Geometry.{absent, nowhere, pathOf, signOf, geomagneticOf}
 use Rattle.maps.specs.Layers.{clockOf}
 use Rattle.maps.specs.Figures.{hourOf, sheetPath, figuresOf}
 use Rattle.maps.specs.Clocks.{thetaOf, afterShift, forLoop, wraps, cngtimOf, movedOf, timesOf, localTimeOf}
@@ -154,6 +155,15 @@ InHarmonic =
     (w : ℕ → ℕ) (sx gob clg : Float) → Climbs w 8 0 → (j k : ℕ) → j < 8 → Reaches w j → w j < k → k ≤ w (j + 1) →
     geographicOf w sx gob clg k ≡ harmonicOf sx gob clg (j + 1) (k - w j - 1)
 
+-- IC packs the rows of the six maps as IA does their coefficients: where those of a map end, the
+-- next begin,
+abbrev pub PartsMeet : Type 0
+PartsMeet = (k : ℕ) → k < 5 → getD IC (k + 1) 0 ≡ getD IC k 0 + getD rows k 0
+
+-- and the last end where AB does, counted from 1.
+abbrev pub PartsEnd : Type 0
+PartsEnd = getD IC 5 0 + getD rows 5 0 ≡ 318 + 1
+
 -- Of an index table whose six maps are good, AB holds the daily series of each row of each map up
 -- to word 8, from IC on.
 abbrev pub HourAt : Type 0
@@ -227,6 +237,14 @@ abbrev pub FakmapEntry : Type 0
 FakmapEntry =
     (month : List ℕ) (i j : ℕ) → i < 29 → j < 16 →
     getD (fakmapOf month) (j * 29 + i) nan ≡ floatAt month (entryPlace fakmap i j 0)
+
+-- The entry [i] of a table of one dimension is its word i,
+abbrev pub LineEntry : Type 0
+LineEntry = (number i : ℕ) → entryPlace number i 0 0 ≡ startOf number + 4 * i
+
+-- and the entry [j][i] of `abmap`, which has rows of two, its word 2 j + i.
+abbrev pub AbmapEntry : Type 0
+AbmapEntry = (i j : ℕ) → entryPlace abmap i j 0 ≡ startOf abmap + 4 * (j * 2 + i)
 
 -- of a map's table: a row has as many words as IB says, a plane as many rows as the map, and there
 -- are two planes
@@ -323,6 +341,23 @@ RowsPast =
     (tlat tlong rlat rlong : Degrees) (long : Bool) (pole : MagneticPole) →
     let g = pathOf tlat tlong rlat rlong long pole in
     (i : ℕ) → i < 5 → g .count ≤ i → getD (g .points) i nowhere ≡ absent
+
+-- The geomagnetic latitude of each point that is there is what `geomagnetic_latitude` gives at its
+-- place.
+abbrev pub RowGmlat : Type 0
+RowGmlat =
+    (tlat tlong rlat rlong : Degrees) (long : Bool) (pole : MagneticPole) →
+    let g = pathOf tlat tlong rlat rlong long pole in
+    (i : ℕ) → i < g .count →
+    let p = getD (g .points) i nowhere in p .gmlat ≡ geomagneticOf pole (p .lat) (p .lon)
+
+-- `sign` with a second operand of minus zero gives the positive size,
+abbrev pub SignMinusZero : Type 0
+SignMinusZero = (a : Float) → signOf a (neg (decimal 0 1)) ≡ absOf a
+
+-- and with a NaN the negative one.
+abbrev pub SignNan : Type 0
+SignNan = (a : Float) → signOf a nan ≡ neg (absOf a)
 
 -- ---- demand 2: TIMVAR's clock
 

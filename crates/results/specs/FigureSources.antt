@@ -57,22 +57,30 @@ abbrev pub LaterFigures : Type 0
 LaterFigures =
     (f g s t : List ℕ) → Alike 7904 f g → Alike 38552 s t → (i : Inputs) → figuresOf f s i ≡ figuresOf g t i
 
--- and the same answer
+-- the same answer,
 abbrev pub LaterAnswer : Type 0
 LaterAnswer =
     (f g s t : List ℕ) → Alike 7904 f g → Alike 38552 s t → (i : Inputs) → shownOf f s i ≡ shownOf g t i
 
--- The same of two records, beside any month file
+-- and leave the same buffer.
+abbrev pub LaterBuffer : Type 0
+LaterBuffer =
+    (f g s t : List ℕ) → Alike 7904 f g → Alike 38552 s t → (i : Inputs) (out : List Float) →
+    figuresBuffer f s i out ≡ figuresBuffer g t i out
+
+-- Two records, beside any month file, have the same figures,
 abbrev pub LaterRecordFigures : Type 0
 LaterRecordFigures = (f g : List ℕ) → Alike 7904 f g → (s : List ℕ) (i : Inputs) → figuresOf f s i ≡ figuresOf g s i
 
+-- and the same answer.
 abbrev pub LaterRecordAnswer : Type 0
 LaterRecordAnswer = (f g : List ℕ) → Alike 7904 f g → (s : List ℕ) (i : Inputs) → shownOf f s i ≡ shownOf g s i
 
--- The same of two month files, beside any record
+-- Two month files, beside any record, have the same figures,
 abbrev pub LaterMonthFigures : Type 0
 LaterMonthFigures = (s t : List ℕ) → Alike 38552 s t → (f : List ℕ) (i : Inputs) → figuresOf f s i ≡ figuresOf f t i
 
+-- and the same answer.
 abbrev pub LaterMonthAnswer : Type 0
 LaterMonthAnswer = (s t : List ℕ) → Alike 38552 s t → (f : List ℕ) (i : Inputs) → shownOf f s i ≡ shownOf f t i
 

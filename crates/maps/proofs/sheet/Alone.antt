@@ -63,16 +63,6 @@ module _ (f2 file : List ℕ) (i : Inputs) where
   unfolding figuresBuffer
   none-written b why e = ap (λ (v : Verdict). writtenOver v (figuresOf f2 file i) b) e
 
-  -- the same by the answer: a count is the path's, with every figure in the buffer; a refusal
-  -- leaves the buffer
-  pub counted-written : (b : List Float) (count : ℕ) → shownOf f2 file i ≡ Points count → (count ≡ sheetPath i .count) × (figuresBuffer f2 file i b ≡ figuresOf f2 file i)
-  unfolding shownOf figuresBuffer
-  counted-written b count h = go (filesCheck f2 file) h
-    where
-      go : (v : Verdict) → pointsOr v (sheetPath i .count) ≡ Points count → (count ≡ sheetPath i .count) × (writtenOver v (figuresOf f2 file i) b ≡ figuresOf f2 file i)
-      go Accepted e = (cc, refl)
-      go (Refused why) e = let z : _≡_ {A = ℕ} 0 1 = cc in absurd (omega arith)
-
   pub refused-left : (b : List Float) (why : Refusal) → shownOf f2 file i ≡ NotShown why → figuresBuffer f2 file i b ≡ b
   unfolding shownOf figuresBuffer
   refused-left b why h = go (filesCheck f2 file) h
@@ -111,10 +101,6 @@ module _ (f2 f2' file : List ℕ) (i j : Inputs) (same-route : i .route ≡ j .r
   same-path =
       ap (λ (r : Route). pathOf (r .tlat) (r .tlong) (r .rlat) (r .rlong) (isLong (r .«long_path»)) (i .pole)) same-route
       ∙ ap (λ (p : MagneticPole). pathOf (j .route .tlat) (j .route .tlong) (j .route .rlat) (j .route .rlong) (isLong (j .route .«long_path»)) p) same-pole
-
-  -- the six figures of the path
-  pub same-head : headOf (sheetPath i) ≡ headOf (sheetPath j)
-  same-head = ap headOf same-path
 
   -- and of every row the point, the field and the ground, from one month file: whatever the month,
   -- the sunspot number, the hour, the factors and the F2 record

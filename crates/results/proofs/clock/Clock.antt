@@ -214,9 +214,6 @@ pub typed-longitude : (d : Degrees) → Between (minusDecimal 1800 1) (decimal 1
 unfolding farthest PI PI2 radiansOf D2R decimal minusDecimal round neg add sub mul le
 typed-longitude d b = mul-about binary32 (neg farthest) farthest tt b (exactly D2R tt)
 
-pub clock-typed : (gmt : Float) (d : Degrees) → Hour gmt → Between (minusDecimal 1800 1) (decimal 1800 1) (d .0) → OnClock (clockOf gmt (radiansOf d))
-clock-typed gmt d h b = clock-range gmt (radiansOf d) h (typed-longitude d b)
-
 -- ---- it is the layers' local mean time
 pub layer-clock : (m : Monthly) (ssn gmt : Float) (psc : Factors) (hmym : List Float) (pt : ControlPoint) (mag : MagneticVars) (g : Gammas) → layersOf m ssn gmt psc hmym pt mag g .clck ≡ clockOf gmt (pt .lon)
 unfolding layersOf timvarOf

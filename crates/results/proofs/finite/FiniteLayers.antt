@@ -456,12 +456,6 @@ retard-in b p q c x t u v f s w h =
     ten-finite : T (finite (decimal 10 1))
     ten-finite = unfold decimal round in tt
 
--- That of an infinity is NaN: so it would be of F1 if its frequency were so near to zero that 0.834
--- of F2's over it is infinite.
-pub retard-infinite : retardOf (inf false) ≡ nan
-unfolding retardOf ln32Of lnOf narrowOf decimal round neg add sub mul div
-retard-infinite = refl
-
 -- of E: fc is at most 2 ^ 54, and fi[0] at least 1/32
 e-retard : (fc fi0 : Float) → Sized (twoTo 54) fc → T (le (fin false 1 (negsuc 4)) (absOf fi0)) → Sized (twoTo 68) (retardOf (atLeastXf1 fc fi0))
 unfolding atLeastXf1 decimal round neg add sub mul div le
@@ -987,10 +981,6 @@ module _ (m : Monthly) (ssn gmt : Float) (psc : Factors) (hmym : List Float) (pt
   pub rat-finite : Within (cosineOf m gmt pt) → Between (fin false 1 (pos 0)) noises (layersOf m ssn gmt psc hmym pt mag g .rat)
   unfolding layersOf ef1Of timvarOf zenithOf zenithCosine
   rat-finite w = rat-range m hmym (pt .gmlat) _ _ K L (Q .gmlat) (z-sized (angle-in (cosineOf m gmt pt) w))
-
-  -- zenmax is finite
-  pub zenmax-finite : T (finite (layersOf m ssn gmt psc hmym pt mag g .zenmax .0))
-  zenmax-finite = sized-finite {a = twoTo 27} tt (zenmax-sized m ssn gmt psc hmym pt mag g K (Q .gmdip))
 
   module _ (off : T (le (fin false 1 (negsuc 59)) (absOf (g .g5)))) (f1-off : OffZero (getD (layersOf m ssn gmt psc hmym pt mag g .fi) 1 nan)) where
     abbrev fi2 : Float

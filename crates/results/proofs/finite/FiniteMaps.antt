@@ -147,10 +147,6 @@ module _ (f2 month : List ℕ) (held : Bounded f2 month) (s : Float) (b : Sunspo
   unfolding hmymOf
   hmym-sized i h = subst (Sized blended) (sym (run-at _ 464 i nan h)) (table-sized f2 month held xpmap (heightWeights s) tt (height-weighed s b) i h)
 
-  pub fakmap-sized : (i : ℕ) → i < 464 → Sized blended (getD (fakmapOf month) i nan)
-  unfolding fakmapOf le
-  fakmap-sized i h = subst (Sized blended) (sym (run-at _ 464 i nan h)) (larger blended tt (in-month held fakmap i tt h))
-
 -- ---- the waves of an hour
 
 abbrev angle : Float

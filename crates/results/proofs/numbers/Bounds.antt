@@ -196,9 +196,6 @@ atan-in v h = go (negative v) refl
         record { low = neg-not-above (atanFrom (neg v)) (w .high); high = trans-le (neg (atanFrom (neg v))) nought most (neg-not-below (atanFrom (neg v)) (w .low)) nought-most }
     go false e = from-in v h
 
-pub atan-not-below : (v : Float) → T (le (fraction 0 1) v) → T (le (fraction 0 1) (atanOf v))
-atan-not-below v h = rw nought-is (atan-in v (rw nought-is at h) .low)
-
 -- ---- acos: with (1 - v) and (1 + v) in [0, 2], and one of them 1 at least, so that the quotient
 -- is a number not below zero
 module _ (v : Float) (h : T (le (absOf v) one)) where
@@ -312,11 +309,6 @@ pub cos-size : (v : Float) → T (le (absOf v) (fraction 1000 1)) → T (le (abs
 unfolding fraction round
 cos-size v h = subst Small (sym (cos-is v (is-true (le (absOf v) thousand) h))) (cos-at (quarterOf (turnsOf v)) (reducedOf v (turnsOf v)) (reduced-in v h))
 
--- what is 2 at most in size is finite: so sin and cos of a number up to 1000, and atan
-pub two-finite : (x : Float) → T (le (absOf x) (fraction 2 1)) → T (finite x)
-unfolding fraction round
-two-finite x h = abs-finite x two tt h
-
 -- ---- over f32
 two-narrow : narrowOf (fraction 2 1) ≡ fraction 2 1
 unfolding narrowOf fraction round
@@ -325,10 +317,6 @@ two-narrow = refl
 pub atan32-size : (v : Float) → T (not (isNan v)) → T (le (absOf (atan32Of v)) (fraction 2 1))
 unfolding atan32Of
 atan32-size v h = rw two-narrow at (narrow-size (atanOf v) (fraction 2 1) (atan-size v h))
-
-pub atan32-not-below : (v : Float) → T (le (fraction 0 1) v) → T (le (fraction 0 1) (atan32Of v))
-unfolding atan32Of fraction round narrowOf
-atan32-not-below v h = narrow-mono (fraction 0 1) (atanOf v) (atan-not-below v h)
 
 pub acos32-range : (v : Float) → T (le (absOf v) (fraction 1 1)) → Between (fraction 0 1) (fraction 4 1) (acos32Of v)
 unfolding acos32Of fraction round narrowOf le

@@ -15,27 +15,15 @@ module _ (f : Format) (x : Float) where
   unfolding add
   nan-add = refl
 
-  pub nan-sub : sub f nan x ≡ nan
-  unfolding sub add
-  nan-sub = refl
-
   pub nan-mul : mul f nan x ≡ nan
   unfolding mul
   nan-mul = refl
-
-  pub nan-div : div f nan x ≡ nan
-  unfolding div
-  nan-div = refl
 
 pub add-nan : (f : Format) (x : Float) → add f x nan ≡ nan
 unfolding add
 add-nan f nan = refl
 add-nan f (inf s) = refl
 add-nan f (fin s m e) = refl
-
-pub sub-nan : (f : Format) (x : Float) → sub f x nan ≡ nan
-unfolding sub neg
-sub-nan f x = add-nan f x
 
 pub mul-nan : (f : Format) (x : Float) → mul f x nan ≡ nan
 unfolding mul

@@ -266,22 +266,6 @@ unfolding inside
 inside-between l h any t k = absurd t
 inside-between l h (span a b) t k = wider l h (and-l (le l a) (le b h) t) (and-r (le l a) (le b h) t) (k .is .between)
 
--- k at least from zero
-unfoldable pub clear : Float → Span → Bool
-clear k any = false
-clear k (span a b) = le k a || le b (neg k)
-
-pub clear-away : (k : Float) (i : Span) {x : Float} → T (clear k i) → In i x → T (le k (absOf x))
-unfolding clear
-clear-away k any t h = absurd t
-clear-away k (span a b) {x} t h = go (le k a) refl t
-  where
-    go : (c : Bool) → le k a ≡ c → T (c || le b (neg k)) → T (le k (absOf x))
-    go true e u = let l : T (le k x) = trans-le k a x (subst T (sym e) tt) (h .is .between .low) in trans-le k x (absOf x) l (le-abs x (le-right k x l))
-    go false e u =
-        let l : T (le k (neg x)) = subst (λ (z : Float). T (le z (neg x))) (neg-neg k) (neg-le x (neg k) (trans-le x b (neg k) (h .is .between .high) u)) in
-        subst (λ (z : Float). T (le k z)) (abs-neg x) (trans-le k (neg x) (absOf (neg x)) l (le-abs (neg x) (le-right k (neg x) l)))
-
 -- ---- lists
 abbrev pub Each : List Span → List Float → Type 0
 Each [] [] = Unit

@@ -77,10 +77,6 @@ point-gmlat t pole d = ap (λ (at : Place). record { 0 = gmlatOf (polePlace pole
 
 -- ---- the rows of a path
 module _ (tlat tlong rlat rlong : Degrees) (long : Bool) (pole : MagneticPole) where
-  pub five-rows : length (pathOf tlat tlong rlat rlong long pole .points) ≡ 5
-  unfolding pathOf rowsOf
-  five-rows = refl
-
   -- document 01, Figures: 'Rows of absent points are +0.0'
   pub rows-past : (i : ℕ) → i < 5 → pathOf tlat tlong rlat rlong long pole .count ≤ i → getD (pathOf tlat tlong rlat rlong long pole .points) i nowhere ≡ absent
   unfolding pathOf
