@@ -3,5 +3,5 @@ pub mod Sines
 pub mod Strips
 pub mod FieldBoxes
 pub mod FieldNotZero
-pub mod FieldSizes
+pub mod FieldSpans
 pub mod DipDefined

@@ -1,48 +1,50 @@
--- The magnetic values of a control point are finite: the field 300 km over it has a bound
--- (`FieldSizes`), and its part to the east is divided by s, which is not near zero, since latitudes
--- are pinned to 89.9 degrees and the sine of those is less than 1. Assumes nothing.
+-- The magnetic values of a control point are finite: intervals (`FieldSpans`) hold the field 300 km
+-- over it, and its horizontal part is divided by s, which is not near zero, since latitudes are
+-- pinned to 89.9 degrees and the sine of those is less than 1. Assumes nothing.
 use mathlib.Core.Path.{_≡_, refl, sym, ap, subst, _∙_}
 use mathlib.Core.Logic.{_⊎_, inl, inr}
-use mathlib.Core.Bool.{Bool, true, false, not, cond}
+use mathlib.Core.Bool.{Bool, true, false, not, _&&_, cond}
 use mathlib.Core.List.{[], _∷_}
 use Prim.Native.Nat.{ℕ, zero, suc, _+_, _-_, _*_, _^_, _≤_, _<_}
 use native.Mathlib.Nat.{zero-mul, mul-pos, zero-lt-suc, pow-succ', eq-zero-or-pos}
 use native.Mathlib.Omega.{arith}
 use native.Mathlib.Decide.{decLt}
-use lib.Dec.{T, eqb, ltb→lt, lt→ltb}
+use lib.Dec.{T, eqb, ltb, ltb→lt, lt→ltb}
 use lib.IntN.{ℤ, pos, negsuc}
 use lib.Pow.{pow-pos}
 use borrow.Author.Tests.{lt-ltb, ne-eqb}
-use lib.Ieee.{Float, nan, inf, fin, binary32, binary64, up, down, unlike, fits, round, neg, sum, add, sub, mul, div, lt, le, isNan, toUnsigned}
-use lib.Ieee.Fits.{add-fits, up-pos, down-pos, eq→eqb}
+use lib.Ieee.{Float, nan, inf, fin, Format, binary32, binary64, up, down, unlike, fits, round, neg, sum, add, sub, mul, div, lt, le, isNan, ofInt, toUnsigned}
+use lib.Ieee.Fits.{and-l, and-r, add-fits, up-pos, down-pos, eq→eqb}
 use lib.Ieee.Scale.{finite}
 use lib.Ieee.Positive.{positive, den-pos}
 use Rattle.base.specs.declared.angle.Radians.{Radians}
-use Rattle.base.specs.Single.{_⊕_, _⊖_, _⊗_, _⊘_, decimal}
+use Rattle.base.specs.Single.{_⊕_, _⊖_, _⊗_, _⊘_, decimal, minusDecimal}
 use Rattle.base.specs.Double.{fraction}
 use Rattle.base.specs.Number.{negative, absOf, narrowOf, sqrtOf}
 use Rattle.base.specs.Constants.{D2R, PI, PI2}
 use Rattle.base.specs.Angle.{radiansOf}
-use Rattle.base.specs.Elementary.{nearOf, quarterOf, turnsOf, halfPi, factorial, upFrom, alternating, sinTerms, cosTerms, sin32Of, cos32Of, atan32Of}
-use Rattle.base.proofs.verdicts.Picks.{cond-true}
-use Rattle.base.proofs.order.Order.{gain, loss, nought, abs-fin, abs-neg, neg-finite, Between, wider, le→cross, cross→le, trans-le, not-lt→le, lt→le, le→abs, abs→le, total-le, refl-le, between-finite}
-use Rattle.base.proofs.order.Monotone.{div-rounds, square-not-below, mul-size, positive-plus}
+use Rattle.base.specs.Elementary.{nearOf, quarterOf, turnsOf, halfPi, horner, factorial, upFrom, alternating, sinTerms, cosTerms, sin32Of, cos32Of, atan32Of}
+use Rattle.base.proofs.verdicts.Picks.{cond-true, cond-false}
+use Rattle.base.proofs.order.Order.{gain, loss, nought, abs-fin, abs-neg, neg-finite, Between, wider, le→cross, cross→le, trans-le, le-left, le-right, not-lt→le, lt→le, le→abs, abs→le, total-le, refl-le, no-nan-finite, finite-between, between-finite, size-between}
+use Rattle.base.proofs.order.Monotone.{Rounds, rounds-mono, div-rounds, square-not-below, mul-size, div-size, positive-plus}
 use Rattle.base.proofs.steps.Reduction.{factor, big}
 use Rattle.base.proofs.order.Intervals.{every, exactly, add-in, mul-about, sqrt-in}
-use Rattle.results.proofs.numbers.Bounds.{atan32-size}
+use Rattle.results.proofs.numbers.Bounds.{atan32-size, two-finite}
 use Rattle.base.proofs.roots.NearestRoot.{sqrt-nearest}
-use Rattle.results.proofs.numbers.Sizes.{Sized, times-sized, between-sized, larger, sized-number, sized-finite}
-use Rattle.results.proofs.numbers.Spans.{Span, span, In, made, point, plus, minus, times, negated, rooted, narrowed, lesser, greater, hull, hornerIn, inside, inside-between, point-in, minus-in, times-in, rooted-in, rounds-number}
-use Rattle.results.proofs.numbers.DoubleSizes.{over-sized, turned-sized}
+use Rattle.results.proofs.numbers.Sizes.{Sized, times-sized, between-sized, sized-number, sized-finite}
+use Rattle.results.proofs.numbers.Spans.{Span, any, span, In, Held, made, point, points, plus, minus, times, negated, rooted, narrowed, lesser, greater, hull, hornerIn, inside, inside-between, rounds-number}
 use Rattle.results.proofs.numbers.SineSpans.{reducedIn, sinSeriesIn, cosSeriesIn, sinAtIn, sin32In, sin32-held}
 use Rattle.maps.specs.declared.magnetic.Position.{Position}
+use Rattle.maps.specs.declared.magnetic.Field.{Field}
 use Rattle.maps.specs.declared.magnetic.Une.{Une}
 use Rattle.maps.specs.declared.magnetic.MagneticVars.{MagneticVars}
-use Rattle.maps.specs.Magnetic.{o, RD, clampedPlace, magfinOf, eastOf, gobOf, magvarOf}
+use Rattle.maps.specs.Loop.{loop, times as turnsFrom}
+use Rattle.maps.specs.Magnetic.{o, RD, HC, CT, G, H, clampedPlace, aorStep, powersOf, placedOf, expansionOf, magfinOf, eastOf, gobOf, magvarOf}
 use Rattle.results.proofs.clock.Clock.{farthest, Longitude}
 use Rattle.results.proofs.field.Sines.{Turn, turns, turns-is, whole, top, right-of, left-of, held, full, above-away}
-use Rattle.results.proofs.path.Longitudes.{one, two, four, sixteen, angle, sines, lon-sized, quotient-number}
-use Rattle.results.proofs.field.FieldSizes.{bv-sized, bn-sized, bphi-sized}
+use Rattle.results.proofs.path.Longitudes.{two, four, sixteen, angle, sines, lon-sized, quotient-number, neg-sized}
+use Rattle.maps.proofs.field.FieldSums.{magfin-arrays}
+use Rattle.results.proofs.field.FieldSpans.{PlaceIn, HasPlace, Work, HasExpansion, multipleIn, multiplesIn, elementIn, orderIn, ordersIn, degreeIn, expansionIn, placeIn, place-in, expansion-at}
 
 -- ---- the sine of a latitude up to 89.9 degrees
 -- 1 - 2 ^ -20
@@ -193,63 +195,72 @@ east-in lon b = go (lt (lon .0) o) refl
 -- ---- the field
 -- what the sums are at most
 abbrev pub large : Float
-large = fin false 1 (pos 39)
+large = fin false 1 (pos 20)
+
+abbrev minusLarge : Float
+minusLarge = fin true 1 (pos 20)
 
 -- s is from 2 ^ -10 to 2
 abbrev pub least : Float
 least = fin false 1 (negsuc 9)
 
-abbrev inEdges : Span
-inEdges = span minusEdge edge
+-- all places there are
+abbrev everywhere : PlaceIn
+everywhere = placeIn (span minusEdge edge) (span (fin true 1 (pos 1)) two) (span (fin true 1 (pos 1)) two)
 
-abbrev roots : Span
-roots = rooted binary32 (minus binary32 (point (decimal 10 1)) (times binary32 inEdges inEdges))
+s-off : T (inside least two (everywhere .s))
+unfolding placeIn multiplesIn multipleIn loop turnsFrom inside rooted sqrtOf times hull lesser greater plus minus made point points o decimal round mul neg add sub le
+s-off = tt
 
-roots-in : T (inside least two roots)
-unfolding inside rooted sqrtOf times hull lesser greater plus minus made point decimal round mul neg add sub le
-roots-in = tt
+sums-in : T (inside minusLarge large (expansionIn everywhere .r) && inside minusLarge large (expansionIn everywhere .t) && inside minusLarge large (expansionIn everywhere .f))
+unfolding placeIn multiplesIn multipleIn elementIn orderIn ordersIn degreeIn expansionIn loop turnsFrom inside rooted sqrtOf times hull lesser greater plus minus negated made point points o HC CT G H aorStep powersOf ofInt decimal minusDecimal round mul neg add sub div le
+sums-in = tt
 
 -- what the part to the east is at most
 abbrev pub huge : Float
-huge = fin false 1 (pos 46)
+huge = fin false 1 (pos 30)
 
 pub record SizedUne (u : Une) : Type 0 where
   pub up : Sized large (u .up)
   pub north : Sized large (u .north)
   pub east : Sized huge (u .east)
 
-quotient-sized : (x y : Float) → Sized (fin false 1 (pos 36)) x → Between least two y → Sized huge (x ⊘ y)
+held-two : (x : Float) → Sized two x → In (span (fin true 1 (pos 1)) two) x
+unfolding neg
+held-two x h = record { is = record { from = tt; to = tt; between = size-between (h .size) } }
+
+large-sized : {x : Float} → Between minusLarge large x → Sized large x
+unfolding neg le
+large-sized b = between-sized large tt b
+
+quotient-sized : (x y : Float) → Sized large x → Between least two y → Sized huge (x ⊘ y)
 unfolding div le
-quotient-sized x y h b = over-sized huge least y tt h (above-away least y (b .low))
+quotient-sized x y h b = record { size = trans-le (absOf (x ⊘ y)) (large ⊘ least) huge (div-size binary32 x y large least tt tt (h .size) (above-away least y (b .low))) tt }
 
 module _ (lat eastLon : Radians) (n : T (not (isNan (lat .0)))) (b : Between nought full (eastLon .0)) where
-  abbrev q : Position
-  q = clampedPlace lat eastLon
+  pub sine-held : In (span minusEdge edge) (sin32Of (clampedPlace lat eastLon .p1 .0))
+  sine-held = record { is = record { from = tt; to = tt; between = sine-below-one _ (pinned lat eastLon n b .lat) } }
 
-  abbrev c : Float
-  c = sin32Of (q .p1 .0)
+  waves : Sized two (sin32Of (clampedPlace lat eastLon .p2 .0)) × Sized two (cos32Of (clampedPlace lat eastLon .p2 .0))
+  waves = sines _ (unfold neg le in between-sized {lo = nought} {hi = full} angle tt (pinned lat eastLon n b .lon))
 
-  sine-in : Between minusEdge edge c
-  sine-in = sine-below-one _ (pinned lat eastLon n b .lat)
-
-  s-in : Between least two (sqrtOf binary32 (decimal 10 1 ⊖ c ⊗ c))
-  s-in =
-      let h : In inEdges c = record { is = record { from = tt; to = tt; between = sine-in } } in
-      inside-between least two roots roots-in
-      (rooted-in binary32 (minus binary32 (point (decimal 10 1)) (times binary32 inEdges inEdges))
-      (minus-in binary32 (point (decimal 10 1)) (times binary32 inEdges inEdges) (point-in (decimal 10 1)) (times-in binary32 inEdges inEdges h h)))
+  pub s-in : Between least two (placedOf lat eastLon (decimal 3000000 1) .s)
+  s-in = inside-between least two (everywhere .s) s-off (place-in lat eastLon sine-held (held-two _ (waves .0)) (held-two _ (waves .1)) .s)
 
   pub une-sized : SizedUne (magfinOf lat eastLon (decimal 3000000 1))
-  unfolding magfinOf neg le
   une-sized =
-      let hc : Sized one c = between-sized one tt sine-in in
-      let hs : Sized two (sqrtOf binary32 (decimal 10 1 ⊖ c ⊗ c)) = between-sized two tt s-in in
-      let w = sines _ (between-sized {lo = nought} {hi = full} angle tt (pinned lat eastLon n b .lon)) in
-      record {
-        up = turned-sized (larger large tt (bv-sized c _ (q .p2) hc hs (w .0) (w .1)));
-        north = bn-sized c _ (q .p2) hc hs (w .0) (w .1);
-        east = quotient-sized _ _ (turned-sized (bphi-sized c _ (q .p2) hc hs (w .0) (w .1))) s-in;
-      }
+      let w = expansion-at lat eastLon sine-held (held-two _ (waves .0)) (held-two _ (waves .1)) in
+      let i = inside minusLarge large (expansionIn everywhere .r) in
+      let j = inside minusLarge large (expansionIn everywhere .t) in
+      let k = inside minusLarge large (expansionIn everywhere .f) in
+      let t = and-l (i && j) k sums-in in
+      let f = large-sized (inside-between minusLarge large (expansionIn everywhere .f) (and-r (i && j) k sums-in) (w .bphi)) in
+      subst SizedUne (sym (magfin-arrays lat eastLon (decimal 3000000 1)))
+      (record {
+        up = neg-sized _ (large-sized (inside-between minusLarge large (expansionIn everywhere .r) (and-l i j t) (w .bv)));
+        north = large-sized (inside-between minusLarge large (expansionIn everywhere .t) (and-r i j t) (w .bn));
+        east = quotient-sized _ _ (neg-sized _ f) s-in;
+      })
 
 -- ---- gyz
 pub square-in : (a : Float) {x : Float} → T (finite a) → Sized a x → Between nought (a ⊗ a) (x ⊗ x)
@@ -265,25 +276,25 @@ factor-sized = record { size = tt }
 
 -- what the gyrofrequency is at most
 abbrev pub gyration : Float
-gyration = fin false 1 (pos 49)
+gyration = fin false 1 (pos 40)
 
-factor-times : (x : Float) → Between nought (fin false 1 (pos 47)) x → Sized gyration (decimal 28 1 ⊗ x)
+factor-times : (x : Float) → Between nought (fin false 1 (pos 32)) x → Sized gyration (decimal 28 1 ⊗ x)
 unfolding neg mul le
-factor-times x b = times-sized gyration tt factor-sized (between-sized {lo = nought} {hi = fin false 1 (pos 47)} (fin false 1 (pos 47)) tt b)
+factor-times x b = times-sized gyration tt factor-sized (between-sized {lo = nought} {hi = fin false 1 (pos 32)} (fin false 1 (pos 32)) tt b)
 
 module _ (u : Une) (h : SizedUne u) where
-  horizontal-in : Between nought (fin false 1 (pos 93)) (horizontal u)
+  horizontal-in : Between nought (fin false 1 (pos 61)) (horizontal u)
   unfolding mul add le
-  horizontal-in = add-in binary32 nought (fin false 1 (pos 93)) tt (square-in large tt (h .north)) (square-in huge tt (h .east))
+  horizontal-in = add-in binary32 nought (fin false 1 (pos 61)) tt (square-in large tt (h .north)) (square-in huge tt (h .east))
 
   gyz-sized : Sized gyration (decimal 28 1 ⊗ sqrtOf binary32 (u .up ⊗ u .up ⊕ u .north ⊗ u .north ⊕ u .east ⊗ u .east))
   gyz-sized = factor-times _ root-in
     where
-      sum-in : Between nought (fin false 1 (pos 94)) (u .up ⊗ u .up ⊕ u .north ⊗ u .north ⊕ u .east ⊗ u .east)
-      sum-in = unfold mul add le in add-in binary32 nought (fin false 1 (pos 94)) tt (add-in binary32 nought (fin false 1 (pos 93)) tt (square-in large tt (h .up)) (square-in large tt (h .north))) (square-in huge tt (h .east))
+      sum-in : Between nought (fin false 1 (pos 62)) (u .up ⊗ u .up ⊕ u .north ⊗ u .north ⊕ u .east ⊗ u .east)
+      sum-in = unfold mul add le in add-in binary32 nought (fin false 1 (pos 62)) tt (add-in binary32 nought (fin false 1 (pos 61)) tt (square-in large tt (h .up)) (square-in large tt (h .north))) (square-in huge tt (h .east))
 
-      root-in : Between nought (fin false 1 (pos 47)) (sqrtOf binary32 (u .up ⊗ u .up ⊕ u .north ⊗ u .north ⊕ u .east ⊗ u .east))
-      root-in = unfold round sqrtOf le in sqrt-in nought (fin false 1 (pos 47)) binary32 tt sum-in
+      root-in : Between nought (fin false 1 (pos 32)) (sqrtOf binary32 (u .up ⊗ u .up ⊕ u .north ⊗ u .north ⊕ u .east ⊗ u .east))
+      root-in = unfold round sqrtOf le in sqrt-in nought (fin false 1 (pos 32)) binary32 tt sum-in
 
 -- ---- gmdip: a quotient is a number unless zero is divided by zero
 lt-positive : (x : Float) → T (finite x) → T (lt nought x) → T (positive x)
@@ -349,8 +360,8 @@ module _ (u : Une) (h : SizedUne u) (lat : Radians) (k : Sized angle (lat .0)) w
   steep : T (lt nought (absOf (u .up))) ⊎ T (lt nought (horizontal u)) → T (not (isNan (neg (u .up) ⊘ sqrtOf binary32 (horizontal u))))
   steep (inl a) = of-not-zero (neg (u .up)) (sqrtOf binary32 (horizontal u)) (neg-finite (u .up) (sized-finite tt (h .up))) (between-finite tt tt w) (abs-neg-lt (u .up) a)
     where
-      w : Between nought (fin false 1 (pos 47)) (sqrtOf binary32 (horizontal u))
-      w = unfold round sqrtOf le in sqrt-in nought (fin false 1 (pos 47)) binary32 tt (horizontal-in u h)
+      w : Between nought (fin false 1 (pos 32)) (sqrtOf binary32 (horizontal u))
+      w = unfold round sqrtOf le in sqrt-in nought (fin false 1 (pos 32)) binary32 tt (horizontal-in u h)
   steep (inr a) =
       let p = lt-positive (horizontal u) (between-finite tt tt (horizontal-in u h)) a in
       by-positive (neg (u .up)) (sqrtOf binary32 (horizontal u)) (neg-finite (u .up) (sized-finite tt (h .up))) (sqrt-nearest binary32 (horizontal u) (add-fits binary32 (u .north ⊗ u .north) (u .east ⊗ u .east)) p .above-zero)

@@ -68,12 +68,12 @@ pub record Fields (ssn gmt : Float) (psc : Factors) : Type 0 where
   pub f2 : Factor (psc .f2)
   pub es : Factor (psc .es)
 
--- angles of at most 32 radians, and a gyrofrequency of at most 2 ^ 49 MHz
+-- angles of at most 32 radians, and a gyrofrequency of at most 2 ^ 40 MHz
 pub record Placed (pt : ControlPoint) (mag : MagneticVars) : Type 0 where
   pub lat : Sized (fin false 1 (pos 5)) (pt .lat .0)
   pub lon : Longitude (pt .lon .0)
   pub gmlat : Sized (fin false 1 (pos 5)) (pt .gmlat .0)
-  pub gyz : Sized (fin false 1 (pos 49)) (mag .gyz)
+  pub gyz : Sized (fin false 1 (pos 40)) (mag .gyz)
   pub gmdip : Sized (fin false 1 (pos 5)) (mag .gmdip .0)
 
 -- of a + b * ssn
@@ -334,11 +334,11 @@ rat-range m hmym gmlat zdeg clock k p h z =
 -- ---- frequencies
 
 -- fi[2]
-pub f2-sized : (g4 gyz psc2 : Float) → Sized gammas g4 → Sized (fin false 1 (pos 49)) gyz → Factor psc2 → Sized (fin false 1 (pos 54)) ((g4 ⊕ decimal 5 1 ⊗ gyz) ⊗ psc2)
+pub f2-sized : (g4 gyz psc2 : Float) → Sized gammas g4 → Sized (fin false 1 (pos 40)) gyz → Factor psc2 → Sized (fin false 1 (pos 54)) ((g4 ⊕ decimal 5 1 ⊗ gyz) ⊗ psc2)
 unfolding decimal round absOf negative add mul le
 f2-sized g4 gyz psc2 h k f =
     let o : Sized (fin false 1 (negsuc 0)) (decimal 5 1) = record { size = tt } in
-    times-sized (twoTo 54) tt (plus-sized (twoTo 51) tt h (times-sized (twoTo 48) tt o k)) (factor-sized f)
+    times-sized (twoTo 54) tt (plus-sized (twoTo 51) tt h (times-sized (twoTo 39) tt o k)) (factor-sized f)
 
 -- 0.834 of it
 part-sized : {x : Float} → Sized (twoTo 54) x → Sized (twoTo 54) (decimal 834 3 ⊗ x)

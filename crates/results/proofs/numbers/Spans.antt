@@ -3,19 +3,20 @@
 -- nothing.
 use mathlib.Core.Path.{_≡_, refl, sym, subst}
 use mathlib.Core.Logic.{inl, inr}
-use mathlib.Core.Bool.{Bool, true, false, not, _&&_, cond}
+use mathlib.Core.Bool.{Bool, true, false, not, _&&_, _||_, cond}
 use mathlib.Core.List.{List, [], _∷_}
-use Prim.Native.Nat.{ℕ, _<_}
+use Prim.Native.Nat.{ℕ, zero, suc, _<_}
 use native.Mathlib.Nat.{mul-pos}
 use native.Mathlib.Omega.{arith}
 use lib.Dec.{T}
-use lib.Ieee.{Float, Format, binary64, add, sub, mul, neg, le, isNan}
+use lib.ListN.{getD, set}
+use lib.Ieee.{Float, nan, Format, binary64, add, sub, mul, neg, le, isNan}
 use lib.Ieee.Fits.{and-l, and-r}
 use lib.Ieee.Scale.{finite}
 use lib.Ieee.Positive.{den-pos}
-use Rattle.base.specs.Number.{sqrtOf, narrowOf}
+use Rattle.base.specs.Number.{absOf, sqrtOf, narrowOf}
 use Rattle.base.specs.Elementary.{horner}
-use Rattle.base.proofs.order.Order.{nought, Between, wider, between-finite, le-left, trans-le, refl-le, total-le, no-nan-finite, neg-le, neg-finite}
+use Rattle.base.proofs.order.Order.{nought, Between, wider, between-finite, le-left, le-right, le-abs, abs-neg, neg-neg, trans-le, refl-le, total-le, no-nan-finite, neg-le, neg-finite}
 use Rattle.base.proofs.order.Monotone.{Rounds, rounds-mono, mul-rounds, add-mono, sub-mono, mul-left, mul-anti, mul-turn, narrow-mono}
 use Rattle.base.proofs.order.Intervals.{exactly}
 use Rattle.base.proofs.roots.RootsOrder.{sqrt-mono}
@@ -264,3 +265,51 @@ pub inside-between : (l h : Float) (i : Span) {x : Float} → T (inside l h i) �
 unfolding inside
 inside-between l h any t k = absurd t
 inside-between l h (span a b) t k = wider l h (and-l (le l a) (le b h) t) (and-r (le l a) (le b h) t) (k .is .between)
+
+-- k at least from zero
+unfoldable pub clear : Float → Span → Bool
+clear k any = false
+clear k (span a b) = le k a || le b (neg k)
+
+pub clear-away : (k : Float) (i : Span) {x : Float} → T (clear k i) → In i x → T (le k (absOf x))
+unfolding clear
+clear-away k any t h = absurd t
+clear-away k (span a b) {x} t h = go (le k a) refl t
+  where
+    go : (c : Bool) → le k a ≡ c → T (c || le b (neg k)) → T (le k (absOf x))
+    go true e u = let l : T (le k x) = trans-le k a x (subst T (sym e) tt) (h .is .between .low) in trans-le k x (absOf x) l (le-abs x (le-right k x l))
+    go false e u =
+        let l : T (le k (neg x)) = subst (λ (z : Float). T (le z (neg x))) (neg-neg k) (neg-le x (neg k) (trans-le x b (neg k) (h .is .between .high) u)) in
+        subst (λ (z : Float). T (le k z)) (abs-neg x) (trans-le k (neg x) (absOf (neg x)) l (le-abs (neg x) (le-right k (neg x) l)))
+
+-- ---- lists
+abbrev pub Each : List Span → List Float → Type 0
+Each [] [] = Unit
+Each [] (x ∷ xs) = ⊥
+Each (i ∷ is) [] = ⊥
+Each (i ∷ is) (x ∷ xs) = In i x × Each is xs
+
+pub each-at : (is : List Span) (xs : List Float) → Each is xs → (k : ℕ) → In (getD is k any) (getD xs k nan)
+each-at [] [] h k = unknown
+each-at [] (x ∷ xs) h k = absurd h
+each-at (i ∷ is) [] h k = absurd h
+each-at (i ∷ is) (x ∷ xs) h zero = h .0
+each-at (i ∷ is) (x ∷ xs) h (suc k) = each-at is xs (h .1) k
+
+pub each-set : (is : List Span) (xs : List Float) {i : Span} {x : Float} → Each is xs → In i x → (k : ℕ) → Each (set is k i) (set xs k x)
+each-set [] [] h v k = tt
+each-set [] (x ∷ xs) h v k = absurd h
+each-set (i ∷ is) [] h v k = absurd h
+each-set (i ∷ is) (x ∷ xs) h v zero = (v, h .1)
+each-set (i ∷ is) (x ∷ xs) h v (suc k) = (h .0, each-set is xs (h .1) v k)
+
+-- each number by itself
+unfoldable pub points : List Float → List Span
+unfolding point
+points [] = []
+points (x ∷ xs) = point x ∷ points xs
+
+pub points-in : (l : List Float) → Each (points l) l
+unfolding points
+points-in [] = tt
+points-in (x ∷ xs) = (point-in x, points-in xs)
