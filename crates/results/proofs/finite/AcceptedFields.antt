@@ -1,7 +1,6 @@
 -- Inputs that the worksheet accepts have every field in range, each by the check of its own: the
 -- 14 fields' check is one after the other. Assumes nothing.
 use mathlib.Core.Path.{_≡_, sym, subst}
-use mathlib.Core.Bool.{true}
 use Prim.Native.Nat.{ℕ}
 use lib.Dec.{T}
 use lib.Ieee.{Float}
@@ -14,7 +13,6 @@ use Rattle.base.specs.Ranges.{isTo, isMonth, monthCheck, hourCheck, latitudeChe
 use Rattle.base.proofs.layout.Readers.{then-both}
 use Rattle.maps.specs.declared.inputs.Inputs.{Inputs}
 use Rattle.maps.specs.declared.inputs.MagneticPole.{MagneticPole}
-use Rattle.maps.specs.declared.inputs.Factors.{Factors}
 use Rattle.maps.specs.declared.inputs.Route.{Route}
 use Rattle.worksheet.specs.Inputs.{
   sunspotCheck,

@@ -3,12 +3,11 @@
 -- (`Longitudes`). Assumes nothing.
 use mathlib.Core.Path.{subst}
 use mathlib.Core.Bool.{Bool, true, false, cond}
-use mathlib.Core.List.{[], _∷_}
 use Prim.Native.Nat.{ℕ, zero, suc, _<_}
 use native.Mathlib.Omega.{arith}
 use lib.Dec.{T, eqb, lit<}
 use lib.IntN.{pos}
-use lib.Ieee.{Float, fin, binary32, round, neg, add, sub, mul, div, le}
+use lib.Ieee.{Float, fin, binary32, round, add, mul, div, le}
 use lib.Ieee.Scale.{finite}
 use lib.ListN.{getD}
 use Rattle.base.specs.declared.angle.Degrees.{Degrees}
@@ -16,9 +15,9 @@ use Rattle.base.specs.declared.angle.Radians.{Radians}
 use Rattle.maps.specs.declared.inputs.MagneticPole.{MagneticPole}
 use Rattle.base.specs.Single.{_⊕_, _⊖_, _⊗_, _⊘_, decimal, minusDecimal}
 use Rattle.base.specs.Number.{negative, absOf}
-use Rattle.base.specs.Constants.{D2R, R2D, RZ, PI, PI2}
+use Rattle.base.specs.Constants.{R2D, RZ}
 use Rattle.base.specs.Angle.{radiansOf, degreesOf}
-use Rattle.base.proofs.order.Order.{Between, trans-le, between-finite}
+use Rattle.base.proofs.order.Order.{Between, trans-le}
 use Rattle.base.proofs.order.Monotone.{div-size}
 use Rattle.results.proofs.numbers.Sizes.{Sized, plus-sized, less-sized, times-sized, larger, sized-number, sized-finite}
 use Rattle.maps.specs.declared.geometry.ControlPoint.{ControlPoint}
@@ -26,10 +25,10 @@ use Rattle.maps.specs.declared.geometry.PathGeometry.{PathGeometry}
 use Rattle.maps.specs.declared.geometry.Place.{Place}
 use Rattle.maps.specs.declared.geometry.Track.{Track}
 use Rattle.maps.specs.Inputs.{poleLat, poleLon}
-use Rattle.maps.specs.Geometry.{nudgedOf, endOf, polePlace, circleOf, trackOf, gmlatOf, pointOf, absent, controlPointIf, controlRow, rowsOf, pathOf, nowhere, latAt, meanLatitude, alatdOf}
-use Rattle.results.proofs.clock.Clock.{farthest, Longitude, typed-longitude}
+use Rattle.maps.specs.Geometry.{polePlace, gmlatOf, pointOf, absent, controlPointIf, controlRow, rowsOf, pathOf, nowhere, latAt, meanLatitude, alatdOf}
+use Rattle.results.proofs.clock.Clock.{Longitude, typed-longitude}
 use Rattle.results.proofs.path.PointRows.{pole-only, alatd-same}
-use Rattle.results.proofs.path.Longitudes.{one, two, four, eight, angle, hundred, farther, Known, placed-known, D2R-sized, typed-latitude, nudged-latitude, cos-between, lon-sized, gcd-in, bearings, Tracked, abs-sized, latitude-sized, sample-known, zero-sized, zero-longitude, distance-sized, whole-sized, Typed, transmitter, receiver, tracked}
+use Rattle.results.proofs.path.Longitudes.{eight, angle, farther, Known, placed-known, D2R-sized, typed-latitude, nudged-latitude, cos-between, lon-sized, gcd-in, bearings, Tracked, abs-sized, latitude-sized, sample-known, zero-sized, zero-longitude, distance-sized, whole-sized, Typed, transmitter, receiver, tracked}
 
 -- ---- a control point
 -- each of its four numbers has a bound

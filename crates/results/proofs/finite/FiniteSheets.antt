@@ -38,7 +38,6 @@ use Rattle.results.specs.FiniteOrNot.{
   sheetEs,
   sheetGround,
   sheetRow,
-  zenithCosine,
   sheetCosine,
   MapsBounded,
   CosineClear,

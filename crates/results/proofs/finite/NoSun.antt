@@ -31,7 +31,6 @@ use Rattle.maps.specs.declared.ionosphere.layers.Timvar.{Timvar}
 use Rattle.maps.specs.declared.ionosphere.layers.Layer.{Layer}
 use Rattle.maps.specs.declared.ionosphere.layers.Ef1.{Ef1}
 use Rattle.maps.specs.declared.ionosphere.layers.Merged.{Merged}
-use Rattle.maps.specs.declared.ionosphere.layers.LayerParams.{LayerParams}
 use Rattle.maps.specs.declared.inputs.Inputs.{Inputs}
 use Rattle.maps.specs.Magnetic.{magvarOf}
 use Rattle.maps.specs.Ionosphere.{gammasAt}
