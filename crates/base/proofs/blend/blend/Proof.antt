@@ -1,5 +1,5 @@
--- The buffer is filled from `base` on: each turn sets one element, and both words are those of the
--- definition.
+-- `blend` fills the buffer from `base` on with `blendAt`, by the loop's invariant that i elements
+-- are filled: both words of a turn are those of the definition.
 use borrow.Author.Needs.{needs}
 use Prim.Native.Nat.{_≤_, _-_}
 use mathlib.Core.Path.{_≡_, refl, sym}

@@ -1,4 +1,5 @@
--- A NaN's pattern gives a NaN, which the definition gives too; two numbers are blended.
+-- `blended_words` is `blendOf` of the two words' floats: a NaN's pattern gives a NaN, which the
+-- definition gives too, and two numbers are blended.
 use borrow.Author.Needs.{needs}
 use lib.Ieee.{binary32}
 use Rattle.base.proofs.rounding.Patterns.{no-nan-bits}

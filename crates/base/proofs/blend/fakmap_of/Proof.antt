@@ -1,4 +1,4 @@
--- The array is filled with the words, all 464 of it.
+-- `fakmap_of` fills the array with `fakmapOf`: `read_floats` reads all its 464 words.
 use borrow.Author.Needs.{needs}
 use mathlib.Core.Path.{_∙_, ap}
 use Rattle.base.specs.Fill.{tabulate}

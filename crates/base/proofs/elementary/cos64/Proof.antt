@@ -1,4 +1,4 @@
--- Up to 1000 in size by `split` and `cos_at`, beyond it 0 / 0. Assumes nothing.
+-- `cos64` is `cosOf`: up to 1000 in size by `split` and `cos_at`, and else 0 / 0.
 use borrow.Author.Needs.{needs}
 use mathlib.Core.Path.{_≡_, sym, ap, _∙_, subst}
 use mathlib.Core.Bool.{true}

@@ -1,5 +1,5 @@
--- The last two bits of the shifted number are those of the nearest whole number
--- (`shifted-quarter`). Assumes nothing.
+-- `quarter` is `quarterOf` of the nearest whole number: the last two bits of the shifted number are
+-- those of the nearest (`shifted-quarter`).
 use borrow.Author.Needs.{needs}
 use mathlib.Core.Path.{sym, ap, _∙_, subst}
 use mathlib.Core.Bool.{not}

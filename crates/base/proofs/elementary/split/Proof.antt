@@ -1,4 +1,5 @@
--- v in quarter turns is 1024 at most in size (`turns-small`), as `quarter` asks. Assumes nothing.
+-- `split` is the quarter and the rest of v by `turnsOf`: v in quarter turns is 1024 at most in size
+-- (`turns-small`), as `quarter` asks.
 use borrow.Author.Needs.{needs}
 use mathlib.Core.Path.{ap, _∙_}
 use lib.Ieee.{round, ofBits}

@@ -1,4 +1,5 @@
--- A short record is refused first; otherwise the answer is the month file's own.
+-- `files_check` is `filesCheck`, by the record's length: a short record is refused first, and
+-- otherwise the answer is the month file's own.
 use borrow.Author.Needs.{needs}
 use borrow.Author.Tests.{lt-leb, le-leb}
 use mathlib.Core.Path.{sym, _∙_}

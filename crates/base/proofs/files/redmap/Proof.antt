@@ -1,4 +1,4 @@
--- The four arrays are filled where the files are accepted.
+-- `redmap` answers `filesCheck`, and fills the four arrays or leaves them, by the verdict.
 use borrow.Author.Needs.{needs}
 use mathlib.Core.Path.{_≡_, sym, _∙_}
 use Rattle.base.specs.declared.refusal.Verdict.the-variants.{Accepted}

@@ -1,4 +1,5 @@
--- Before each turn the rest of the check is the whole of it: a map is bad, or the check goes on.
+-- `index_check` is `indexCheck`, by the loop's invariant that the rest of the check is the whole of
+-- it: a map is bad, or the check goes on.
 use borrow.Author.Needs.{needs}
 use mathlib.Core.Path.{sym}
 use Prim.Native.Nat.{_-_}

@@ -1,4 +1,4 @@
--- The array is filled with the words, all 60 of it.
+-- `index_of` fills the array with `indexOf`: `read_words` reads all its 60 words.
 use borrow.Author.Needs.{needs}
 use mathlib.Core.Path.{_∙_, ap}
 use Rattle.base.specs.Fill.{tabulate}

@@ -1,5 +1,5 @@
--- Before each turn the rest of the ladder is the whole of it: a word stops it, breaks it or goes
--- on.
+-- `is_ladder` is `climbs`, by the loop's invariant that the rest of the ladder is the whole of it:
+-- a word stops it, breaks it or goes on.
 use borrow.Author.Needs.{needs}
 use mathlib.Core.Path.{refl, sym, _∙_, ap}
 use Prim.Native.Nat.{ℕ, _-_}

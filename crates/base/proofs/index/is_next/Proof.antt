@@ -1,4 +1,4 @@
--- By the two tests: the unsigned words exceed each other as the signed ones do.
+-- `is_next` is `exceeds`, by its two tests: the unsigned words exceed each other as the signed do.
 use borrow.Author.Needs.{needs}
 use mathlib.Core.Path.{sym}
 use Rattle.base.proofs.ladder.Ladders.{exceeds-even, exceeds-odd, exceeds-not}

@@ -1,5 +1,5 @@
--- The loop stands before the record k, and what is left of the walk is the whole walk: a record is
--- passed at once, or the walk ends in it.
+-- `month_file_check` is `monthFileCheck`, by the loop's invariant that what is left of the walk is
+-- the whole walk: a record is passed at once, or the walk ends in it.
 use borrow.Author.Needs.{needs}
 use mathlib.Core.Path.{sym, _∙_}
 use mathlib.Core.Logic.{inl, inr}

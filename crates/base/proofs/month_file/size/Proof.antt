@@ -1,4 +1,5 @@
--- The source's sizes are those of `sizes`, and their rule is one test over the whole list.
+-- `size` is `Sized`: the source's sizes are those of `sizes`, and their rule is one test over the
+-- whole list.
 use borrow.Author.Needs.{needs}
 use Rattle.base.proofs.layout.Walks.{sized}
 use Rattle.base.proofs.month_file.size.Statement.{statement}

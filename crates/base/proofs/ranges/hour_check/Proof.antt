@@ -1,4 +1,4 @@
--- The ends of the range are the decimals, by computation.
+-- `hour_check` is `hourCheck`: the ends of the range are the decimals, by computation.
 use borrow.Author.Needs.{needs}
 use lib.Ieee.{ofBits, round}
 use Rattle.base.specs.Single.{decimal}

@@ -1,4 +1,4 @@
--- The ends of the range are the decimals, by computation.
+-- `latitude_check` is `latitudeCheck`: the ends of the range are the decimals, by computation.
 use borrow.Author.Needs.{needs}
 use lib.Ieee.{ofBits, round, neg}
 use Rattle.base.specs.Single.{decimal, minusDecimal}

@@ -1,4 +1,4 @@
--- By the verdict on the test.
+-- `month_check` is `monthCheck`, by what `is_month` and `refuse_unless` ensure.
 use borrow.Author.Needs.{needs}
 use Rattle.base.specs.Ranges.{monthCheck}
 use Rattle.base.proofs.verdicts.Refusals.{by-test}

@@ -1,5 +1,5 @@
--- An accepted table lies within the file that holds it, so that the part can be taken; a refused
--- one gives the part of no bytes at 0.
+-- `table` is the part `tablePart` of the file that holds it, by the verdict: an accepted table lies
+-- within that file, and a refused one gives no bytes at 0.
 use borrow.Author.Needs.{needs}
 use mathlib.Core.Path.{refl, sym, _∙_}
 use native.Mathlib.Omega.{arith}

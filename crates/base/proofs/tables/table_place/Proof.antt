@@ -1,5 +1,5 @@
--- The source's rows are the parts' starts and sizes, by computation over the whole table; a reading
--- of one is a reading of the other.
+-- `table_place` is start and size of `partOf`: the source's rows are those of the parts, by
+-- computation over the whole table.
 use borrow.Author.Needs.{needs}
 use mathlib.Core.Path.{_≡_, sym, ap, _∙_}
 use mathlib.Core.List.{List, [], _∷_, map}

@@ -1,5 +1,5 @@
--- By the verdict: accepted, the tables are those of the files and give every figure; a refusal
--- leaves the buffer.
+-- `figures` answers `shownOf` and leaves `figuresBuffer`, by the verdict: accepted, the tables are
+-- those of the files and give every figure, and a refusal leaves the buffer.
 use borrow.Author.Needs.{needs}
 use mathlib.Core.Path.{_≡_, sym, ap, _∙_}
 use Prim.Native.Nat.{ℕ}

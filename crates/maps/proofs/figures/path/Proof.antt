@@ -1,4 +1,4 @@
--- One call with the route's fields.
+-- `path` is `sheetPath`: one call of `path_geometry` with the fields of the inputs.
 use borrow.Author.Needs.{needs}
 use Rattle.maps.specs.Figures.{sheetPath}
 use Rattle.maps.proofs.figures.path.Statement.{statement}

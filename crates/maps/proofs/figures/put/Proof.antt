@@ -1,4 +1,5 @@
--- The buffer is filled with the other's elements one by one.
+-- `put` fills the buffer from `at` on with the list, by the loop's invariant that the first k
+-- numbers are put.
 use borrow.Author.Needs.{needs}
 use mathlib.Core.Path.{_≡_, refl, sym, ap, _∙_}
 use mathlib.Core.List.{List}

@@ -1,5 +1,5 @@
--- Each turn writes one row after those before it, so that at the end the buffer is the figures and
--- nothing else.
+-- `put_figures` fills the buffer with `figuresTo`, by the loop's invariant that the buffer starts
+-- with the path's figures and p rows.
 use borrow.Author.Needs.{needs}
 use mathlib.Core.Path.{_≡_, refl, sym, ap, _∙_}
 use mathlib.Core.List.{List, [], _++_}

@@ -1,5 +1,4 @@
--- By whether the point is there: its field, the maps, the layers, sporadic E and the ground, written
--- out, or zeros.
+-- `row` is `figureRow`, by whether the point is there: its numbers, as the calls ensure, or zeros.
 use borrow.Author.Needs.{needs}
 use borrow.Author.Tests.{lt-ltb, le-ltb}
 use mathlib.Core.Path.{refl, sym, _∙_}

@@ -1,4 +1,5 @@
--- The array is written where the files are accepted, from tables that are then theirs.
+-- `hour_maps` answers `filesCheck`, and writes `hourMapsOf` or leaves the array, by the verdict:
+-- accepted, the tables are those of the files.
 use borrow.Author.Needs.{needs}
 use mathlib.Core.Path.{_≡_, sym, ap, _∙_}
 use Rattle.base.specs.declared.refusal.Verdict.{Verdict}

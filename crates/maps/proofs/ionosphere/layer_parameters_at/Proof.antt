@@ -1,4 +1,5 @@
--- By the verdict of month and file: where both are accepted, the tables are the file's own.
+-- `layer_parameters_at` is `layersAtOf`, by the verdict of month and file: where both are accepted,
+-- the tables are the file's own.
 use borrow.Author.Needs.{needs}
 use mathlib.Core.Path.{_≡_, sym, ap, _∙_}
 use Rattle.base.specs.declared.refusal.Verdict.{Verdict}

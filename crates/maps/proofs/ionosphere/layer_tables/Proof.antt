@@ -1,4 +1,5 @@
--- By the month's verdict: where it accepts, the file's own decides and both tables go by it.
+-- `layer_tables` answers `layersCheck`, and fills both tables or leaves them, by the month's
+-- verdict: where it accepts, the file's own decides.
 use borrow.Author.Needs.{needs}
 use mathlib.Core.Path.{_≡_, sym, ap, _∙_}
 use Rattle.base.specs.declared.refusal.Verdict.{Verdict}

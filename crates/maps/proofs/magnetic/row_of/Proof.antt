@@ -1,5 +1,5 @@
--- The source's three tables are the digits of specs/Magnetic.antt, by computation over each whole
--- table.
+-- `row_of` is `tableRow`: the source's three tables are the digits of specs/Magnetic.antt, by
+-- computation over each whole table.
 use borrow.Author.Needs.{needs}
 use mathlib.Core.Path.{refl}
 use lib.Ieee.{round, ofBits}

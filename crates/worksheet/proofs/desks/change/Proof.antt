@@ -1,4 +1,4 @@
--- Check and worksheet are the definition's, call by call.
+-- `change` is `changeOf`: its check and its worksheet are the definition's, call by call.
 use borrow.Author.Needs.{needs}
 use mathlib.Core.Path.{_∙_, ap, ap₂}
 use Rattle.worksheet.specs.declared.desks.Draft.{Draft}

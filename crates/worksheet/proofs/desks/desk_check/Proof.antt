@@ -1,4 +1,4 @@
--- By the verdict on the test.
+-- `desk_check` is `deskCheck`, by what `is_desk` and `refuse_unless` ensure.
 use borrow.Author.Needs.{needs}
 use Rattle.worksheet.specs.Desks.{deskCheck}
 use Rattle.base.proofs.verdicts.Refusals.{by-test}

@@ -1,4 +1,4 @@
--- Check and worksheet are the definition's, call by call.
+-- `take_back` is `takeBackOf`: its check and its worksheet are the definition's, call by call.
 use borrow.Author.Needs.{needs}
 use mathlib.Core.Path.{_∙_, ap}
 use Rattle.maps.specs.declared.inputs.Inputs.{Inputs}

@@ -1,4 +1,4 @@
--- The ends of the range are the decimals, by computation.
+-- `factor_check` is `factorCheck`: the ends of the range are the decimals, by computation.
 use borrow.Author.Needs.{needs}
 use lib.Ieee.{ofBits, round}
 use Rattle.base.specs.Single.{decimal}

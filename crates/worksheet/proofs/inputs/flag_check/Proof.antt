@@ -1,4 +1,4 @@
--- A word of at most 1 is 0 or 1.
+-- `flag_check` is `flagCheck`: a word of at most 1 is 0 or 1 (`is-flag`).
 use borrow.Author.Needs.{needs}
 use Rattle.worksheet.specs.Inputs.{flagCheck}
 use Rattle.base.proofs.verdicts.Refusals.{by-test}

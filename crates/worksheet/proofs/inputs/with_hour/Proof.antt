@@ -1,4 +1,4 @@
--- The definition's record for a change of the hour, field by field.
+-- `with_hour` is `edited` for a change of the hour, field by field.
 use mathlib.Core.Path.{refl}
 use Rattle.worksheet.specs.Inputs.{edited}
 use Rattle.worksheet.proofs.inputs.with_hour.Statement.{statement}

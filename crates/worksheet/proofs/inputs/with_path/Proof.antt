@@ -1,4 +1,4 @@
--- The definition's record for a change of the path, field by field.
+-- `with_path` is `edited` for a change of the path, field by field.
 use mathlib.Core.Path.{refl}
 use Rattle.worksheet.specs.Inputs.{edited}
 use Rattle.worksheet.proofs.inputs.with_path.Statement.{statement}

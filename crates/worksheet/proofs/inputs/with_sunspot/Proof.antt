@@ -1,4 +1,4 @@
--- The definition's record for a change of the sunspot number, field by field.
+-- `with_sunspot` is `edited` for a change of the sunspot number, field by field.
 use mathlib.Core.Path.{refl}
 use Rattle.worksheet.specs.Inputs.{edited}
 use Rattle.worksheet.proofs.inputs.with_sunspot.Statement.{statement}

@@ -1,4 +1,4 @@
--- By the call's case.
+-- `make` is the `step` of its call, answer and buffer, by the call's six cases.
 use borrow.Author.Needs.{needs}
 use mathlib.Core.Path.{refl, ap, _∙_}
 use Rattle.worksheet.specs.declared.desks.Outcome.{Outcome}

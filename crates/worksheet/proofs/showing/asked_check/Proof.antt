@@ -1,4 +1,4 @@
--- By whether the worksheet is asked for.
+-- `asked_check` is `askedCheck`, by whether the worksheet is asked for.
 use borrow.Author.Needs.{needs}
 use mathlib.Core.Path.{_∙_, ap, ap₂}
 use Rattle.base.specs.Refusal.{_then_}

@@ -1,4 +1,4 @@
--- By whether the worksheet is asked for.
+-- `inputs_shown` is `inputsShown`, by whether the worksheet is asked for.
 use borrow.Author.Needs.{needs}
 use mathlib.Core.Path.{_∙_, ap}
 use Rattle.worksheet.specs.declared.desks.Draft.{Draft}

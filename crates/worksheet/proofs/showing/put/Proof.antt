@@ -1,4 +1,4 @@
--- The buffer is filled with the figures one by one.
+-- `put` fills the buffer with the figures, by the loop's invariant that the first k are put.
 use borrow.Author.Needs.{needs}
 use mathlib.Core.Path.{_≡_, refl, sym, ap, _∙_}
 use mathlib.Core.List.{List}

@@ -1,4 +1,5 @@
--- Both whole numbers are the definition's, and 23.99999999 is 24.
+-- `cngday_of` is `cngdayOf`: both whole numbers are the definition's (`signed-word`), and the
+-- literals are the decimals.
 use borrow.Author.Needs.{needs}
 use mathlib.Core.Path.{_≡_, _∙_}
 use lib.IntN.{ℤ, _+ℤ_}

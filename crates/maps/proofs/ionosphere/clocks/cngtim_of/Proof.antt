@@ -1,4 +1,5 @@
--- By whether the longitude is 0; else each callee is its definition.
+-- `cngtim_of` is `cngtimOf`, by whether the longitude is 0: if not, its calls are rewritten by what
+-- they ensure.
 use borrow.Author.Needs.{needs}
 use mathlib.Core.Path.{sym}
 use lib.Ieee.{ofBits, round}

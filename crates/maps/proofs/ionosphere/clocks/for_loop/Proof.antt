@@ -1,4 +1,4 @@
--- The two arms meet in the time that is raised or not.
+-- `for_loop` is `forLoop`: the two arms of its branch meet in the time that is raised or not.
 use borrow.Author.Needs.{needs}
 use mathlib.Core.Path.{_≡_, sym}
 use mathlib.Core.Logic.{⊎-elim}

@@ -1,4 +1,5 @@
--- The laws of such sums.
+-- `sum_of` is the `f32` nearest to the sum: the sum fits an `i64` (`sum-fits`), and its `f64`,
+-- narrowed, is its `f32` (`sum-narrow`).
 use borrow.Author.Needs.{needs}
 use mathlib.Core.Path.{ap, _∙_}
 use Rattle.base.specs.Number.{narrowOf}

@@ -1,4 +1,4 @@
--- By the sign.
+-- `theta_of` is `thetaOf`, by whether the longitude is below 0.
 use mathlib.Core.Path.{sym}
 use lib.Ieee.{ofBits, round}
 use Rattle.base.specs.Single.{decimal}

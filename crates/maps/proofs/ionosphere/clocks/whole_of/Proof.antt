@@ -1,4 +1,4 @@
--- To a whole number and back.
+-- `whole_of` is `wholeOf`: to a whole number and back, by what `to_i32` and `from_i32` ensure.
 use borrow.Author.Needs.{needs}
 use mathlib.Core.Path.{ap, _∙_}
 use lib.Ieee.{binary32, ofInt}

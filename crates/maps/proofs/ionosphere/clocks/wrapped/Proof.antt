@@ -1,4 +1,4 @@
--- One turn, by its two tests.
+-- `wrapped` is one turn of `wraps`, by its two tests.
 use mathlib.Core.Path.{sym, _∙_}
 use lib.Ieee.{ofBits, round}
 use Rattle.base.specs.Single.{decimal}

@@ -1,5 +1,5 @@
--- The source's table is the digits of specs/Layers.antt, by computation over the whole table; a
--- reading of one is a reading of the other.
+-- `sun_of` is `sunOf`, by whether there is such a month: the source's table is the digits of
+-- specs/Layers.antt, by computation over the whole table.
 use borrow.Author.Needs.{needs}
 use mathlib.Core.Path.{_≡_, sym, _∙_}
 use mathlib.Core.List.{List, [], _∷_, map}

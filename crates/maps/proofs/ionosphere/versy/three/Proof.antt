@@ -1,5 +1,5 @@
--- Each array is filled with its map's geographic functions, and the series read them up to their
--- last terms.
+-- `three` is `threeAt`: each array is filled with its map's geographic functions, and the series
+-- read them up to their last terms.
 use borrow.Author.Needs.{needs}
 use mathlib.Core.Path.{_≡_, refl, ap, _∙_}
 use mathlib.Core.List.{List}

@@ -1,5 +1,5 @@
--- Three sums as far as the shortest, two of them further, each finished alone: by where the maps'
--- coefficients start and end in AB.
+-- `three_series` is `threeOf`: three sums as far as the shortest, two of them further, each
+-- finished alone, by where the maps' coefficients start and end in AB.
 use borrow.Author.Needs.{needs}
 use mathlib.Core.Path.{_≡_, ap, _∙_}
 use mathlib.Core.List.{List}
