@@ -10,7 +10,7 @@ use Rattle.base.specs.declared.refusal.Verdict.the-variants.{Accepted}
 use Rattle.base.specs.Refusal.{_then_}
 use Rattle.base.specs.Single.{decimal, minusDecimal}
 use Rattle.base.specs.Ranges.{isTo, isMonth, monthCheck, hourCheck, latitudeCheck, longitudeCheck}
-use Rattle.base.proofs.layout.Readers.{then-both}
+use Rattle.base.proofs.verdicts.Refusals.{then-both, passed}
 use Rattle.maps.specs.declared.inputs.Inputs.{Inputs}
 use Rattle.maps.specs.declared.inputs.MagneticPole.{MagneticPole}
 use Rattle.maps.specs.declared.inputs.Route.{Route}
@@ -23,7 +23,6 @@ use Rattle.worksheet.specs.Inputs.{
   poleCheck,
   inputsCheck,
 }
-use Rattle.worksheet.proofs.drafts.Effects.{passed}
 use Rattle.results.specs.FiniteOrNot.{PlaceInRange, RouteInRange, FieldsInRange}
 
 place-in :

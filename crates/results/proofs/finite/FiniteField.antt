@@ -29,7 +29,7 @@ use Rattle.base.proofs.order.Order.{gain, loss, nought, abs-fin, abs-neg, neg-f
 use Rattle.base.proofs.order.Monotone.{Rounds, rounds-mono, div-rounds, square-not-below, mul-size, div-size, positive-plus}
 use Rattle.base.proofs.steps.Reduction.{factor, big}
 use Rattle.base.proofs.order.Intervals.{every, exactly, add-in, mul-about, sqrt-in}
-use Rattle.results.proofs.numbers.Bounds.{atan32-size, two-finite}
+use Rattle.results.proofs.numbers.Bounds.{atan32-size}
 use Rattle.base.proofs.roots.NearestRoot.{sqrt-nearest}
 use Rattle.results.proofs.numbers.Sizes.{Sized, times-sized, between-sized, sized-number, sized-finite}
 use Rattle.results.proofs.numbers.Spans.{Span, any, span, In, Held, made, point, points, plus, minus, times, negated, rooted, narrowed, lesser, greater, hull, hornerIn, inside, inside-between, rounds-number}

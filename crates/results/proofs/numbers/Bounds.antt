@@ -162,10 +162,6 @@ two-is : fraction 2 1 ≡ two
 unfolding fraction round
 two-is = refl
 
-nought-is : fraction 0 1 ≡ nought
-unfolding fraction round
-nought-is = refl
-
 most-two : T (le most two)
 unfolding le
 most-two = tt

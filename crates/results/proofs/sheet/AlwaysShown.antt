@@ -14,7 +14,7 @@ use Rattle.base.specs.declared.refusal.Verdict.the-variants.{Accepted, Refused}
 use Rattle.base.specs.Refusal.{_then_, writtenOver}
 use Rattle.base.specs.Ranges.{monthCheck, hourCheck}
 use Rattle.base.specs.Files.{filesCheck}
-use Rattle.base.proofs.layout.Readers.{then-both}
+use Rattle.base.proofs.verdicts.Refusals.{then-both}
 use Rattle.maps.specs.declared.inputs.Inputs.{Inputs}
 use Rattle.maps.specs.declared.figures.Shown.the-variants.{Points}
 use Rattle.maps.specs.Figures.{sheetPath, figuresOf, pointsOr}
