@@ -32,6 +32,7 @@ use Rattle.maps.specs.declared.geometry.ControlPoint.{ControlPoint}
 use Rattle.maps.specs.declared.figures.Shown.the-variants.{Points}
 use Rattle.maps.specs.declared.magnetic.Place.{Place}
 use Rattle.maps.specs.declared.magnetic.Field.{Field}
+use Rattle.maps.specs.declared.ionosphere.versy.Gammas.{Gammas}
 use Rattle.maps.specs.declared.ionosphere.clocks.Direction.{Direction}
 use Rattle.maps.specs.declared.ionosphere.clocks.Moved.{Moved}
 use Rattle.maps.specs.declared.ionosphere.clocks.Moved.the-variants.{To, Refused as NotMoved}
@@ -68,13 +69,10 @@ Report340 =
     (f2 month : List ℕ) (ssn gmt x clg gob : Float) → indexCheck month ≡ Accepted → (k : ℕ) → k < 6 →
     versyOf (hourMapsOf f2 month ssn gmt) (indexOf month) (k + 1) x clg gob ≡ omegaFrom f2 month ssn gmt clg gob k x
 
--- So all six at a place: the first five at its dip, the sixth, the E map, at its latitude.
-abbrev pub SixSeries : Type 0
-SixSeries =
-    (f2 month : List ℕ) (ssn gmt dip lat clg gob : Float) → indexCheck month ≡ Accepted →
-    let omega = omegaFrom f2 month ssn gmt clg gob in
-    gammasOf (hourMapsOf f2 month ssn gmt) (indexOf month) dip lat clg gob
-    ≡
+-- the six at a place, from each at an angle: the first five at the dip, the sixth, the E map, at
+-- the latitude
+abbrev pub atDipAndLatitude : (ℕ → Float → Float) → Float → Float → Gammas
+atDipAndLatitude omega dip lat =
     record {
       g1 = omega 0 dip;
       g2 = omega 1 dip;
@@ -83,6 +81,15 @@ SixSeries =
       g5 = omega 4 dip;
       g6 = omega 5 lat;
     }
+
+-- So all six at a place.
+abbrev pub SixSeries : Type 0
+SixSeries =
+    (f2 month : List ℕ) (ssn gmt dip lat clg gob : Float) → indexCheck month ≡ Accepted →
+    let omega = omegaFrom f2 month ssn gmt clg gob in
+    gammasOf (hourMapsOf f2 month ssn gmt) (indexOf month) dip lat clg gob
+    ≡
+    atDipAndLatitude omega dip lat
 
 -- So the six map values that the numbers of a control point are worked from, at the point's east
 -- longitude and the cosine of its latitude.
@@ -96,14 +103,7 @@ PointSeries =
     let lat = pt .lat .0 in
     gammasAt (h .ab) (h .index) (pt .lat) (pt .lon) mag
     ≡
-    record {
-      g1 = omega 0 dip;
-      g2 = omega 1 dip;
-      g3 = omega 2 dip;
-      g4 = omega 3 dip;
-      g5 = omega 4 dip;
-      g6 = omega 5 lat;
-    }
+    atDipAndLatitude omega dip lat
 
 -- So the figures of a point p that is there: its `f2m3` is Omega of the fifth map, and its `fs` are
 -- those of the third, the second and the first, each times the Es factor.

@@ -401,3 +401,10 @@ NoSunRow =
     (f2 file : List ℕ) (i : Inputs) (pt : ControlPoint) → (i .month ≡ 0) ⊎ (12 < i .month) →
     let row = pointRow (hourOf f2 file i) i pt in
     (getD row 21 nan ≡ nan) × (getD row 18 nan ≡ nan) × (getD row 12 nan ≡ nan)
+
+-- ---- left open
+
+-- Whether that cosine can come out above +1: none was found. Whether `abiy` is finite for an E
+-- frequency above 56 MHz, what the layers are for an f2m3 nearer to 0 than 2 ^ -60 or an fi[1]
+-- above 0 and below 2 ^ -40, and the best bounds. No ordinary point is exhibited by proof: in the
+-- files of `sound-sheets` the words that figures read are all zero.
