@@ -105,7 +105,7 @@ pub record MarkedToLast (s : List ℕ) : Type 0 where
 
 -- ---- what the code's table of sizes says of each
 
-pub record Sized (k n : ℕ) : Type 0 where
+pub record RecordSize (k n : ℕ) : Type 0 where
   pub is : n ≡ getD sizes k 0
   pub fours : n % 4 ≡ 0
   pub most : n ≤ 11184

@@ -9,7 +9,7 @@ ghost use mathlib.Core.Path.{_≡_};
 ghost use Prim.Native.Nat.{ℕ, _<_};
 ghost use lib.Dec.{eqb};
 ghost use Rattle.base.specs.Words.{wordAt};
-ghost use Rattle.base.specs.MonthFile.{IsPart, monthRecordCheck, monthPart, monthFileCheck, Sized};
+ghost use Rattle.base.specs.MonthFile.{IsPart, monthRecordCheck, monthPart, monthFileCheck, RecordSize};
 
 // The bytes of an F2 record, a month's part of the `.daw` file.
 pub const RECORD: usize = 7904;
@@ -46,7 +46,7 @@ const SIZES: [usize; 9] = [240, 11184, 5328, 3528, 3168, 1920, 7128, 4400, 1584]
 
 fn size(k: usize) -> usize
     requires { ⌜ k < 9 ⌝ }
-    ensures { λ r. ⌜ Sized k r ⌝ }
+    ensures { λ r. ⌜ RecordSize k r ⌝ }
 {
     SIZES[k]
 }

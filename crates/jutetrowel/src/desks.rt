@@ -20,7 +20,7 @@ ghost use mathlib.Core.List.{[]};
 ghost use Rattle.worksheet.specs.declared.inputs.Edit.the-variants.{Sunspot, Hour, Path, Psc, Pole};
 ghost use Rattle.worksheet.specs.Desks.{openedOf};
 ghost use Rattle.worksheet.specs.Showing.{pair};
-ghost use Rattle.worksheet.specs.Journal.{begin, change, commit, cancel, takeBack, show as showing, step};
+ghost use Rattle.worksheet.specs.Journal.{begin, change, commit, cancel, takeBack, show as showCall, step};
 ghost use Rattle.worksheet.specs.Calls.{called};
 ghost use Rattle.jutetrowel.specs.Answers.{answerOf};
 ghost use Rattle.jutetrowel.specs.Fields.{routeTyped, factorsOf, poleTyped};
@@ -169,7 +169,7 @@ pub extern "C" fn jt_show(
     out: &mut [f32],
 ) -> Showing
     ensures { λ r. ⌜ Shows (step (pair (now (f2 .entry)) (now (file .entry)))
-        (showing desk (now (out .entry))) (worksheetOf (now (sheet .entry))) .answer)
+        (showCall desk (now (out .entry))) (worksheetOf (now (sheet .entry))) .answer)
         r (now (out .exit)) ⌝ }
 {
     shown_as(show(load(sheet), desk, f2, file, out))

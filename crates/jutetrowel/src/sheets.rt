@@ -11,7 +11,7 @@ use worksheet::showing::show;
 ghost use mathlib.Core.Path.{_≡_};
 ghost use Rattle.worksheet.specs.Desks.{openedOf};
 ghost use Rattle.worksheet.specs.Showing.{pair, drawnOf, drawnBuffer};
-ghost use Rattle.worksheet.specs.Journal.{show as showing, step};
+ghost use Rattle.worksheet.specs.Journal.{show as showCall, step};
 ghost use Rattle.jutetrowel.specs.Answers.{showingOf};
 ghost use Rattle.jutetrowel.specs.Fields.{inputsTyped};
 ghost use Rattle.jutetrowel.specs.Calls.{Shows};
@@ -67,7 +67,7 @@ pub extern "C" fn jt_figures(
 #[no_mangle]
 pub extern "C" fn jt_sheet(words: &[u8], f2: &[u8], file: &[u8], out: &mut [f32]) -> Showing
     ensures { λ r. ⌜ Shows (step (pair (now (f2 .entry)) (now (file .entry)))
-        (showing 0 (now (out .entry))) (openedOf (now (words .entry)) .sheet) .answer)
+        (showCall 0 (now (out .entry))) (openedOf (now (words .entry)) .sheet) .answer)
         r (now (out .exit)) ⌝ }
 {
     let new = opened(words);

@@ -1,6 +1,7 @@
 -- What cancelled edits leave behind: each statement of specs/CancelledEdits.antt, from where the
 -- work is done. Assumes nothing.
 use mathlib.Core.Path.{refl}
+use Rattle.worksheet.proofs.drafts.Effects
 use Rattle.worksheet.proofs.lists.Rules as Rules
 use Rattle.worksheet.proofs.lists.Kept as Kept
 use Rattle.worksheet.proofs.checks.Showings as Showings
@@ -8,7 +9,7 @@ use Rattle.worksheet.proofs.drafts.Openings as Openings
 use Rattle.jutetrowel.specs.Words.{worksheetOf}
 use Rattle.jutetrowel.proofs.lists.Carried as Carried
 use Rattle.jutetrowel.proofs.crossing.Unopened as Unopened
-use Rattle.results.specs.CancelledEdits.{DemandThree, DemandThreeOver, DemandThreeLent, DemandThreeOverLent, KeptInOrder, JustBefore, NothingElse, RefusedBuffer, OpenRefused, SheetRefused}
+use Rattle.results.specs.CancelledEdits.{DemandThree, DemandThreeOver, DemandThreeLent, DemandThreeOverLent, KeptInOrder, JustBefore, NothingElse, RefusedBuffer, OpenRefused, SheetRefused, RefusedSheet}
 use Rattle.results.proofs.sheet.ClosedDesks.{at-rest}
 
 pub demand-3 : DemandThree
@@ -31,6 +32,9 @@ just-before = Kept.just-before
 
 pub nothing-else : NothingElse
 nothing-else = Kept.nothing-else
+
+pub refused-sheet : RefusedSheet
+refused-sheet = Effects.refused-unmoved
 
 pub refused-buffer : RefusedBuffer
 refused-buffer = Showings.refused-buffer

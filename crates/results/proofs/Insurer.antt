@@ -1,12 +1,13 @@
 -- The insurer's question: each statement of specs/Insurer.antt, from where the work is done.
 -- Assumes nothing.
 use mathlib.Core.List.{reverse}
+use Rattle.worksheet.proofs.lists.Examples
 use Rattle.worksheet.proofs.force.Insured as Line
 use Rattle.worksheet.proofs.force.Lasting as Lasting
 use Rattle.worksheet.proofs.force.Unbroken as Unbroken
 use Rattle.jutetrowel.specs.Words.{worksheetOf}
 use Rattle.jutetrowel.proofs.lists.InsuredOver as Over
-use Rattle.results.specs.Insurer.{InsurersSentence, InsurersSentenceOpened, InsurersSentenceHanded, StayInRange, AlwaysShown, FirstShowing, ShowingsExist, InsurersSentenceLent, InsurersSentenceOver, ChangeNeverCancelled, ChangeNeverCancelledOver, CommitSource, ChangeSource, UndisturbedDraft, CommitUndisturbed, InsurersLine, InsurersLineLent, InsurersLineOver, OpenedInForce, InputsInForce, InForceOver, BegunInForce, CommitsExactly, InForceExactly, OpenedExactly}
+use Rattle.results.specs.Insurer.{InsurersSentence, InsurersSentenceOpened, InsurersSentenceHanded, StayInRange, AlwaysShown, FirstShowing, ShowingsExist, InsurersSentenceLent, InsurersSentenceOver, ChangeNeverCancelled, ChangeNeverCancelledOver, CommitSource, ChangeSource, UndisturbedDraft, CommitUndisturbed, InsurersLine, InsurersLineLent, InsurersLineOver, OpenedInForce, InputsInForce, InForceOver, BegunInForce, CommitsExactly, InForceExactly, OpenedExactly, SomeOpen}
 use Rattle.results.proofs.files.GoodFiles.{files-accepted}
 use Rattle.results.proofs.sheet.AlwaysShown as Shown
 use Rattle.results.proofs.sheet.HandedBack as HandedBack
@@ -29,6 +30,9 @@ always-shown = Shown.always-shown
 
 pub first-showing : FirstShowing
 first-showing = Shown.first-showing
+
+pub some-open : SomeOpen
+some-open = (Examples.inRange, Examples.in-range)
 
 pub showings-exist : ShowingsExist
 showings-exist = (_, (_, Shown.first-showing _ _ files-accepted))

@@ -222,7 +222,7 @@ pub record MonthGood (s : List ℕ) (m : ℕ) : Type 0 where
   pub high : m ≤ 12
   pub room : m * recordSize ≤ length s
 
--- Such a month's record is accepted.
+-- The record of a month 1 to 12, to whose end the file reaches, is accepted.
 abbrev pub MonthAccepted : Type 0
 MonthAccepted = (s : List ℕ) (m : ℕ) → MonthGood s m → monthRecordCheck s m ≡ Accepted
 

@@ -312,7 +312,8 @@ pub record GaussFactor (n m : ℕ) : Type 0 where
   pub low : 10 ^ 8 * ((n - 1) * (n - 1) - m * m) < (digits + 1) * ((2 * n - 1) * (2 * n - 3))
   pub high : digits * ((2 * n - 1) * (2 * n - 3)) < 10 ^ 8 * ((n - 1) * (n - 1) - m * m) + (2 * n - 1) * (2 * n - 3)
 
--- So of every n from 2 to 6 and m below n.
+-- For every n from 2 to 6 and m below n the entry CT[n][m] is Gauss's factor to its eight digits
+-- (`GaussFactor`).
 abbrev pub CtGauss : Type 0
 CtGauss = (n m : ℕ) → 2 ≤ n → n ≤ 6 → m < n → GaussFactor n m
 
@@ -434,7 +435,8 @@ pub record Settled (time : Float) (x : Degrees) (isw : Direction) : Type 0 where
   pub day : InDay (cngtimOf time x isw .time)
   pub change : DayChange (cngtimOf time x isw .day)
 
--- So for a time from 0 to 24 and a longitude of at most 181 degrees either way.
+-- For a time from 0 to 24 and a longitude of at most 181 degrees either way the Rust's loop is done
+-- after at most one turn, the time is from 0 to 24 and the day change -1, 0 or 1 (`Settled`).
 abbrev pub CngtimSettled : Type 0
 CngtimSettled =
     (time : Float) (x : Degrees) (isw : Direction) → T (isTo (decimal 0 1) (decimal 240 1) time) →

@@ -1,8 +1,10 @@
 -- What do cancelled edits leave behind? Document 01, Demand 3: the shorter list (`shorter`, `own`)
 -- and the claim itself (`Demand3`) stand in crates/worksheet/specs/Journal.antt, the same over the
--- library's words (`Demand3Over`) in crates/jutetrowel/specs/Calls.antt. Assumes nothing.
+-- library's words (`Demand3Over`) in crates/jutetrowel/specs/Calls.antt. Where the library's calls
+-- are named, the numbers of their changes are values of an f32 (`CallsSingles`), as every number
+-- that crosses is. Assumes nothing.
 use mathlib.Core.List.{List, [], _∷_, _++_, reverse, List·Memᴰ}
-use mathlib.Core.Bool.{true}
+use mathlib.Core.Bool.{true, false}
 use mathlib.Core.Logic.{_⊎_}
 use mathlib.Core.Path.{_≡_}
 use Prim.Native.Nat.{ℕ}
@@ -14,7 +16,7 @@ use Rattle.maps.specs.declared.figures.Shown.the-variants.{Refused as NotShown}
 use Rattle.worksheet.specs.declared.desks.Worksheet.{Worksheet}
 use Rattle.worksheet.specs.Desks.{openOf, openedOf}
 use Rattle.worksheet.specs.Showing.{Source, pair, showOf, showBuffer}
-use Rattle.worksheet.specs.Journal.{Call, commit, show, shown, Entry, good, step, run, own, shorter, keep, settled, OwnCall, keptOf, Demand3}
+use Rattle.worksheet.specs.Journal.{Call, commit, show, shown, Entry, good, step, run, own, shorter, keep, keptByItself, OwnCall, keptOf, Demand3, accepted}
 use Rattle.jutetrowel.specs.Words.{worksheetOf, wordsAfter}
 use Rattle.jutetrowel.specs.Calls.{CallsSingles, Demand3Over}
 use Rattle.results.specs.Insurer.{DesksClosed}
@@ -57,7 +59,7 @@ DemandThreeOverLent =
 abbrev pub KeptInOrder : Type 0
 KeptInOrder =
     (source : Source) (w : Worksheet) (cs : List Call) →
-    keep settled (keptOf source w cs) ≡ keep settled (run source cs w .entries)
+    keep keptByItself (keptOf source w cs) ≡ keep keptByItself (run source cs w .entries)
 
 -- Where a commit of desk n is accepted, its own calls stand just before it in the shorter list,
 -- after what is kept of the entries before it, and before what is kept of those after
@@ -71,12 +73,17 @@ JustBefore =
 -- an own call of an accepted commit of the full list
 abbrev pub NothingElse : Type 0
 NothingElse =
-    (full : List Entry) (y : Entry) → List·Memᴰ y (shorter [] full) → (settled y ≡ true) ⊎ OwnCall full y
+    (full : List Entry) (y : Entry) → List·Memᴰ y (shorter [] full) → (keptByItself y ≡ true) ⊎ OwnCall full y
 
 -- ---- DEMAND 1: 'A refusal changes neither worksheet nor lent buffer'
 
--- A showing that is refused leaves the buffer as it was lent; a showing leaves the worksheet always
--- (`step`)
+-- A call that is refused leaves the worksheet, whatever the call
+abbrev pub RefusedSheet : Type 0
+RefusedSheet =
+    (source : Source) (c : Call) (w : Worksheet) → accepted (step source c w .answer) ≡ false →
+    step source c w .sheet ≡ w
+
+-- and a showing that is refused leaves the buffer as it was lent
 abbrev pub RefusedBuffer : Type 0
 RefusedBuffer =
     (source : Source) (n : ℕ) (lent : List Float) (w : Worksheet) (why : Refusal) →

@@ -40,7 +40,7 @@ abbrev pub WrittenWord : ℕ → Type 0
 WrittenWord w = (w < 2 ^ 32) × (T (not (isNan (ofBits binary32 w))) ⊎ (w ≡ 2143289344))
 
 -- 14 words read as fields and written again are the same words, if those of the numbers, which are
--- all but the month (0) and the flag (7), are such words
+-- all but the month (0) and the flag (7), are the bits of an f32 that is no NaN, or 7fc00000
 abbrev pub WordsBack : Type 0
 WordsBack =
     (f : ℕ → ℕ) → ((k : ℕ) → k < 14 → (k ≡ 0 → ⊥) → (k ≡ 7 → ⊥) → WrittenWord (f k)) →
@@ -48,7 +48,8 @@ WordsBack =
 
 -- ---- DEMAND 1: 'either does its work or refuses by a number of document 01'
 
--- Where a call of the library hands back the number 0, nothing was refused
+-- Where a call that answers by number and place alone (`answerOf`) hands back the number 0, nothing
+-- was refused
 abbrev pub AcceptedNumber : Type 0
 AcceptedNumber = (v : Verdict) → answerOf v .number ≡ 0 → v ≡ Accepted
 

@@ -20,8 +20,8 @@ use Rattle.maps.specs.Figures.{hourOf, headOf, pointRow, figureRow, sheetPath, 
 use Rattle.results.specs.LaterBytes.{Alike}
 use Rattle.results.specs.SamePaths.{SamePath, SameEnd, SamePole, SameWork}
 
--- ---- DEMAND 2: 'Blank figures, the same figures each time or a buffer left as lent fail';
--- accepted, the whole buffer is written
+-- ---- DEMAND 2: 'a buffer left as lent' fails: accepted, the whole buffer is written. That the
+-- figures are neither blank nor always the same is their definition, `figuresOf`
 
 -- Where the files pass their checks, the buffer is the figures, whatever it held
 abbrev pub AllOverwritten : Type 0
@@ -29,7 +29,7 @@ AllOverwritten =
     (f2 file : List ℕ) (i : Inputs) (b : List Float) → filesCheck f2 file ≡ Accepted →
     figuresBuffer f2 file i b ≡ figuresOf f2 file i
 
--- So two buffers end the same
+-- So two buffers that differed before are alike after, over the same files and inputs
 abbrev pub SameFigures : Type 0
 SameFigures =
     (f2 file : List ℕ) (i : Inputs) (b c : List Float) → filesCheck f2 file ≡ Accepted →
@@ -68,7 +68,8 @@ LaterBuffer =
     (f g s t : List ℕ) → Alike 7904 f g → Alike 38552 s t → (i : Inputs) (out : List Float) →
     figuresBuffer f s i out ≡ figuresBuffer g t i out
 
--- Two records, beside any month file, have the same figures,
+-- Two records that have those 7,904 bytes, and the same ones, give the same figures beside any
+-- month file,
 abbrev pub LaterRecordFigures : Type 0
 LaterRecordFigures = (f g : List ℕ) → Alike 7904 f g → (s : List ℕ) (i : Inputs) → figuresOf f s i ≡ figuresOf g s i
 
@@ -76,7 +77,8 @@ LaterRecordFigures = (f g : List ℕ) → Alike 7904 f g → (s : List ℕ) (i :
 abbrev pub LaterRecordAnswer : Type 0
 LaterRecordAnswer = (f g : List ℕ) → Alike 7904 f g → (s : List ℕ) (i : Inputs) → shownOf f s i ≡ shownOf g s i
 
--- Two month files, beside any record, have the same figures,
+-- Two month files that have those 38,552 bytes, and the same ones, give the same figures beside any
+-- record,
 abbrev pub LaterMonthFigures : Type 0
 LaterMonthFigures = (s t : List ℕ) → Alike 38552 s t → (f : List ℕ) (i : Inputs) → figuresOf f s i ≡ figuresOf f t i
 

@@ -232,7 +232,8 @@ pub record SoundFiles (i : Inputs) : Type 0 where
   pub accepted : filesCheck f2 file ≡ Accepted
   pub sound : SoundSheet f2 file i
 
--- There are such files for all inputs whose fields are in range.
+-- For all inputs whose fields are in range there are files that the checks accept, and with which
+-- the sheet is sound (`SoundFiles`).
 abbrev pub SoundSheets : Type 0
 SoundSheets = (i : Inputs) → RouteInRange i → FieldsInRange i → SoundFiles i
 
@@ -297,7 +298,8 @@ pub record LayerFigures (c : Float) (l : LayerParams) : Type 0 where
   pub hi2 : FactorClear l → F1Clear l → UpToPower 126 (getD (l .hi) 2 nan)
   pub yi2 : CosineClear c → FactorClear l → F1Clear l → UpToPower 126 (getD (l .yi) 2 nan)
 
--- Of each figure of the layers what the record says.
+-- Of each figure of the layers at every point of a sound sheet: which are finite, and under which
+-- condition the others (`LayerFigures`).
 abbrev pub SheetLayers : Type 0
 SheetLayers =
     (f2 file : List ℕ) (i : Inputs) (p : ℕ) → SoundSheet f2 file i → PointThere i p →
@@ -388,7 +390,8 @@ pub record NoSun (l : LayerParams) : Type 0 where
   pub yi1 : getD (l .yi) 1 nan ≡ decimal 0 1
   pub hi1 : getD (l .hi) 1 nan ≡ decimal 0 1
 
--- A month out of 1 to 12 gives such layers, of all other arguments,
+-- A month out of 1 to 12 gives layers without zenith angle, height ratio and F1 (`NoSun`), of all
+-- other arguments,
 abbrev pub NoSunLayers : Type 0
 NoSunLayers =
     (file : List ℕ) (month : ℕ) (ssn gmt : Float) (psc : Factors) (hmym : List Float)

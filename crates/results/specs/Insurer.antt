@@ -1,7 +1,8 @@
 -- The insurer's question: where does a printed line come from? The words of the answer stand in
 -- crates/worksheet/specs/Journal.antt (calls, entries, `run`) and InForce.antt (`Insured`,
 -- `NeverCancelled`, `takenBack`), those over the library's words in
--- crates/jutetrowel/specs/Calls.antt. Assumes nothing.
+-- crates/jutetrowel/specs/Calls.antt. Where the library's calls are named, the numbers of their
+-- changes are values of an f32 (`CallsSingles`), as every number that crosses is. Assumes nothing.
 use mathlib.Core.List.{List, [], _∷_, _++_, reverse, List·Memᴰ}
 use mathlib.Core.Bool.{true}
 use mathlib.Core.Path.{_≡_}
@@ -20,7 +21,7 @@ use Rattle.worksheet.specs.Inputs.{inputsCheck}
 use Rattle.worksheet.specs.Desks.{draftAt, openOf, openedOf}
 use Rattle.worksheet.specs.Showing.{Source, pair}
 use Rattle.worksheet.specs.Journal.{Call, begin, commit, show, shown, Entry, accepted, good, step, run}
-use Rattle.worksheet.specs.InForce.{Commit, changed, changesBy, commitsInForce, inForce, commitsLeft, startLeft, FiguresOf, Drafted, CommitInForce, InForceBy, NeverCancelled, Insured}
+use Rattle.worksheet.specs.InForce.{AcceptedCommit, changed, changesBy, commitsInForce, inForce, commitsLeft, startLeft, FiguresOf, DraftUndisturbed, CommitInForce, InForceBy, NeverCancelled, Insured}
 use Rattle.jutetrowel.specs.declared.answers.Showing.{Showing}
 use Rattle.jutetrowel.specs.Words.{worksheetOf, wordsAfter}
 use Rattle.jutetrowel.specs.Calls.{CallsSingles, Shows, entriesOver, wordsOver}
@@ -46,8 +47,9 @@ pub record DesksClosed (w : Worksheet) : Type 0 where
 -- Of every list of calls on a worksheet that opens, with one record and one month file lent
 -- throughout: each accepted showing of the worksheet gave the number of points and all figures of
 -- ONE set of inputs: the opened inputs with the changes of exactly those commits before the showing
--- that were accepted and not taken back before it, in their order; and each of these changes stands
--- in a draft that was committed and never cancelled (`NeverCancelled`)
+-- that were accepted and not taken back before it, in their order; and each of these changes, as a
+-- value, was made in a draft that was committed and never cancelled (`NeverCancelled`; of each
+-- commit for itself `CommitUndisturbed`)
 abbrev pub InsurersSentence : Type 0
 InsurersSentence =
     (f2 file : List ℕ) (opened : Inputs) → openOf opened .answer ≡ Accepted →
@@ -103,6 +105,10 @@ FirstShowing =
     step (pair f2 file) (show 0 lent) (openOf i .sheet) .answer
     ≡ shown (Points (sheetPath i .count)) (figuresOf f2 file i)
 
+-- There are inputs that open
+abbrev pub SomeOpen : Type 0
+SomeOpen = (i : Inputs) × (openOf i .answer ≡ Accepted)
+
 -- There are a record and a month file over which every worksheet that was just opened is shown so
 abbrev pub ShowingsExist : Type 0
 ShowingsExist =
@@ -115,7 +121,7 @@ ShowingsExist =
 
 -- Over any source of files, of every worksheet whose desks are closed: the set has those changes on
 -- top of the worksheet's inputs, or of its earlier set, where the first accepted commit or
--- take-back of all is a take-back (`startLeft`)
+-- take-back before the showing is a take-back (`startLeft`)
 abbrev pub InsurersSentenceLent : Type 0
 InsurersSentenceLent =
     (source : Source) (w : Worksheet) → DesksClosed w →
@@ -131,10 +137,10 @@ InsurersSentenceOver =
     entriesOver source cs l ≡ before ++ (acceptedShowing lent count figures ∷ later) →
     Insured source (startLeft (worksheetOf l) before) before count figures
 
--- ---- 'from no edit that somebody had cancelled'
+-- ---- 'from no edit that somebody had cancelled', of every worksheet whose desks are closed at the
+-- start
 
--- Of a worksheet whose desks are closed at the start, a change in force was accepted between an
--- accepted begin of its desk and that desk's accepted commit; between them nobody committed or took
+-- A change in force was accepted between an accepted begin of its desk and that desk's accepted commit; between them nobody committed or took
 -- back, nor was the draft cancelled or begun anew; and the commit was not taken back
 abbrev pub ChangeNeverCancelled : Type 0
 ChangeNeverCancelled =
@@ -152,7 +158,7 @@ ChangeNeverCancelledOver =
 -- A commit in force stands among the entries, was accepted, and was not taken back
 abbrev pub CommitSource : Type 0
 CommitSource =
-    (source : Source) (w : Worksheet) → DesksClosed w → (cs : List Call) (c : Commit) →
+    (source : Source) (w : Worksheet) → DesksClosed w → (cs : List Call) (c : AcceptedCommit) →
     List·Memᴰ c (commitsInForce w (run source cs w .entries)) →
     CommitInForce (run source cs w .entries) c
 
@@ -171,15 +177,15 @@ UndisturbedDraft =
     (source : Source) (w : Worksheet) → DesksClosed w →
     (cs : List Call) (before later : List Entry) (x : Entry) (n : ℕ) →
     run source cs w .entries ≡ before ++ (x ∷ later) → x .call ≡ commit n → good x ≡ true →
-    Drafted w n before
+    DraftUndisturbed w n before
 
--- So each commit in force for itself, where the same change was also made elsewhere: it was
--- accepted and not taken back, and its draft is such a one
+-- So it is with each commit in force for itself, even where the same change was also made
+-- elsewhere: it was accepted and not taken back, and its draft is such a one
 abbrev pub CommitUndisturbed : Type 0
 CommitUndisturbed =
-    (source : Source) (w : Worksheet) → DesksClosed w → (cs : List Call) (c : Commit) →
+    (source : Source) (w : Worksheet) → DesksClosed w → (cs : List Call) (c : AcceptedCommit) →
     List·Memᴰ c (commitsInForce w (run source cs w .entries)) →
-    CommitInForce (run source cs w .entries) c × Drafted w (c .desk) (reverse (c .past))
+    CommitInForce (run source cs w .entries) c × DraftUndisturbed w (c .desk) (reverse (c .past))
 
 -- ---- 'from one sunspot number, one hour and one route': the set is the inputs in force, a fold
 -- over the entries that looks at no draft
@@ -231,7 +237,8 @@ InForceOver =
     (source : Source) (l : List ℕ) → DesksClosed (worksheetOf l) → (cs : List Call) → CallsSingles cs →
     worksheetOf (wordsOver source cs l) .inputs ≡ inForce (worksheetOf l) (entriesOver source cs l)
 
--- What an accepted begin copies, after every list of calls, is the inputs in force then
+-- Of such a worksheet, what an accepted begin copies after every list of calls is the inputs in
+-- force then
 abbrev pub BegunInForce : Type 0
 BegunInForce =
     (source : Source) (w : Worksheet) → DesksClosed w → (cs : List Call) (n : ℕ) →
@@ -239,9 +246,9 @@ BegunInForce =
     let begun = step source (begin n) (r .sheet) in
     accepted (begun .answer) ≡ true → draftAt n (begun .sheet) ≡ Fresh (inForce w (r .entries))
 
--- ---- the same without the fold
+-- ---- the same without the fold, of every worksheet whose desks are closed at the start
 
--- The commits in force are the accepted commits that were not taken back: all of them, in their
+-- The commits in force are the accepted commits that were not taken back: all of them, in the same
 -- order
 abbrev pub CommitsExactly : Type 0
 CommitsExactly =

@@ -41,7 +41,7 @@ changed i (e ∷ l) = changed (edited e i) l
 -- ---- sets of inputs. Here commits and entries stand the latest first
 
 -- an accepted commit: its desk, the entries before it, and its entry
-pub record Commit : Type 0 where
+pub record AcceptedCommit : Type 0 where
   pub desk : ℕ
   pub past : List Entry
   pub entry : Entry
@@ -49,10 +49,10 @@ pub record Commit : Type 0 where
 -- inputs that stood at the start, and the commits that led from them to this set
 pub record Standing : Type 0 where
   pub start : Inputs
-  pub commits : List Commit
+  pub commits : List AcceptedCommit
 
 -- the accepted changes of the commits' drafts, in the order of the commits
-unfoldable pub changesBy : List Commit → List Edit
+unfoldable pub changesBy : List AcceptedCommit → List Edit
 changesBy [] = []
 changesBy (c ∷ before) = changesBy before ++ editsOf (own (c .desk) (c .past))
 
@@ -79,7 +79,7 @@ abbrev pub forceIn : Worksheet → Force
 forceIn w = record { present = standingAt (w .inputs); before = standingBefore (w .earlier) }
 
 -- 'the inputs become the earlier set, the draft's become the inputs'
-abbrev pub pushed : Commit → Force → Force
+abbrev pub pushed : AcceptedCommit → Force → Force
 pushed c f =
     record {
       present = record { start = f .present .start; commits = c ∷ f .present .commits };
@@ -107,7 +107,7 @@ forceAfter f (x ∷ past) = forceBy past x (roleIn x) (good x) (forceAfter f pas
 
 -- the commits in force on the worksheet w, the latest first, after entries that stand in their
 -- order
-unfoldable pub commitsInForce : Worksheet → List Entry → List Commit
+unfoldable pub commitsInForce : Worksheet → List Entry → List AcceptedCommit
 commitsInForce w entries = forceAfter (forceIn w) (reverse entries) .present .commits
 
 -- THE INPUTS IN FORCE after some entries: those at the start (the earlier set at the start, where
@@ -136,7 +136,7 @@ takenBack (x ∷ later) = takenBackBy (roleIn x) (good x) (takenBack later)
 -- ---- the same without the fold
 
 -- the entry's commit, if it is an accepted one that was not taken back
-abbrev pub leftBy : List Entry → Entry → Role → Bool → Bool → List Commit
+abbrev pub leftBy : List Entry → Entry → Role → Bool → Bool → List AcceptedCommit
 leftBy past x (beginning n) good taken = []
 leftBy past x (ending n) good taken = []
 leftBy past x (settling n) good taken = cond (good && not taken) (record { desk = n; past = past; entry = x } ∷ []) []
@@ -144,8 +144,9 @@ leftBy past x (belonging n even es) good taken = []
 leftBy past x returning good taken = []
 leftBy past x showing good taken = []
 
--- of entries in their order, after those of `past`: the accepted commits that were not taken back
-unfoldable pub commitsLeft : List Entry → List Entry → List Commit
+-- of entries in their order, after those of `past` (the latest first): the accepted commits that
+-- were not taken back, the latest first
+unfoldable pub commitsLeft : List Entry → List Entry → List AcceptedCommit
 commitsLeft past [] = []
 commitsLeft past (x ∷ later) = commitsLeft (x ∷ past) later ++ leftBy past x (roleIn x) (good x) (takenBack later)
 
@@ -179,7 +180,7 @@ abbrev pub disturbs : ℕ → Entry → Bool
 disturbs n x = isDisturbing n (roleIn x) (good x)
 
 -- of an accepted commit of desk n, `before` being the entries before it, in their order
-pub record Drafted (w : Worksheet) (n : ℕ) (before : List Entry) : Type 0 where
+pub record DraftUndisturbed (w : Worksheet) (n : ℕ) (before : List Entry) : Type 0 where
   pub front : List Entry
   pub own-begin : Entry
   pub between : List Entry
@@ -196,7 +197,7 @@ pub record Drafted (w : Worksheet) (n : ℕ) (before : List Entry) : Type 0 wher
 -- ---- where a change in force comes from
 
 -- the commit c stands among the entries, was accepted, and was not taken back
-pub record CommitInForce (entries : List Entry) (c : Commit) : Type 0 where
+pub record CommitInForce (entries : List Entry) (c : AcceptedCommit) : Type 0 where
   pub after : List Entry
   pub split : entries ≡ reverse (c .past) ++ (c .entry ∷ after)
   pub is-commit : roleIn (c .entry) ≡ settling (c .desk)
@@ -205,7 +206,7 @@ pub record CommitInForce (entries : List Entry) (c : Commit) : Type 0 where
 
 -- the change e was accepted, among the own calls of such a commit
 pub record InForceBy (entries : List Entry) (e : Edit) : Type 0 where
-  pub its-commit : Commit
+  pub its-commit : AcceptedCommit
   pub in-force : CommitInForce entries its-commit
   pub its-change : Entry
   pub is-own : List·Memᴰ its-change (own (its-commit .desk) (its-commit .past))
@@ -248,8 +249,8 @@ module _ (source : Source) where
     pub edits : List Edit
     -- one set of inputs has all the figures
     pub one-set : FiguresOf source (changed start edits) count figures
-    -- it has the changes of all accepted commits that were not taken back, in their order, each
-    -- once
+    -- it has the changes of all accepted commits that were not taken back, commit by commit in
+    -- their order, each commit once
     pub all-edits : edits ≡ changesBy (commitsLeft [] entries)
     -- and each of them was committed and never cancelled
     pub none-cancelled : (e : Edit) → List·Memᴰ e edits → NeverCancelled entries e

@@ -179,16 +179,16 @@ none p [] = true
 none p (x ∷ l) = not (p x) && none p l
 
 -- 'the accepted commits and take-backs and the worksheet's showings'
-abbrev pub isSettled : Role → Bool → Bool
-isSettled (beginning n) good = false
-isSettled (ending n) good = false
-isSettled (settling n) good = good
-isSettled (belonging n even es) good = false
-isSettled returning good = good
-isSettled showing good = true
+abbrev pub isKeptByItself : Role → Bool → Bool
+isKeptByItself (beginning n) good = false
+isKeptByItself (ending n) good = false
+isKeptByItself (settling n) good = good
+isKeptByItself (belonging n even es) good = false
+isKeptByItself returning good = good
+isKeptByItself showing good = true
 
-abbrev pub settled : Entry → Bool
-settled x = isSettled (roleIn x) (good x)
+abbrev pub keptByItself : Entry → Bool
+keptByItself x = isKeptByItself (roleIn x) (good x)
 
 -- y is an own call of an accepted commit of the full list, and stands before it there
 pub record OwnCall (full : List Entry) (y : Entry) : Type 0 where

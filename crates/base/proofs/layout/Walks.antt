@@ -17,7 +17,7 @@ use Rattle.base.specs.Words.{wordAt}
 use Rattle.base.specs.declared.refusal.Refusal.the-variants.{Ended, Marker}
 use Rattle.base.specs.declared.refusal.Verdict.{Verdict}
 use Rattle.base.specs.declared.refusal.Verdict.the-variants.{Accepted, Refused}
-use Rattle.base.specs.MonthFile.{monthFileSize, sizes, Four, marker, anything, layout, isRight, walk, monthFileCheck, Sized}
+use Rattle.base.specs.MonthFile.{monthFileSize, sizes, Four, marker, anything, layout, isRight, walk, monthFileCheck, RecordSize}
 use Rattle.base.proofs.lists.Entries.{at as entry}
 use Rattle.base.proofs.verdicts.Refusals.{refused-not-accepted}
 
@@ -82,14 +82,14 @@ module _ (s : List ℕ) where
 sized-b : ℕ → ℕ → Bool
 sized-b k n = cond (eqb (n % 4) 0) (leb n 11184) (ltb 1 0)
 
-pub sized : (k : ℕ) → k < 9 → Sized k (getD sizes k 0)
+pub sized : (k : ℕ) → k < 9 → RecordSize k (getD sizes k 0)
 unfolding sized-b
 sized k h = go (eqb (n % 4) 0) (λ x. eqb→eq (n % 4) 0 x) (entry sized-b sizes tt k h)
   where
     n : ℕ
     n = getD sizes k 0
 
-    go : (b : Bool) → (T b → n % 4 ≡ 0) → T (cond b (leb n 11184) (ltb 1 0)) → Sized k n
+    go : (b : Bool) → (T b → n % 4 ≡ 0) → T (cond b (leb n 11184) (ltb 1 0)) → RecordSize k n
     go true f t = record { is = refl; fours = f tt; most = leb→le n 11184 t }
     go false f t = absurd t
 
@@ -108,7 +108,7 @@ pub first : (s : List ℕ) → Walked s 0 0
 unfolding monthFileCheck
 first s = record { fours = refl; inside = omega arith; low = omega arith; turns = omega arith; same = refl }
 
-module _ (s : List ℕ) (at k n : ℕ) (w : Walked s at k) (h : k < 9) (z : Sized k n) where
+module _ (s : List ℕ) (at k n : ℕ) (w : Walked s at k) (h : k < 9) (z : RecordSize k n) where
   here : monthFileCheck s ≡ walk s at (layout (n ∷ drop (k + 1) sizes))
   here = w .same ∙ ap (λ (l : List ℕ). walk s at (layout l)) (next-size k h) ∙ ap (λ (x : ℕ). walk s at (layout (x ∷ drop (k + 1) sizes))) (sym (z .is))
 

@@ -24,7 +24,7 @@ use Rattle.worksheet.specs.declared.desks.Draft.the-variants.{Fresh}
 use Rattle.worksheet.specs.Desks.{draftAt, freshSheet, openOf}
 use Rattle.worksheet.specs.Showing.{Source, pair, inputsShown, bufferCheck, drawnCheck, judgedCheck, showCheck, showOf, showBuffer}
 use Rattle.worksheet.specs.Journal.{Call, begin, commit, cancel, change, takeBack, show, shown, Role, beginning, ending, settling, belonging, returning, showing, roleOf, Entry, accepted, roleIn, good, Step, step, entryOf, run, isBegin, isOwn, begins, belongs, own, none}
-use Rattle.worksheet.specs.InForce.{editsIn, editsOf, Commit, changesBy, inputsBy, Force, forceIn, forceAfter, commitsInForce, inForce, FiguresOf, disturbs, Drafted, CommitInForce, InForceBy}
+use Rattle.worksheet.specs.InForce.{editsIn, editsOf, AcceptedCommit, changesBy, inputsBy, Force, forceIn, forceAfter, commitsInForce, inForce, FiguresOf, disturbs, DraftUndisturbed, CommitInForce, InForceBy}
 use Rattle.worksheet.proofs.drafts.Drafts.{atRest, rest-none}
 use Rattle.worksheet.proofs.drafts.Effects.{Accepts, begun, begin-leaves, desk-put}
 use Rattle.worksheet.proofs.lists.Rules.{law}
@@ -176,7 +176,7 @@ insurers-line f2 file opened given = insurers-line-lent (pair f2 file) (openOf o
 
 pub undisturbed-draft : (source : Source) (w : Worksheet) → atRest w ≡ w
     → (cs : List Call) (before later : List Entry) (x : Entry) (n : ℕ) → run source cs w .entries ≡ before ++ (x ∷ later)
-    → x .call ≡ commit n → accepted (x .answer) ≡ true → Drafted w n before
+    → x .call ≡ commit n → accepted (x .answer) ≡ true → DraftUndisturbed w n before
 unfolding inForce none
 undisturbed-draft source w rest cs before later x n h c good =
     let a = run-split source cs w before x later h in
@@ -203,10 +203,10 @@ undisturbed-draft source w rest cs before later x n h c good =
 -- accepted commit, and that commit was not taken back
 
 -- EVERY COMMIT IN FORCE was accepted and not taken back
-pub commit-source : (source : Source) (w : Worksheet) → atRest w ≡ w → (cs : List Call) (c : Commit)
+pub commit-source : (source : Source) (w : Worksheet) → atRest w ≡ w → (cs : List Call) (c : AcceptedCommit)
     → List·Memᴰ c (commitsInForce w (run source cs w .entries)) → CommitInForce (run source cs w .entries) c
 commit-source source w rest cs c m =
-    left-source [] (run source cs w .entries) c (subst (λ (l : List Commit). List·Memᴰ c l) (commits-exactly source w rest cs) m)
+    left-source [] (run source cs w .entries) c (subst (λ (l : List AcceptedCommit). List·Memᴰ c l) (commits-exactly source w rest cs) m)
 
 -- a change among some entries is one of theirs
 edit-entry : (e : Edit) (l : List Entry) → List·Memᴰ e (editsOf l) → (y : Entry) × (y ∈ l) × List·Memᴰ e (editsIn (roleIn y))
@@ -220,14 +220,14 @@ edit-entry e (x ∷ l) h = either (edit-entry e l) (List·Memᴰ·append-cases (
     either below (inr m) = let r = below m in (r .0, List·Memᴰ·tail (r .1), r .2)
 
 -- a change of some commits is among the own calls of one of them
-commit-entry : (e : Edit) (l : List Commit) → List·Memᴰ e (changesBy l) → (c : Commit) × List·Memᴰ c l × List·Memᴰ e (editsOf (own (c .desk) (c .past)))
+commit-entry : (e : Edit) (l : List AcceptedCommit) → List·Memᴰ e (changesBy l) → (c : AcceptedCommit) × List·Memᴰ c l × List·Memᴰ e (editsOf (own (c .desk) (c .past)))
 unfolding changesBy
 commit-entry e [] h = absurd (List·Memᴰ·not-nil h)
 commit-entry e (x ∷ l) h = either (commit-entry e l) (List·Memᴰ·append-cases (changesBy l) h)
   where
-    either : (List·Memᴰ e (changesBy l) → (c : Commit) × List·Memᴰ c l × List·Memᴰ e (editsOf (own (c .desk) (c .past))))
+    either : (List·Memᴰ e (changesBy l) → (c : AcceptedCommit) × List·Memᴰ c l × List·Memᴰ e (editsOf (own (c .desk) (c .past))))
         → List·Memᴰ e (changesBy l) ⊎ List·Memᴰ e (editsOf (own (x .desk) (x .past)))
-        → (c : Commit) × List·Memᴰ c (x ∷ l) × List·Memᴰ e (editsOf (own (c .desk) (c .past)))
+        → (c : AcceptedCommit) × List·Memᴰ c (x ∷ l) × List·Memᴰ e (editsOf (own (c .desk) (c .past)))
     either below (inl m) = let r = below m in (r .0, List·Memᴰ·tail (r .1), r .2)
     either below (inr m) = (x, List·Memᴰ·head refl, m)
 

@@ -15,7 +15,7 @@ use Rattle.worksheet.specs.declared.desks.Worksheet.{Worksheet}
 use Rattle.worksheet.specs.Desks.{setOf, freshSheet, openOf}
 use Rattle.worksheet.specs.Showing.{Source, pair}
 use Rattle.worksheet.specs.Journal.{Call, Role, beginning, ending, settling, belonging, returning, showing, roleOf, Entry, accepted, roleIn, good, step, entryOf, run}
-use Rattle.worksheet.specs.InForce.{changed, Commit, Standing, changesBy, inputsBy, Force, standingAt, standingBefore, forceIn, pushed, returnedTo, forceBy, forceAfter, commitsInForce, inForce, takenBackBy, takenBack, leftBy, commitsLeft, startLeft, CommitInForce}
+use Rattle.worksheet.specs.InForce.{changed, AcceptedCommit, Standing, changesBy, inputsBy, Force, standingAt, standingBefore, forceIn, pushed, returnedTo, forceBy, forceAfter, commitsInForce, inForce, takenBackBy, takenBack, leftBy, commitsLeft, startLeft, CommitInForce}
 use Rattle.worksheet.proofs.drafts.Drafts.{atRest, rest-none}
 use Rattle.worksheet.proofs.lists.Replay.{Law}
 use Rattle.worksheet.proofs.lists.Rules.{law}
@@ -40,14 +40,14 @@ module _ (e i : Inputs) where
       let u = takenBack later in
       let s = leaves (takenBackBy (roleIn x) (good x) u) past in
       leaves-all later (x ∷ past)
-      ∙ ap (λ (l : List Commit). record { start = s .start; commits = l })
+      ∙ ap (λ (l : List AcceptedCommit). record { start = s .start; commits = l })
       (sym (append-assoc (commitsLeft (x ∷ past) later) (leftBy past x (roleIn x) (good x) u) (s .commits)))
 
   leaves-run : (entries : List Entry) → leaves false (reverse entries) ≡ record { start = cond (takenBack entries) e i; commits = commitsLeft [] entries }
   unfolding leaves
   leaves-run entries =
       leaves-all entries []
-      ∙ ap (λ (l : List Commit). record { start = cond (takenBack entries) e i; commits = l }) (append-nil (commitsLeft [] entries))
+      ∙ ap (λ (l : List AcceptedCommit). record { start = cond (takenBack entries) e i; commits = l }) (append-nil (commitsLeft [] entries))
 
   -- THE INVARIANT, after the entries `past`
   record Leaves (past : List Entry) (f : Force) : Type 0 where
@@ -176,7 +176,7 @@ opened-exactly f2 file opened given cs =
 
 -- ---- each of them was accepted and not taken back
 
-left-here : (past later : List Entry) (x : Entry) (c : Commit) → List·Memᴰ c (leftBy past x (roleIn x) (good x) (takenBack later))
+left-here : (past later : List Entry) (x : Entry) (c : AcceptedCommit) → List·Memᴰ c (leftBy past x (roleIn x) (good x) (takenBack later))
     → CommitInForce (reverse past ++ (x ∷ later)) c
 left-here past later x c m = go (roleIn x) refl m
   where
@@ -187,7 +187,7 @@ left-here past later x c m = go (roleIn x) refl m
         → List·Memᴰ c (cond (b && not t) (record { desk = n; past = past; entry = x } ∷ []) []) → Here
     settles n p true true q s h = absurd (List·Memᴰ·not-nil h)
     settles n p true false q s h =
-        subst (λ (z : Commit). CommitInForce (reverse past ++ (x ∷ later)) z) (sym (List·Memᴰ·eq-of-singleton h))
+        subst (λ (z : AcceptedCommit). CommitInForce (reverse past ++ (x ∷ later)) z) (sym (List·Memᴰ·eq-of-singleton h))
         (record { after = later; split = refl; is-commit = p; committed = q; not-taken-back = s })
     settles n p false t q s h = absurd (List·Memᴰ·not-nil h)
 
@@ -199,7 +199,7 @@ left-here past later x c m = go (roleIn x) refl m
     go returning p h = absurd (List·Memᴰ·not-nil h)
     go showing p h = absurd (List·Memᴰ·not-nil h)
 
-pub left-source : (past later : List Entry) (c : Commit) → List·Memᴰ c (commitsLeft past later) → CommitInForce (reverse past ++ later) c
+pub left-source : (past later : List Entry) (c : AcceptedCommit) → List·Memᴰ c (commitsLeft past later) → CommitInForce (reverse past ++ later) c
 unfolding commitsLeft
 left-source past [] c m = absurd (List·Memᴰ·not-nil m)
 left-source past (x ∷ later) c m = go (left-source (x ∷ past) later c) (List·Memᴰ·append-cases (commitsLeft (x ∷ past) later) m)

@@ -16,7 +16,7 @@ use Rattle.worksheet.specs.declared.desks.Worksheet.{Worksheet}
 use Rattle.worksheet.specs.Inputs.{edited}
 use Rattle.worksheet.specs.Showing.{Source}
 use Rattle.worksheet.specs.Journal.{Call, Role, beginning, ending, settling, belonging, returning, showing, roleOf, Entry, accepted, roleIn, good, step, entryOf, run, isBegin, isOwn, begins, belongs, own, none}
-use Rattle.worksheet.specs.InForce.{editsIn, editsOf, changed, Commit, Standing, changesBy, inputsBy, Force, standingAt, standingBefore, forceIn, pushed, returnedTo, forceBy, forceAfter, isDisturbing, disturbs}
+use Rattle.worksheet.specs.InForce.{editsIn, editsOf, changed, AcceptedCommit, Standing, changesBy, inputsBy, Force, standingAt, standingBefore, forceIn, pushed, returnedTo, forceBy, forceAfter, isDisturbing, disturbs}
 use Rattle.worksheet.proofs.drafts.Drafts.{atRest, FreshAt}
 use Rattle.worksheet.proofs.lists.Replay.{Local, sheetOf, Law}
 use Rattle.worksheet.proofs.lists.Rules.{law}

@@ -38,7 +38,7 @@ abbrev outOfRange : Inputs → Inputs
 outOfRange i = record { month = 1; ssn = decimal 100 0; gmt = decimal 25 0; route = i .route; psc = i .psc; pole = i .pole }
 
 -- inputs that open accepts
-abbrev inRange : Inputs
+abbrev pub inRange : Inputs
 inRange = record {
   month = 1;
   ssn = decimal 100 0;
@@ -48,7 +48,7 @@ inRange = record {
   pole = record { lat = degrees (decimal 785 1); lon = degrees (decimal 0 1) };
 }
 
-in-range : openOf inRange .answer ≡ Accepted
+pub in-range : openOf inRange .answer ≡ Accepted
 unfolding openOf inputsCheck monthCheck sunspotCheck hourCheck routeCheck latitudeCheck longitudeCheck flagCheck factorsCheck factorCheck poleCheck decimal minusDecimal round le
 in-range = refl
 

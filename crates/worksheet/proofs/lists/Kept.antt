@@ -8,7 +8,7 @@ use mathlib.Core.Logic.{_⊎_, inl, inr}
 use mathlib.Core.Path.{_≡_, refl, sym, ap, ap₂, subst, _∙_}
 use Rattle.worksheet.specs.declared.desks.Worksheet.{Worksheet}
 use Rattle.worksheet.specs.Showing.{Source}
-use Rattle.worksheet.specs.Journal.{Call, commit, Role, beginning, ending, settling, belonging, returning, showing, roleOf, Entry, accepted, roleIn, good, run, isBegin, isOwn, begins, belongs, own, keptFor, shorter, keptOf, keep, none, isSettled, settled, OwnCall}
+use Rattle.worksheet.specs.Journal.{Call, commit, Role, beginning, ending, settling, belonging, returning, showing, roleOf, Entry, accepted, roleIn, good, run, isBegin, isOwn, begins, belongs, own, keptFor, shorter, keptOf, keep, none, isKeptByItself, keptByItself, OwnCall}
 
 -- ---- lists
 
@@ -36,7 +36,7 @@ keep-one p b x e = ap (λ (z : Bool). onlyIf z x) e
 
 -- ---- own calls are no settled ones
 
-begin-unsettled : (n : ℕ) (r : Role) (b : Bool) → isBegin n r b ≡ true → isSettled r b ≡ false
+begin-unsettled : (n : ℕ) (r : Role) (b : Bool) → isBegin n r b ≡ true → isKeptByItself r b ≡ false
 begin-unsettled n (beginning m) b e = refl
 begin-unsettled n (ending m) b e = refl
 begin-unsettled n (settling m) b e = absurd (false≢true e)
@@ -44,7 +44,7 @@ begin-unsettled n (belonging m even es) b e = refl
 begin-unsettled n returning b e = absurd (false≢true e)
 begin-unsettled n showing b e = absurd (false≢true e)
 
-own-call-unsettled : (n : ℕ) (r : Role) (b : Bool) → isOwn n r b ≡ true → isSettled r b ≡ false
+own-call-unsettled : (n : ℕ) (r : Role) (b : Bool) → isOwn n r b ≡ true → isKeptByItself r b ≡ false
 own-call-unsettled n (beginning m) b e = refl
 own-call-unsettled n (ending m) b e = refl
 own-call-unsettled n (settling m) b e = absurd (false≢true e)
@@ -52,50 +52,50 @@ own-call-unsettled n (belonging m even es) b e = refl
 own-call-unsettled n returning b e = absurd (false≢true e)
 own-call-unsettled n showing b e = absurd (false≢true e)
 
-own-unsettled : (n : ℕ) (past : List Entry) → keep settled (own n past) ≡ []
+own-unsettled : (n : ℕ) (past : List Entry) → keep keptByItself (own n past) ≡ []
 unfolding own keep
 own-unsettled n [] = refl
 own-unsettled n (x ∷ past) = go (begins n x) (belongs n x) refl refl (own-unsettled n past)
   where
-    go : (b o : Bool) → begins n x ≡ b → belongs n x ≡ o → keep settled (own n past) ≡ []
-        → keep settled (cond b (x ∷ []) (cond o (own n past ++ (x ∷ [])) (own n past))) ≡ []
-    go true o p q h = keep-one settled false x (begin-unsettled n (roleIn x) (good x) p)
+    go : (b o : Bool) → begins n x ≡ b → belongs n x ≡ o → keep keptByItself (own n past) ≡ []
+        → keep keptByItself (cond b (x ∷ []) (cond o (own n past ++ (x ∷ [])) (own n past))) ≡ []
+    go true o p q h = keep-one keptByItself false x (begin-unsettled n (roleIn x) (good x) p)
     go false true p q h =
-        keep-append settled (own n past) (x ∷ [])
-        ∙ ap₂ _++_ h (keep-one settled false x (own-call-unsettled n (roleIn x) (good x) q))
+        keep-append keptByItself (own n past) (x ∷ [])
+        ∙ ap₂ _++_ h (keep-one keptByItself false x (own-call-unsettled n (roleIn x) (good x) q))
     go false false p q h = h
 
 -- ---- KEPT IN ORDER: of the accepted commits and take-backs and the showings of the worksheet, the
 -- shorter list has all, in their order
 
-block : (past : List Entry) (x : Entry) (r : Role) → roleIn x ≡ r → keep settled (keptFor past r x) ≡ onlyIf (isSettled r (good x)) x
+block : (past : List Entry) (x : Entry) (r : Role) → roleIn x ≡ r → keep keptByItself (keptFor past r x) ≡ onlyIf (isKeptByItself r (good x)) x
 unfolding keptFor keep
 block past x (beginning n) e = refl
 block past x (ending n) e = refl
 block past x (belonging n even es) e = refl
-block past x showing e = keep-one settled true x (ap (λ (r : Role). isSettled r (good x)) e)
+block past x showing e = keep-one keptByItself true x (ap (λ (r : Role). isKeptByItself r (good x)) e)
 block past x returning e = go (good x) refl
   where
-    go : (b : Bool) → good x ≡ b → keep settled (onlyIf b x) ≡ onlyIf b x
-    go true g = keep-one settled true x (ap (λ (r : Role). isSettled r (good x)) e ∙ g)
+    go : (b : Bool) → good x ≡ b → keep keptByItself (onlyIf b x) ≡ onlyIf b x
+    go true g = keep-one keptByItself true x (ap (λ (r : Role). isKeptByItself r (good x)) e ∙ g)
     go false g = refl
 block past x (settling n) e = go (good x) refl
   where
-    go : (b : Bool) → good x ≡ b → keep settled (cond b (own n past ++ (x ∷ [])) []) ≡ onlyIf b x
+    go : (b : Bool) → good x ≡ b → keep keptByItself (cond b (own n past ++ (x ∷ [])) []) ≡ onlyIf b x
     go true g =
-        keep-append settled (own n past) (x ∷ [])
-        ∙ ap₂ _++_ (own-unsettled n past) (keep-one settled true x (ap (λ (r : Role). isSettled r (good x)) e ∙ g))
+        keep-append keptByItself (own n past) (x ∷ [])
+        ∙ ap₂ _++_ (own-unsettled n past) (keep-one keptByItself true x (ap (λ (r : Role). isKeptByItself r (good x)) e ∙ g))
     go false g = refl
 
-in-order : (past l : List Entry) → keep settled (shorter past l) ≡ keep settled l
+in-order : (past l : List Entry) → keep keptByItself (shorter past l) ≡ keep keptByItself l
 unfolding shorter keep
 in-order past [] = refl
 in-order past (x ∷ l) =
-    keep-append settled (keptFor past (roleIn x) x) (shorter (x ∷ past) l)
+    keep-append keptByItself (keptFor past (roleIn x) x) (shorter (x ∷ past) l)
     ∙ ap₂ _++_ (block past x (roleIn x) refl) (in-order (x ∷ past) l)
-    ∙ sym (keep-first (settled x) x (keep settled l))
+    ∙ sym (keep-first (keptByItself x) x (keep keptByItself l))
 
-pub kept-in-order : (source : Source) (w : Worksheet) (cs : List Call) → keep settled (keptOf source w cs) ≡ keep settled (run source cs w .entries)
+pub kept-in-order : (source : Source) (w : Worksheet) (cs : List Call) → keep keptByItself (keptOf source w cs) ≡ keep keptByItself (run source cs w .entries)
 unfolding keptOf
 kept-in-order source w cs = in-order [] (run source cs w .entries)
 
@@ -178,17 +178,17 @@ among-reverse y (x ∷ l) r h = among-reverse y l (x ∷ r) (shift h)
     shift (inl m) = of (List·Memᴰ·cases-cons m)
     shift (inr m) = inr (List·Memᴰ·tail m)
 
-in-block : (past later : List Entry) (x y : Entry) → y ∈ (keptFor past (roleIn x) x) → (settled y ≡ true) ⊎ OwnCall (reverse past ++ (x ∷ later)) y
+in-block : (past later : List Entry) (x y : Entry) → y ∈ (keptFor past (roleIn x) x) → (keptByItself y ≡ true) ⊎ OwnCall (reverse past ++ (x ∷ later)) y
 unfolding keptFor
 in-block past later x y h = of (roleIn x) refl h
   where
     Good : Type 0
-    Good = (settled y ≡ true) ⊎ OwnCall (reverse past ++ (x ∷ later)) y
+    Good = (keptByItself y ≡ true) ⊎ OwnCall (reverse past ++ (x ∷ later)) y
 
-    as-x : settled x ≡ true → y ∈ (x ∷ []) → Good
-    as-x e m = inl (ap settled (List·Memᴰ·eq-of-singleton m) ∙ e)
+    as-x : keptByItself x ≡ true → y ∈ (x ∷ []) → Good
+    as-x e m = inl (ap keptByItself (List·Memᴰ·eq-of-singleton m) ∙ e)
 
-    if-x : (b : Bool) → (b ≡ true → settled x ≡ true) → y ∈ (onlyIf b x) → Good
+    if-x : (b : Bool) → (b ≡ true → keptByItself x ≡ true) → y ∈ (onlyIf b x) → Good
     if-x true e m = as-x (e refl) m
     if-x false e m = absurd (List·Memᴰ·not-nil m)
 
@@ -208,18 +208,18 @@ in-block past later x y h = of (roleIn x) refl h
           stands-before = among-reverse y past [] (inl (own-among n y past k));
           begins-or-belongs = own-member n y past k;
         })
-        either (inr k) = as-x (ap (λ (r : Role). isSettled r (good x)) c ∙ e) k
+        either (inr k) = as-x (ap (λ (r : Role). isKeptByItself r (good x)) c ∙ e) k
     committed-by n c false e m = absurd (List·Memᴰ·not-nil m)
 
     of : (r : Role) → roleIn x ≡ r → y ∈ (keptFor past r x) → Good
     of (beginning n) e m = absurd (List·Memᴰ·not-nil m)
     of (ending n) e m = absurd (List·Memᴰ·not-nil m)
     of (belonging n even es) e m = absurd (List·Memᴰ·not-nil m)
-    of returning e m = if-x (good x) (λ g. ap (λ (r : Role). isSettled r (good x)) e ∙ g) m
-    of showing e m = as-x (ap (λ (r : Role). isSettled r (good x)) e) m
+    of returning e m = if-x (good x) (λ g. ap (λ (r : Role). isKeptByItself r (good x)) e ∙ g) m
+    of showing e m = as-x (ap (λ (r : Role). isKeptByItself r (good x)) e) m
     of (settling n) e m = committed-by n e (good x) refl m
 
-all-blocks : (past l : List Entry) (y : Entry) → y ∈ (shorter past l) → (settled y ≡ true) ⊎ OwnCall (reverse past ++ l) y
+all-blocks : (past l : List Entry) (y : Entry) → y ∈ (shorter past l) → (keptByItself y ≡ true) ⊎ OwnCall (reverse past ++ l) y
 unfolding shorter
 all-blocks past [] y h = absurd (List·Memᴰ·not-nil h)
 all-blocks past (x ∷ later) y h = go (all-blocks (x ∷ past) later y) (List·Memᴰ·append-cases (keptFor past (roleIn x) x) h)
@@ -227,12 +227,12 @@ all-blocks past (x ∷ later) y h = go (all-blocks (x ∷ past) later y) (List·
     same : reverse (x ∷ past) ++ later ≡ reverse past ++ (x ∷ later)
     same = ap (λ (k : List Entry). k ++ later) (reverse-cons x past) ∙ append-assoc (reverse past) (x ∷ []) later
 
-    go : (y ∈ (shorter (x ∷ past) later) → (settled y ≡ true) ⊎ OwnCall (reverse (x ∷ past) ++ later) y)
-        → y ∈ (keptFor past (roleIn x) x) ⊎ y ∈ (shorter (x ∷ past) later) → (settled y ≡ true) ⊎ OwnCall (reverse past ++ (x ∷ later)) y
+    go : (y ∈ (shorter (x ∷ past) later) → (keptByItself y ≡ true) ⊎ OwnCall (reverse (x ∷ past) ++ later) y)
+        → y ∈ (keptFor past (roleIn x) x) ⊎ y ∈ (shorter (x ∷ past) later) → (keptByItself y ≡ true) ⊎ OwnCall (reverse past ++ (x ∷ later)) y
     go below (inl m) = in-block past later x y m
-    go below (inr m) = subst (λ (k : List Entry). (settled y ≡ true) ⊎ OwnCall k y) same (below m)
+    go below (inr m) = subst (λ (k : List Entry). (keptByItself y ≡ true) ⊎ OwnCall k y) same (below m)
 
-pub nothing-else : (full : List Entry) (y : Entry) → y ∈ (shorter [] full) → (settled y ≡ true) ⊎ OwnCall full y
+pub nothing-else : (full : List Entry) (y : Entry) → y ∈ (shorter [] full) → (keptByItself y ≡ true) ⊎ OwnCall full y
 nothing-else full y h = all-blocks [] full y h
 
 -- ---- OWN CALLS: the last accepted begin, and what belongs to the desk since

@@ -1,4 +1,4 @@
--- `size` is `Sized`: the source's sizes are those of `sizes`, and their rule is one test over the
+-- `size` is `RecordSize`: the source's sizes are those of `sizes`, and their rule is one test over the
 -- whole list.
 use borrow.Author.Needs.{needs}
 use Rattle.base.proofs.layout.Walks.{sized}
