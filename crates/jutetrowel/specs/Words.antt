@@ -14,6 +14,7 @@ use Rattle.worksheet.specs.declared.desks.Earlier.{Earlier}
 use Rattle.worksheet.specs.declared.desks.Earlier.the-variants.{Nothing, Set}
 use Rattle.worksheet.specs.declared.desks.Outcome.{Outcome}
 use Rattle.worksheet.specs.declared.desks.Worksheet.{Worksheet}
+use Rattle.worksheet.specs.Desks.{EarlierHas, DraftHas, SheetHas}
 
 -- a set's words: what it is, and its 14 fields
 abbrev pub setSize : ℕ
@@ -88,18 +89,10 @@ wordsAfter o lent = writtenOver (o .answer) (sheetWords (o .sheet)) lent
 -- ---- worksheets of numbers that an f32 can be
 
 abbrev pub EarlierSingles : Earlier → Type 0
-EarlierSingles Nothing = Unit
-EarlierSingles (Set i) = Singles i
+EarlierSingles = EarlierHas Singles
 
 abbrev pub DraftSingles : Draft → Type 0
-DraftSingles Closed = Unit
-DraftSingles (Fresh i) = Singles i
-DraftSingles (Stale i) = Singles i
+DraftSingles = DraftHas Singles
 
-pub record SheetSingles (w : Worksheet) : Type 0 where
-  pub inputs : Singles (w .inputs)
-  pub earlier : EarlierSingles (w .earlier)
-  pub d1 : DraftSingles (w .d1)
-  pub d2 : DraftSingles (w .d2)
-  pub d3 : DraftSingles (w .d3)
-  pub d4 : DraftSingles (w .d4)
+abbrev pub SheetSingles : Worksheet → Type 0
+SheetSingles = SheetHas Singles

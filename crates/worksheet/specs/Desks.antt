@@ -175,3 +175,24 @@ setOf (Set x) i = x
 -- 'The earlier set returns, none is left, every open draft turns stale'
 unfoldable pub takeBackOf : Worksheet → Outcome
 takeBackOf w = outcome (earlierCheck (w .earlier)) (movedTo (setOf (w .earlier) (w .inputs)) Nothing w) w
+
+-- ---- to say that all sets of inputs of a worksheet have a property
+
+module _ (P : Inputs → Type 0) where
+  abbrev pub EarlierHas : Earlier → Type 0
+  EarlierHas Nothing = Unit
+  EarlierHas (Set i) = P i
+
+  abbrev pub DraftHas : Draft → Type 0
+  DraftHas Closed = Unit
+  DraftHas (Fresh i) = P i
+  DraftHas (Stale i) = P i
+
+  -- the inputs, the earlier set and the drafts, as far as there are any
+  pub record SheetHas (w : Worksheet) : Type 0 where
+    pub inputs : P (w .inputs)
+    pub earlier : EarlierHas (w .earlier)
+    pub d1 : DraftHas (w .d1)
+    pub d2 : DraftHas (w .d2)
+    pub d3 : DraftHas (w .d3)
+    pub d4 : DraftHas (w .d4)

@@ -4,8 +4,7 @@
 use Prim.Native.Nat.{ℕ}
 use mathlib.Core.Bool.{Bool, true, false, cond}
 use mathlib.Core.List.{List, [], _∷_, _++_}
-use mathlib.Core.Path.{_≡_, refl, sym, ap, _∙_}
-use lib.Dec.{eqb}
+use mathlib.Core.Path.{_≡_, refl, sym, ap, _∙_, subst}
 use Rattle.base.specs.Refusal.{writtenOver}
 use Rattle.base.specs.declared.refusal.Verdict.{Verdict}
 use Rattle.base.specs.declared.refusal.Verdict.the-variants.{Accepted, Refused}
@@ -14,18 +13,15 @@ use Rattle.maps.specs.declared.inputs.Inputs.{Inputs}
 use Rattle.maps.proofs.sheet.Codec.{from-single}
 use Rattle.worksheet.specs.declared.inputs.Edit.{Edit}
 use Rattle.worksheet.specs.declared.inputs.Edit.the-variants.{Sunspot, Hour, Path, Psc, Pole}
-use Rattle.worksheet.specs.declared.desks.Draft.{Draft}
-use Rattle.worksheet.specs.declared.desks.Draft.the-variants.{Closed, Fresh, Stale}
-use Rattle.worksheet.specs.declared.desks.Earlier.{Earlier}
-use Rattle.worksheet.specs.declared.desks.Earlier.the-variants.{Nothing, Set}
 use Rattle.worksheet.specs.declared.desks.Worksheet.{Worksheet}
 use Rattle.worksheet.specs.Inputs.{edited}
-use Rattle.worksheet.specs.Desks.{draftAt, withDraft, inputsOf, staleOf, movedTo, outcome, editedDraft, setOf, beginCheck, beginOf, changeCheck, changeOf, commitCheck, commitOf, cancelCheck, cancelOf, earlierCheck, takeBackOf, freshSheet, openOf, openedOf}
+use Rattle.worksheet.specs.Desks.{outcome, beginOf, changeOf, commitOf, cancelOf, takeBackOf, freshSheet, openOf, openedOf}
 use Rattle.worksheet.specs.Showing.{Source, pair}
 use Rattle.worksheet.specs.Journal.{Call, begin, commit, cancel, change, takeBack, show, Entry, Run, Role, beginning, ending, settling, belonging, returning, showing, roleIn, good, step, entryOf, run, begins, belongs, own, keptFor, shorter, callsOf, keptOf, shortRun, Demand3}
 use Rattle.worksheet.proofs.drafts.Drafts.{atRest}
+use Rattle.worksheet.proofs.drafts.Keeps.{step-keeps}
 use Rattle.worksheet.proofs.lists.Rules.{demand-3-lent}
-use Rattle.jutetrowel.specs.Words.{worksheetOf, sheetWords, wordsAfter, EarlierSingles, DraftSingles, SheetSingles}
+use Rattle.jutetrowel.specs.Words.{worksheetOf, sheetWords, wordsAfter, SheetSingles}
 use Rattle.jutetrowel.specs.Calls.{EditSingles, CallSingles, CallsSingles, wordsLeft, entriesOver, wordsOver, Demand3Over}
 use Rattle.jutetrowel.proofs.crossing.Returned.{read-back, read-single}
 
@@ -68,68 +64,15 @@ module _ (x : Inputs) (k : Singles x) where
   edited-single (Psc p) h = assembled _ (k .ssn) (k .gmt) route-single h pole-single
   edited-single (Pole p) h = assembled _ (k .ssn) (k .gmt) route-single psc-single h
 
-either : (b : Bool) (d o : Draft) → DraftSingles d → DraftSingles o → DraftSingles (cond b d o)
-either true d o h k = h
-either false d o h k = k
-
-at-single : (n : ℕ) (w : Worksheet) → SheetSingles w → DraftSingles (draftAt n w)
-unfolding draftAt
-at-single n w h =
-    either (eqb n 1) (w .d1) _ (h .d1)
-    (either (eqb n 2) (w .d2) _ (h .d2)
-    (either (eqb n 3) (w .d3) _ (h .d3) (either (eqb n 4) (w .d4) Closed (h .d4) tt)))
-
-with-single : (n : ℕ) (d : Draft) (w : Worksheet) → DraftSingles d → SheetSingles w → SheetSingles (withDraft n d w)
-unfolding withDraft
-with-single n d w k h =
-    record {
-      inputs = h .inputs;
-      earlier = h .earlier;
-      d1 = either (eqb n 1) d (w .d1) k (h .d1);
-      d2 = either (eqb n 2) d (w .d2) k (h .d2);
-      d3 = either (eqb n 3) d (w .d3) k (h .d3);
-      d4 = either (eqb n 4) d (w .d4) k (h .d4);
-    }
-
-of-single : (d : Draft) (i : Inputs) → DraftSingles d → Singles i → Singles (inputsOf d i)
-unfolding inputsOf
-of-single Closed i k h = h
-of-single (Fresh x) i k h = k
-of-single (Stale x) i k h = k
-
-set-single : (e : Earlier) (i : Inputs) → EarlierSingles e → Singles i → Singles (setOf e i)
-unfolding setOf
-set-single Nothing i k h = h
-set-single (Set x) i k h = k
-
-stale-single : (d : Draft) → DraftSingles d → DraftSingles (staleOf d)
-unfolding staleOf
-stale-single Closed k = tt
-stale-single (Fresh x) k = k
-stale-single (Stale x) k = k
-
-draft-single : (e : Edit) (d : Draft) → EditSingles e → DraftSingles d → DraftSingles (editedDraft e d)
-unfolding editedDraft
-draft-single e Closed h k = tt
-draft-single e (Fresh x) h k = edited-single x k e h
-draft-single e (Stale x) h k = edited-single x k e h
-
-moved-single : (i : Inputs) (e : Earlier) (w : Worksheet) → Singles i → EarlierSingles e → SheetSingles w →
-    SheetSingles (movedTo i e w)
-unfolding movedTo
-moved-single i e w hi he h =
-    record {
-      inputs = hi;
-      earlier = he;
-      d1 = stale-single (w .d1) (h .d1);
-      d2 = stale-single (w .d2) (h .d2);
-      d3 = stale-single (w .d3) (h .d3);
-      d4 = stale-single (w .d4) (h .d4);
-    }
+module _ (source : Source) where
+  left-single : (c : Call) (l : List ℕ) → CallSingles c → SheetSingles (step source c (worksheetOf l) .sheet)
+  left-single c l k =
+      step-keeps Singles source c (worksheetOf l)
+      (λ n e same a i h. edited-single i h e (subst CallSingles same k)) (read-single l)
 
 -- ---- what a call writes is read back, and what it leaves alone holds what it held
 
-settled : (v : Verdict) (after : Worksheet) (l : List ℕ) → SheetSingles after →
+settled : (v : Verdict) (after : Worksheet) (l : List ℕ) → SheetSingles (outcome v after (worksheetOf l) .sheet) →
     worksheetOf (wordsAfter (outcome v after (worksheetOf l)) l) ≡ outcome v after (worksheetOf l) .sheet
 unfolding outcome
 settled Accepted after l h = read-back after h
@@ -139,33 +82,11 @@ module _ (source : Source) where
   pub one-call : (c : Call) (l : List ℕ) → CallSingles c →
       worksheetOf (wordsLeft source c l) ≡ step source c (worksheetOf l) .sheet
   unfolding wordsLeft step beginOf changeOf commitOf cancelOf takeBackOf
-  one-call (begin n) l k =
-      let w = worksheetOf l in
-      let h = read-single l in
-      settled (beginCheck n w) (withDraft n (Fresh (w .inputs)) w) l (with-single n (Fresh (w .inputs)) w (h .inputs) h)
-  one-call (change n e) l k =
-      let w = worksheetOf l in
-      let h = read-single l in
-      let d = editedDraft e (draftAt n w) in
-      settled (changeCheck n e w) (withDraft n d w) l
-      (with-single n d w (draft-single e (draftAt n w) k (at-single n w h)) h)
-  one-call (commit n) l k =
-      let w = worksheetOf l in
-      let h = read-single l in
-      let i = inputsOf (draftAt n w) (w .inputs) in
-      let m = movedTo i (Set (w .inputs)) w in
-      let i-single = of-single (draftAt n w) (w .inputs) (at-single n w h) (h .inputs) in
-      settled (commitCheck n w) (withDraft n Closed m) l
-      (with-single n Closed m tt (moved-single i (Set (w .inputs)) w i-single (h .inputs) h))
-  one-call (cancel n) l k =
-      let w = worksheetOf l in
-      settled (cancelCheck n w) (withDraft n Closed w) l (with-single n Closed w tt (read-single l))
-  one-call takeBack l k =
-      let w = worksheetOf l in
-      let h = read-single l in
-      let i = setOf (w .earlier) (w .inputs) in
-      settled (earlierCheck (w .earlier)) (movedTo i Nothing w) l
-      (moved-single i Nothing w (set-single (w .earlier) (w .inputs) (h .earlier) (h .inputs)) tt h)
+  one-call (begin n) l k = settled _ _ l (left-single source (begin n) l k)
+  one-call (change n e) l k = settled _ _ l (left-single source (change n e) l k)
+  one-call (commit n) l k = settled _ _ l (left-single source (commit n) l k)
+  one-call (cancel n) l k = settled _ _ l (left-single source (cancel n) l k)
+  one-call takeBack l k = settled _ _ l (left-single source takeBack l k)
   one-call (show n lent) l k = refl
 
   -- the whole list, from any words that hold w

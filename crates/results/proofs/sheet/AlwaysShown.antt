@@ -2,15 +2,13 @@
 -- the calls: a change is judged before it is made, and nothing else makes new numbers. So over
 -- files that pass their checks every showing of the worksheet in a buffer of 151 numbers is
 -- accepted. Assumes nothing.
-use mathlib.Core.Bool.{Bool, true, false, cond}
 use mathlib.Core.List.{List, [], _∷_}
-use mathlib.Core.Path.{_≡_, refl, ap}
+use mathlib.Core.Path.{_≡_, ap}
 use Prim.Native.Nat.{ℕ}
-use lib.Dec.{eqb}
 use lib.ListN.{length}
 use lib.Ieee.{Float}
 use Rattle.base.specs.declared.refusal.Verdict.{Verdict}
-use Rattle.base.specs.declared.refusal.Verdict.the-variants.{Accepted, Refused}
+use Rattle.base.specs.declared.refusal.Verdict.the-variants.{Accepted}
 use Rattle.base.specs.Refusal.{_then_, writtenOver}
 use Rattle.base.specs.Ranges.{monthCheck, hourCheck}
 use Rattle.base.specs.Files.{filesCheck}
@@ -20,15 +18,12 @@ use Rattle.maps.specs.declared.figures.Shown.the-variants.{Points}
 use Rattle.maps.specs.Figures.{sheetPath, figuresOf, pointsOr}
 use Rattle.worksheet.specs.declared.inputs.Edit.{Edit}
 use Rattle.worksheet.specs.declared.inputs.Edit.the-variants.{Sunspot, Hour, Path, Psc, Pole}
-use Rattle.worksheet.specs.declared.desks.Draft.{Draft}
-use Rattle.worksheet.specs.declared.desks.Draft.the-variants.{Closed, Fresh, Stale}
-use Rattle.worksheet.specs.declared.desks.Earlier.{Earlier}
-use Rattle.worksheet.specs.declared.desks.Earlier.the-variants.{Nothing, Set}
 use Rattle.worksheet.specs.declared.desks.Worksheet.{Worksheet}
 use Rattle.worksheet.specs.Inputs.{sunspotCheck, routeCheck, factorsCheck, poleCheck, inputsCheck, editCheck, edited}
-use Rattle.worksheet.specs.Desks.{draftAt, withDraft, inputsOf, staleOf, movedTo, outcome, deskCheck, draftCheck, editedDraft, setOf, beginCheck, beginOf, changeCheck, changeOf, commitCheck, commitOf, cancelCheck, cancelOf, earlierCheck, takeBackOf, freshSheet, openOf}
+use Rattle.worksheet.specs.Desks.{freshSheet, openOf, SheetHas}
 use Rattle.worksheet.specs.Showing.{Source, pair, inputsShown, askedCheck, bufferCheck, drawnCheck, judgedCheck, showCheck, showOf, showBuffer}
-use Rattle.worksheet.specs.Journal.{Call, begin, commit, cancel, change, takeBack, show, shown, step, run}
+use Rattle.worksheet.specs.Journal.{Call, show, shown, step, run}
+use Rattle.worksheet.proofs.drafts.Keeps.{step-keeps}
 
 -- ---- inputs in range, and a change of them that is judged
 
@@ -76,122 +71,18 @@ module _ (x : Inputs) (h : InRange x) where
       let r = each x h in
       all _ (record { month = r .month; ssn = r .ssn; gmt = r .gmt; route = r .route; psc = r .psc; pole = k })
 
--- ---- a worksheet in range
+-- ---- every call keeps a worksheet in range
 
-abbrev EarlierInRange : Earlier → Type 0
-EarlierInRange Nothing = Unit
-EarlierInRange (Set i) = InRange i
-
-abbrev DraftInRange : Draft → Type 0
-DraftInRange Closed = Unit
-DraftInRange (Fresh i) = InRange i
-DraftInRange (Stale i) = InRange i
-
-record SheetInRange (w : Worksheet) : Type 0 where
-  inputs : InRange (w .inputs)
-  earlier : EarlierInRange (w .earlier)
-  d1 : DraftInRange (w .d1)
-  d2 : DraftInRange (w .d2)
-  d3 : DraftInRange (w .d3)
-  d4 : DraftInRange (w .d4)
-
-either : (b : Bool) (d o : Draft) → DraftInRange d → DraftInRange o → DraftInRange (cond b d o)
-either true d o h k = h
-either false d o h k = k
-
-at-range : (n : ℕ) (w : Worksheet) → SheetInRange w → DraftInRange (draftAt n w)
-unfolding draftAt
-at-range n w h =
-    either (eqb n 1) (w .d1) _ (h .d1)
-    (either (eqb n 2) (w .d2) _ (h .d2)
-    (either (eqb n 3) (w .d3) _ (h .d3) (either (eqb n 4) (w .d4) Closed (h .d4) tt)))
-
-with-range : (n : ℕ) (d : Draft) (w : Worksheet) → DraftInRange d → SheetInRange w → SheetInRange (withDraft n d w)
-unfolding withDraft
-with-range n d w k h =
-    record {
-      inputs = h .inputs;
-      earlier = h .earlier;
-      d1 = either (eqb n 1) d (w .d1) k (h .d1);
-      d2 = either (eqb n 2) d (w .d2) k (h .d2);
-      d3 = either (eqb n 3) d (w .d3) k (h .d3);
-      d4 = either (eqb n 4) d (w .d4) k (h .d4);
-    }
-
-of-range : (d : Draft) (i : Inputs) → DraftInRange d → InRange i → InRange (inputsOf d i)
-unfolding inputsOf
-of-range Closed i k h = h
-of-range (Fresh x) i k h = k
-of-range (Stale x) i k h = k
-
-set-range : (e : Earlier) (i : Inputs) → EarlierInRange e → InRange i → InRange (setOf e i)
-unfolding setOf
-set-range Nothing i k h = h
-set-range (Set x) i k h = k
-
-stale-range : (d : Draft) → DraftInRange d → DraftInRange (staleOf d)
-unfolding staleOf
-stale-range Closed k = tt
-stale-range (Fresh x) k = k
-stale-range (Stale x) k = k
-
-draft-range : (e : Edit) (d : Draft) → editCheck e ≡ Accepted → DraftInRange d → DraftInRange (editedDraft e d)
-unfolding editedDraft
-draft-range e Closed h k = tt
-draft-range e (Fresh x) h k = edited-range x k e h
-draft-range e (Stale x) h k = edited-range x k e h
-
-moved-range : (i : Inputs) (e : Earlier) (w : Worksheet) → InRange i → EarlierInRange e → SheetInRange w →
-    SheetInRange (movedTo i e w)
-unfolding movedTo
-moved-range i e w hi he h =
-    record {
-      inputs = hi;
-      earlier = he;
-      d1 = stale-range (w .d1) (h .d1);
-      d2 = stale-range (w .d2) (h .d2);
-      d3 = stale-range (w .d3) (h .d3);
-      d4 = stale-range (w .d4) (h .d4);
-    }
-
--- ---- every call keeps it
-
-outcome-range : (v : Verdict) (after w : Worksheet) → (v ≡ Accepted → SheetInRange after) → SheetInRange w →
-    SheetInRange (outcome v after w .sheet)
-unfolding outcome
-outcome-range Accepted after w h k = h refl
-outcome-range (Refused why) after w h k = k
+abbrev SheetInRange : Worksheet → Type 0
+SheetInRange = SheetHas InRange
 
 module _ (source : Source) where
-  step-range : (c : Call) (w : Worksheet) → SheetInRange w → SheetInRange (step source c w .sheet)
-  unfolding step beginOf changeOf changeCheck commitOf cancelOf takeBackOf
-  step-range (begin n) w h =
-      outcome-range (beginCheck n w) _ w (λ a. with-range n (Fresh (w .inputs)) w (h .inputs) h) h
-  step-range (change n e) w h =
-      let d = editedDraft e (draftAt n w) in
-      outcome-range (changeCheck n e w) (withDraft n d w) w
-      (λ a.
-      let b = then-both (deskCheck n) (draftCheck (draftAt n w) then editCheck e) a in
-      let c = then-both (draftCheck (draftAt n w)) (editCheck e) (b .1) in
-      with-range n d w (draft-range e (draftAt n w) (c .1) (at-range n w h)) h)
-      h
-  step-range (commit n) w h =
-      let i = inputsOf (draftAt n w) (w .inputs) in
-      let m = movedTo i (Set (w .inputs)) w in
-      let k = of-range (draftAt n w) (w .inputs) (at-range n w h) (h .inputs) in
-      outcome-range (commitCheck n w) (withDraft n Closed m) w
-      (λ a. with-range n Closed m tt (moved-range i (Set (w .inputs)) w k (h .inputs) h)) h
-  step-range (cancel n) w h = outcome-range (cancelCheck n w) _ w (λ a. with-range n Closed w tt h) h
-  step-range takeBack w h =
-      let i = setOf (w .earlier) (w .inputs) in
-      outcome-range (earlierCheck (w .earlier)) (movedTo i Nothing w) w
-      (λ a. moved-range i Nothing w (set-range (w .earlier) (w .inputs) (h .earlier) (h .inputs)) tt h) h
-  step-range (show n lent) w h = h
-
   run-range : (cs : List Call) (w : Worksheet) → SheetInRange w → SheetInRange (run source cs w .sheet)
   unfolding run
   run-range [] w h = h
-  run-range (c ∷ cs) w h = run-range cs (step source c w .sheet) (step-range c w h)
+  run-range (c ∷ cs) w h =
+      run-range cs (step source c w .sheet)
+      (step-keeps InRange source c w (λ n e same a i k. edited-range i k e a) h)
 
   open-range : (i : Inputs) → openOf i .answer ≡ Accepted → SheetInRange (openOf i .sheet)
   unfolding openOf freshSheet
