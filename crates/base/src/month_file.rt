@@ -62,9 +62,9 @@ fn is_marker(s: &[u8], at: usize, n: usize) -> bool
 pub fn month_file_check(s: &[u8]) -> Verdict
     ensures { λ r. ⌜ r ≡ monthFileCheck (now (s .entry)) ⌝ }
 {
-    // What lies between two markers is only asked to be there, so of each record the markers and the
-    // file's length are looked at; where the file ends within a record, the walk in fours stops at
-    // the last multiple of four.
+    // What lies between two markers is only asked to be there, so of each record the markers and
+    // the file's length are looked at; where the file ends within a record, the walk in fours stops
+    // at the last multiple of four.
     let mut at = 0usize;
     let mut k = 0usize;
     while k < 9 {

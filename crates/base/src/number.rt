@@ -387,7 +387,7 @@ pub fn sqrt64(x: f64) -> f64
 pub fn sqrt32(x: f32) -> f32
     ensures { λ r. ⌜ r ≡ sqrtOf binary32 x ⌝ }
 {
-    // The `f64` nearest to √x has more than twice the digits, so that rounding it once more gives the
-    // `f32` nearest to √x itself.
+    // The `f64` nearest to √x has more than twice the digits, so that rounding it once more gives
+    // the `f32` nearest to √x itself.
     narrow(sqrt64(widen(x)))
 }

@@ -69,7 +69,7 @@ wraps (suc n) time =
     cond (lt time (decimal 0 1)) (wraps n (time ⊕ decimal 240 1))
     (cond (lt (decimal 240 1) time) (wraps n (time ⊖ decimal 240 1)) time)
 
--- One turn of the loop is as many as it takes (proofs/Wraps.antt, `cngtim-settled`).
+-- One turn of the loop is as many as it takes (results/proofs/clock/Wraps.antt, `cngtim-settled`).
 unfoldable pub cngtimOf : Float → Degrees → Direction → Shifted
 cngtimOf time xtheta isw =
     let theta = thetaOf xtheta in

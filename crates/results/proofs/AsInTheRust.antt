@@ -8,7 +8,7 @@ use Rattle.base.proofs.order.Order.{Between}
 use Rattle.maps.proofs.sums.GeographicFunctions
 use Rattle.maps.proofs.field.FieldSums as Sums
 use Rattle.maps.proofs.field.Legendre
-use Rattle.results.specs.AsInTheRust.{Report340, SixSeries, PointSeries, FigureSeries, MapSeries, FilledClosed, FilledAt, PastEnd, InHarmonic, HourAt, HourElsewhere, EveryWord, EntryInside, EntriesApart, TableEntry, CofionEntry, HmymEntry, FakmapEntry, MapsShaped, PFilled, DpFilled, FieldSums, MagfinArrays, CtGauss, PathCount, LongFive, RowsPast, ClockRange, PointClock, ShownClock, Clock24Stays, Clock0Becomes24, ClockMinus0Becomes24, CngtimSettled, ZeroLeaves, ExactZero, EveryMoved, EveryTimes, EveryLocal, Known, CutShort, LastWrong, PartsMeet, PartsEnd, LineEntry, AbmapEntry, RowGmlat, SignMinusZero, SignNan}
+use Rattle.results.specs.AsInTheRust.{Report340, SixSeries, PointSeries, FigureSeries, MapSeries, FilledClosed, FilledAt, PastEnd, InHarmonic, HourAt, HourElsewhere, EveryWord, EntryInside, EntriesApart, TableEntry, CofionEntry, HmymEntry, FakmapEntry, MapsShaped, PFilled, DpFilled, FieldSums, MagfinArrays, CtGauss, PathCount, LongFive, RowsPast, ClockRange, PointClock, ShownClock, Clock24Stays, Clock0Becomes24, ClockMinus0Becomes24, CngtimSettled, ZeroLeaves, ExactZero, EveryMoved, EveryTimes, EveryLocal, Known, CutShort, LastWrong, PartsMeet, PartsEnd, LineEntry, AbmapEntry, RowGmlat, SignMinusZero, SignNan, RunsMeet, RunsEnd}
 use Rattle.results.proofs.series.Report340 as Series
 use Rattle.results.proofs.series.FigureSeries as Figured
 use Rattle.results.proofs.series.DailySeries
@@ -55,6 +55,12 @@ past-end = GeographicFunctions.past-end
 
 pub in-harmonic : InHarmonic
 in-harmonic = GeographicFunctions.in-harmonic
+
+pub runs-meet : RunsMeet
+runs-meet = DailySeries.runs-meet
+
+pub runs-end : RunsEnd
+runs-end = DailySeries.runs-end
 
 pub parts-meet : PartsMeet
 parts-meet = DailySeries.parts-meet

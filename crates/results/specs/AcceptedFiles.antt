@@ -90,7 +90,8 @@ pub data FileAnswer : Verdict → Type 0 where
 abbrev pub FileAnswers : Type 0
 FileAnswers = (s : List ℕ) → FileAnswer (monthFileCheck s)
 
--- A good file cut to n bytes is refused by 9 at the last multiple of four, where the walk stops.
+-- A good file cut to n bytes, fewer than 38,552, is refused by 9 at the last multiple of four up to
+-- n, where the walk stops.
 abbrev pub CutAnywhere : Type 0
 CutAnywhere =
     (s : List ℕ) (n : ℕ) → WellMarked s → n < monthFileSize → monthFileCheck (take n s) ≡ Refused (Ended (n / 4 * 4))
@@ -122,16 +123,17 @@ IndexRefused =
     (indexCheck month ≡ Refused (Index place) → LowestBad month place)
     × (LowestBad month place → indexCheck month ≡ Refused (Index place))
 
--- `virtim` reads the row j of the map k up to the harmonic h: `cof[isubc]`, the last of them, lies
--- in the map's own run of COFION and so in COFION; and `ab[isuba - 1]` lies in the map's own part
--- of AB and so in AB
+-- `virtim` reads the row j of the map k up to the harmonic h: the last of them, `cof[isubc]` or for
+-- h = 0 `cof[isubb - 1]`, lies in the map's own run of COFION and so in COFION; and `ab[isuba - 1]`
+-- lies in the map's own part of AB and so in AB
 pub record RowInside (k j h : ℕ) : Type 0 where
   pub own : getD IA k 0 - 1 + j * getD IB k 0 + 2 * h < getD IA k 0 - 1 + getD rows k 0 * getD IB k 0
   pub all : getD IA k 0 - 1 + j * getD IB k 0 + 2 * h < 2604
   pub own-result : getD IC k 0 - 1 + j < getD IC k 0 - 1 + getD rows k 0
   pub result : getD IC k 0 - 1 + j < 318
 
--- Of a table that passes every row up to word 8 and every harmonic up to word 9 is inside.
+-- Of a table that passes, for every row up to word 8 and every harmonic up to word 9, what `virtim`
+-- reads lies in the map's own run of COFION and what it writes in the map's own part of AB.
 abbrev pub VirtimInside : Type 0
 VirtimInside =
     (month : List ℕ) → indexCheck month ≡ Accepted → (k : ℕ) → k < 6 →
@@ -162,7 +164,8 @@ FilesAccepted = filesCheck goodRecord goodMonthFile ≡ Accepted
 abbrev pub FileOfBytes : Type 0
 FileOfBytes = Below 256 goodMonthFile
 
--- Over these files `figures`, which judges no field, answers any inputs with their points.
+-- Over these files `figures`, which judges no field, answers any inputs with the number of their
+-- points.
 abbrev pub SheetShown : Type 0
 SheetShown = (x : Inputs) → shownOf goodRecord goodMonthFile x ≡ Points (sheetPath x .count)
 

@@ -47,7 +47,7 @@ use Rattle.maps.specs.Series.{omegaOf}
 use Rattle.maps.specs.Ionosphere.{hourMapsOf, gammasAt}
 use Rattle.maps.specs.Magnetic.{o, HC, CT, entry, clampedPlace, pOf, dpOf, bvOf, bnOf, bphiOf, magfinOf, eastOf, magvarOf, at7, placedOf, State, state, degreeOf, expansionOf}
 use Rattle.maps.specs.Geometry.{absent, nowhere, pathOf, signOf, geomagneticOf}
-use Rattle.maps.specs.Layers.{clockOf}
+use Rattle.maps.specs.Layers.{clockOf, gamma6Of}
 use Rattle.maps.specs.Figures.{hourOf, sheetPath, figuresOf}
 use Rattle.maps.specs.Clocks.{thetaOf, afterShift, forLoop, wraps, cngtimOf, movedOf, timesOf, localTimeOf}
 use Rattle.worksheet.specs.declared.desks.Worksheet.{Worksheet}
@@ -63,7 +63,8 @@ omegaFrom f2 month ssn gmt clg gob k x =
     omegaOf (coefficientOf f2 month ssn k) (λ i. wordAt month (entryPlace ikim i k 0)) gmt x clg gob
 
 -- Of a month file that passes the index check, what `versy` gives for each of the six maps from
--- what `virtim` left of the files at the hour is the map's Omega.
+-- what `virtim` left of the files at the hour is the map's Omega, the series of CCIR Report 340
+-- (crates/maps/specs/Series.antt) over the blended entries of its table.
 abbrev pub Report340 : Type 0
 Report340 =
     (f2 month : List ℕ) (ssn gmt x clg gob : Float) → indexCheck month ≡ Accepted → (k : ℕ) → k < 6 →
@@ -105,8 +106,10 @@ PointSeries =
     ≡
     atDipAndLatitude omega dip lat
 
--- So the figures of a point p that is there: its `f2m3` is Omega of the fifth map, and its `fs` are
--- those of the third, the second and the first, each times the Es factor.
+-- So the figures of a point p that is there: its fi[0] is Omega of the sixth map, or the midnight
+-- value where that is below 0.36, times the E factor; its fi[2] Omega of the fourth and half the
+-- gyrofrequency, times the F2 factor; its `f2m3` Omega of the fifth; and its `fs` are those of the
+-- third, the second and the first, each times the Es factor.
 abbrev pub FigureSeries : Type 0
 FigureSeries =
     (f2 file : List ℕ) (i : Inputs) → indexCheck file ≡ Accepted → (p : ℕ) → 1 ≤ p → p ≤ sheetPath i .count →
@@ -114,7 +117,9 @@ FigureSeries =
     let pt = getD (sheetPath i .points) (p - 1) nowhere in
     let omega = omegaFrom f2 file (i .ssn) (i .gmt) (eastOf (pt .lon) .0) (cos32Of (pt .lat .0)) in
     let dip = magvarOf (pt .lat) (pt .lon) .gmdip .0 in
-    (figure 16 ≡ omega 4 dip)
+    (figure 7 ≡ gamma6Of (omega 5 (pt .lat .0)) (i .ssn) ⊗ i .psc .e)
+    × (figure 9 ≡ (omega 3 dip ⊕ decimal 5 1 ⊗ figure 4) ⊗ i .psc .f2)
+    × (figure 16 ≡ omega 4 dip)
     × (figure 23 ≡ omega 2 dip ⊗ i .psc .es)
     × (figure 24 ≡ omega 1 dip ⊗ i .psc .es)
     × (figure 25 ≡ omega 0 dip ⊗ i .psc .es)
@@ -155,8 +160,15 @@ InHarmonic =
     (w : ℕ → ℕ) (sx gob clg : Float) → Climbs w 8 0 → (j k : ℕ) → j < 8 → Reaches w j → w j < k → k ≤ w (j + 1) →
     geographicOf w sx gob clg k ≡ harmonicOf sx gob clg (j + 1) (k - w j - 1)
 
--- IC packs the rows of the six maps as IA does their coefficients: where those of a map end, the
--- next begin,
+-- IA packs the coefficients of the six maps: where the run of a map ends, the next begins,
+abbrev pub RunsMeet : Type 0
+RunsMeet = (k : ℕ) → k < 5 → getD IA (k + 1) 0 ≡ getD IA k 0 + getD rows k 0 * getD IB k 0
+
+-- and the last ends where COFION does, counted from 1.
+abbrev pub RunsEnd : Type 0
+RunsEnd = getD IA 5 0 + getD rows 5 0 * getD IB 5 0 ≡ 2604 + 1
+
+-- IC packs their rows: where those of a map end, the next begin,
 abbrev pub PartsMeet : Type 0
 PartsMeet = (k : ℕ) → k < 5 → getD IC (k + 1) 0 ≡ getD IC k 0 + getD rows k 0
 
@@ -272,8 +284,8 @@ abbrev pub fieldStart : State Field
 fieldStart =
     state (set (replicate 49 o) 0 (decimal 10 1)) (replicate 49 o) (record { bv = o; bn = o; bphi = o })
 
--- After the degree n the array p of the loops holds Legendre's functions, which are recurrences in
--- (n, m), and 0 where it is never written.
+-- After the degree n the Rust's array p holds Legendre's functions, by their recurrences in (n, m),
+-- and 0 at every place that has not been written by then.
 abbrev pub PFilled : Type 0
 PFilled =
     (x : Place) (n : ℕ) → n ≤ 6 →
@@ -312,8 +324,9 @@ pub record GaussFactor (n m : ℕ) : Type 0 where
   pub low : 10 ^ 8 * ((n - 1) * (n - 1) - m * m) < (digits + 1) * ((2 * n - 1) * (2 * n - 3))
   pub high : digits * ((2 * n - 1) * (2 * n - 3)) < 10 ^ 8 * ((n - 1) * (n - 1) - m * m) + (2 * n - 1) * (2 * n - 3)
 
--- For every n from 2 to 6 and m below n the entry CT[n][m] is Gauss's factor to its eight digits
--- (`GaussFactor`).
+-- For every n from 2 to 6 and m below n, CT[n][m] is the f32 nearest to a decimal of eight places
+-- that is less than one unit of the eighth from Gauss's factor ((n - 1)² - m²) / ((2 n - 1) (2 n -
+-- 3)).
 abbrev pub CtGauss : Type 0
 CtGauss = (n m : ℕ) → 2 ≤ n → n ≤ 6 → m < n → GaussFactor n m
 
@@ -325,7 +338,8 @@ pub data CountRule (km : Float) : ℕ → Type 0 where
   three : le km (decimal 200001 2) ≡ false → le km (decimal 40000 1) ≡ true → CountRule km 3
   five : le km (decimal 200001 2) ≡ false → le km (decimal 40000 1) ≡ false → CountRule km 5
 
--- Every path has as many points as the rule gives for its `gcd_km`.
+-- Every path has as many points as its `gcd_km` gives: '<= 2000.01 (as f32) .. one point, <= 4000
+-- three, else five'.
 abbrev pub PathCount : Type 0
 PathCount =
     (tlat tlong rlat rlong : Degrees) (long : Bool) (pole : MagneticPole) →
@@ -374,7 +388,7 @@ ClockRange =
     (gmt : Float) (lon : Radians) → T (isTo (decimal 0 1) (decimal 240 1) gmt) →
     T (isTo (neg (PI2 ⊖ PI)) (PI2 ⊖ PI) (lon .0)) → OnClock (clockOf gmt lon)
 
--- So at each of the five rows of a path whose ends are in range.
+-- So, for such an hour, at each of the five rows of a path whose ends are in range.
 abbrev pub PointClock : Type 0
 PointClock =
     (tlat tlong rlat rlong : Degrees) →
@@ -435,8 +449,9 @@ pub record Settled (time : Float) (x : Degrees) (isw : Direction) : Type 0 where
   pub day : InDay (cngtimOf time x isw .time)
   pub change : DayChange (cngtimOf time x isw .day)
 
--- For a time from 0 to 24 and a longitude of at most 181 degrees either way the Rust's loop is done
--- after at most one turn, the time is from 0 to 24 and the day change -1, 0 or 1 (`Settled`).
+-- For a time from 0 to 24 and a longitude of at most 181 degrees either way, more turns of CNGTIM's
+-- loop than one change nothing, and the answer is a time from 0 to 24 with the day change -1, 0 or
+-- 1.
 abbrev pub CngtimSettled : Type 0
 CngtimSettled =
     (time : Float) (x : Degrees) (isw : Direction) → T (isTo (decimal 0 1) (decimal 240 1) time) →

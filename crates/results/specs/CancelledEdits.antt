@@ -21,7 +21,7 @@ use Rattle.jutetrowel.specs.Words.{worksheetOf, wordsAfter}
 use Rattle.jutetrowel.specs.Calls.{CallsSingles, Demand3Over}
 use Rattle.results.specs.Insurer.{DesksClosed}
 
--- ---- DEMAND 3: 'every call kept answers alike in both, each showing's whole figures included, and
+-- ---- demand 3: 'every call kept answers alike in both, each showing's whole figures included, and
 -- after both the inputs and the earlier set are equal, bit for bit'
 
 -- Of every list of calls on a worksheet that opens, refused calls included, with one record and one
@@ -50,7 +50,7 @@ DemandThreeOverLent =
     (source : Source) (l : List ℕ) → DesksClosed (worksheetOf l) → (cs : List Call) → CallsSingles cs →
     Demand3Over source l cs
 
--- ---- DEMAND 3: 'form the shorter list: the accepted commits and take-backs and the worksheet's
+-- ---- demand 3: 'form the shorter list: the accepted commits and take-backs and the worksheet's
 -- showings, in their order, each such commit with its own begin, accepted changes and showings
 -- moved up just before it'
 
@@ -75,7 +75,7 @@ abbrev pub NothingElse : Type 0
 NothingElse =
     (full : List Entry) (y : Entry) → List·Memᴰ y (shorter [] full) → (keptByItself y ≡ true) ⊎ OwnCall full y
 
--- ---- DEMAND 1: 'A refusal changes neither worksheet nor lent buffer'
+-- ---- demand 1: 'A refusal changes neither worksheet nor lent buffer'
 
 -- A call that is refused leaves the worksheet, whatever the call
 abbrev pub RefusedSheet : Type 0

@@ -23,7 +23,7 @@ use Rattle.jutetrowel.specs.Answers.{answerOf, showingOf}
 use Rattle.jutetrowel.specs.Words.{worksheetOf, sheetWords, SheetSingles}
 use Rattle.jutetrowel.specs.Calls.{CallsSingles, entriesOver, wordsOver}
 
--- ---- DEMAND 3, 'bit for bit': fields cross to words and back. f k is the word of field k, counted
+-- ---- demand 3, 'bit for bit': fields cross to words and back. f k is the word of field k, counted
 -- from 0
 
 -- Fields written as 14 words and read again are the same fields, if their numbers are values of an
@@ -46,7 +46,7 @@ WordsBack =
     (f : ℕ → ℕ) → ((k : ℕ) → k < 14 → (k ≡ 0 → ⊥) → (k ≡ 7 → ⊥) → WrittenWord (f k)) →
     fieldWords (inputsFrom f) ≡ wordsTo f
 
--- ---- DEMAND 1: 'either does its work or refuses by a number of document 01'
+-- ---- demand 1: 'either does its work or refuses by a number of document 01'
 
 -- Where a call that answers by number and place alone (`answerOf`) hands back the number 0, nothing
 -- was refused
@@ -57,7 +57,7 @@ AcceptedNumber = (v : Verdict) → answerOf v .number ≡ 0 → v ≡ Accepted
 abbrev pub ShownNumber : Type 0
 ShownNumber = (x : Shown) → showingOf x .number ≡ 0 → x ≡ Points (showingOf x .points)
 
--- ---- DEMAND 3 of the library's calls rests on this
+-- ---- demand 3 of the library's calls rests on this
 
 -- A worksheet written as 90 words and read is the same worksheet, if its numbers are values of an
 -- f32

@@ -46,7 +46,8 @@ codeTerms =
     ∷ 0x3fa47ae147ae147b ∷ 0x3fa2f684bda12f68 ∷ 0x3fa1a7b9611a7b96 ∷ 0x3fa0842108421084 ∷ [])
     ∷ []
 
--- Each of these 54 coefficients is the f64 nearest to its fraction.
+-- Each of the 54 coefficients in the code's five tables (`codeTerms`, as bits) is the f64 nearest
+-- to its fraction.
 abbrev pub Tied : Type 0
 Tied = map (map (ofBits binary64)) codeTerms ≡ sinTerms ∷ cosTerms ∷ atanTerms ∷ expTerms ∷ lnTerms ∷ []
 

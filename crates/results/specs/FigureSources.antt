@@ -20,7 +20,7 @@ use Rattle.maps.specs.Figures.{hourOf, headOf, pointRow, figureRow, sheetPath, 
 use Rattle.results.specs.LaterBytes.{Alike}
 use Rattle.results.specs.SamePaths.{SamePath, SameEnd, SamePole, SameWork}
 
--- ---- DEMAND 2: 'a buffer left as lent' fails: accepted, the whole buffer is written. That the
+-- ---- demand 2: 'a buffer left as lent' fails: accepted, the whole buffer is written. That the
 -- figures are neither blank nor always the same is their definition, `figuresOf`
 
 -- Where the files pass their checks, the buffer is the figures, whatever it held
@@ -35,7 +35,7 @@ SameFigures =
     (f2 file : List ℕ) (i : Inputs) (b c : List Float) → filesCheck f2 file ≡ Accepted →
     figuresBuffer f2 file i b ≡ figuresBuffer f2 file i c
 
--- ---- DEMAND 1: 'A refusal changes neither worksheet nor lent buffer'
+-- ---- demand 1: 'A refusal changes neither worksheet nor lent buffer'
 
 -- Where the files are refused, the buffer stays as it was
 abbrev pub NoneWritten : Type 0
@@ -49,7 +49,7 @@ RefusedLeft =
     (f2 file : List ℕ) (i : Inputs) (b : List Float) (why : Refusal) → shownOf f2 file i ≡ NotShown why →
     figuresBuffer f2 file i b ≡ b
 
--- ---- THE INSURER'S QUESTION: from the first 7,904 bytes of the record and the first 38,552 of the
+-- ---- the insurer's question: from the first 7,904 bytes of the record and the first 38,552 of the
 -- month file alone; document 01: 'later bytes are ignored'
 
 -- Two pairs of files that have those bytes, and the same ones, give the same figures
@@ -86,7 +86,7 @@ LaterMonthFigures = (s t : List ℕ) → Alike 38552 s t → (f : List ℕ) (i :
 abbrev pub LaterMonthAnswer : Type 0
 LaterMonthAnswer = (s t : List ℕ) → Alike 38552 s t → (f : List ℕ) (i : Inputs) → shownOf f s i ≡ shownOf f t i
 
--- ---- DEMAND 2: 'First `gcd`, `gcd_km`, `btr`, `brt`, `rlatd`, `alatd`; then 29 numbers for each
+-- ---- demand 2: 'First `gcd`, `gcd_km`, `btr`, `brt`, `rlatd`, `alatd`; then 29 numbers for each
 -- of five points'. Places and k are counted from 0, points from 1
 
 -- The path's six figures stand at the places 0 to 5
@@ -115,7 +115,7 @@ AbsentAt =
     (f2 file : List ℕ) (i : Inputs) (p k : ℕ) → sheetPath i .count < p → p ≤ 5 → k < 29 →
     getD (figuresOf f2 file i) (6 + 29 * (p - 1) + k) nan ≡ decimal 0 1
 
--- ---- THE INSURER'S QUESTION: what of the inputs the path and the ground come from
+-- ---- the insurer's question: what of the inputs the path and the ground come from
 
 -- Two sheets with one route have the same six figures of the path, whatever their other fields, the
 -- pole too
@@ -140,7 +140,7 @@ PoleOnly =
     (tlat tlong rlat rlong : Degrees) (long : Bool) (p q : MagneticPole) →
     SamePath (pathOf tlat tlong rlat rlong long p) (pathOf tlat tlong rlat rlong long q)
 
--- ---- DEMAND 2: 'Degrees as typed and radians as worked meet only through D2R and R2D'
+-- ---- demand 2: 'Degrees as typed and radians as worked meet only through D2R and R2D'
 
 -- Two routes whose ends are the same in radians and in the test at 89.9 degrees, the receiver taken
 -- where it was moved off its transmitter, with poles the same in radians, have the same path but

@@ -73,8 +73,8 @@ pub record FieldsInRange (i : Inputs) : Type 0 where
   pub f2 : T (isTo (decimal 125 3) (decimal 8 0) (i .psc .f2))
   pub es : T (isTo (decimal 125 3) (decimal 8 0) (i .psc .es))
 
--- the tables of the month file that figures read: `xfm3cf`, and `anew` to `xercof` (a number above
--- 20 has no words)
+-- the tables of the month file that figures read numbers from: `xfm3cf`, and `anew` to `xercof`
+-- (`ikim`, which they read too, has whole numbers; a number above 20 has no words)
 abbrev pub isRead : ℕ → Bool
 isRead table = cond (eqb table xfm3cf) true (leb anew table)
 
@@ -84,8 +84,8 @@ pub record Bounded (f2 file : List ℕ) : Type 0 where
   pub inMonth :
       (table n : ℕ) → T (isRead table) → n < wordsOf table → UpToPower 16 (floatAt file (startOf table + 4 * n))
 
--- what the layers need: every field but the month in range, an index table that passes, and bounded
--- words
+-- what the layers need: every field but the month and the flag in range, an index table that
+-- passes, and bounded words
 pub record SoundSheet (f2 file : List ℕ) (i : Inputs) : Type 0 where
   pub route : RouteInRange i
   pub fields : FieldsInRange i
@@ -151,7 +151,8 @@ PointNumbers =
     (f2 file : List ℕ) (i : Inputs) (p k : ℕ) → PointThere i p → k < 29 →
     pointNumber f2 file i p k ≡ getD (sheetRow f2 file i p) k nan
 
--- Inputs that the worksheet accepts have every field in range.
+-- Inputs that the worksheet accepts have every field in range, but for the flag, of which nothing
+-- is said here.
 abbrev pub AcceptedInRange : Type 0
 AcceptedInRange = (i : Inputs) → inputsCheck i ≡ Accepted → RouteInRange i × FieldsInRange i × T (isMonth (i .month))
 
@@ -232,8 +233,10 @@ pub record SoundFiles (i : Inputs) : Type 0 where
   pub accepted : filesCheck f2 file ≡ Accepted
   pub sound : SoundSheet f2 file i
 
--- For all inputs whose fields are in range there are files that the checks accept, and with which
--- the sheet is sound (`SoundFiles`).
+-- A sheet is sound if every field but month and flag is in range, the index table passes, and each
+-- number that figures read from the files is at most 65,536 in size. For all inputs with those
+-- fields in range there are files that the checks accept, and with which the sheet is sound
+-- (`SoundFiles`).
 abbrev pub SoundSheets : Type 0
 SoundSheets = (i : Inputs) → RouteInRange i → FieldsInRange i → SoundFiles i
 
@@ -298,8 +301,12 @@ pub record LayerFigures (c : Float) (l : LayerParams) : Type 0 where
   pub hi2 : FactorClear l → F1Clear l → UpToPower 126 (getD (l .hi) 2 nan)
   pub yi2 : CosineClear c → FactorClear l → F1Clear l → UpToPower 126 (getD (l .yi) 2 nan)
 
--- Of each figure of the layers at every point of a sound sheet: which are finite, and under which
--- condition the others (`LayerFigures`).
+-- At every point that is there of a sound sheet (`LayerFigures`): `clck`, `zenmax`, the three fi
+-- and f2m3 are finite, and `hpf2` and `abiy` are no NaN. Where the zenith angle's cosine is at most
+-- 1 in size, `zenang` is from 0 to 230 degrees and `rat` from 1 to 2 ^ 111. Where f2m3 is 2 ^ -60
+-- at least in size, `hpf2` is finite; where besides fi[1] is 2 ^ -40 at least or not above 0, so
+-- are yi[1], hi[1] and hi[2], and with that cosine yi[2]. Where fi[0] is at most 56 MHz, `abiy` is
+-- finite.
 abbrev pub SheetLayers : Type 0
 SheetLayers =
     (f2 file : List ℕ) (i : Inputs) (p : ℕ) → SoundSheet f2 file i → PointThere i p →
@@ -312,7 +319,9 @@ pub record Ordinary (c : Float) (l : LayerParams) : Type 0 where
   pub f1 : F1Clear l
   pub e : EClear l
 
--- All 29 numbers of an ordinary point are finite.
+-- Where all four conditions hold (that cosine at most 1 in size, f2m3 2 ^ -60 at least in size,
+-- fi[1] 2 ^ -40 at least or not above 0, fi[0] at most 56 MHz), all 29 numbers of the point are
+-- finite.
 abbrev pub SheetFinite : Type 0
 SheetFinite =
     (f2 file : List ℕ) (i : Inputs) (p : ℕ) → SoundSheet f2 file i → PointThere i p →
@@ -320,8 +329,8 @@ SheetFinite =
 
 -- ---- demand 2, where a figure is NaN or infinite
 
--- Whatever inputs and files: where the cosine is a number of at most 1 in size, `zenang` is from 0
--- to 230 degrees.
+-- Whatever inputs and files: where the cosine whose arc cosine the zenith angle is (`sheetCosine`)
+-- is a number of at most 1 in size, `zenang` is from 0 to 230 degrees.
 abbrev pub ZenangRange : Type 0
 ZenangRange =
     (f2 file : List ℕ) (i : Inputs) (p : ℕ) → CosineClear (sheetCosine i p) →
@@ -340,8 +349,8 @@ NoneBeyond =
     (f2 file : List ℕ) (i : Inputs) (p : ℕ) → EndsInRange i → HourInRange i → T (isMonth (i .month)) →
     PointThere i p → sheetLayers f2 file i p .zenang .0 ≡ nan → T (lt (fraction 1 1) (absOf (sheetCosine i p)))
 
--- It happens: there is no zenith angle at any point of longitude 0 and latitude -14.83 degrees, in
--- April at hour 0, whatever the rest.
+-- It happens at a point that is given: of longitude +0 and latitude -14.83 degrees (times D2R), in
+-- April at hour 0, `zenang` is NaN, whatever the rest. That a route has this point is not stated.
 abbrev pub ZenangExample : Type 0
 ZenangExample =
     (file : List ℕ) (ssn : Float) (psc : Factors) (hmym : List Float)
@@ -390,8 +399,8 @@ pub record NoSun (l : LayerParams) : Type 0 where
   pub yi1 : getD (l .yi) 1 nan ≡ decimal 0 1
   pub hi1 : getD (l .hi) 1 nan ≡ decimal 0 1
 
--- A month out of 1 to 12 gives layers without zenith angle, height ratio and F1 (`NoSun`), of all
--- other arguments,
+-- A month out of 1 to 12 gives, of all other arguments, layers whose `zenang`, `rat` and yi[2] are
+-- NaN and which have no F1: fi[1] is the lesser of 0.0 and fi[2] - 0.2, yi[1] and hi[1] are 0.0,
 abbrev pub NoSunLayers : Type 0
 NoSunLayers =
     (file : List ℕ) (month : ℕ) (ssn gmt : Float) (psc : Factors) (hmym : List Float)
@@ -408,6 +417,7 @@ NoSunRow =
 -- ---- left open
 
 -- Whether that cosine can come out above +1: none was found. Whether `abiy` is finite for an E
--- frequency above 56 MHz, what the layers are for an f2m3 nearer to 0 than 2 ^ -60 or an fi[1]
--- above 0 and below 2 ^ -40, and the best bounds. No ordinary point is exhibited by proof: in the
--- files of `sound-sheets` the words that figures read are all zero.
+-- frequency above 56 MHz; what `hpf2` (but at 0), yi[1], yi[2], hi[1] and hi[2] are for an f2m3
+-- nearer to 0 than 2 ^ -60, what the last four are for an fi[1] above 0 and below 2 ^ -40, and the
+-- best bounds. No ordinary point is exhibited by proof: in the files of `sound-sheets` the numbers
+-- that figures read, all but the index table, are zero.

@@ -40,7 +40,7 @@ pub record DesksClosed (w : Worksheet) : Type 0 where
   pub d3 : w .d3 ≡ Closed
   pub d4 : w .d4 ≡ Closed
 
--- ---- THE INSURER'S QUESTION: 'that its layer heights, its critical frequencies and its ground all
+-- ---- the insurer's question: 'that its layer heights, its critical frequencies and its ground all
 -- came from one sunspot number, one hour and one route, and from no edit that somebody had
 -- cancelled'
 
@@ -140,8 +140,9 @@ InsurersSentenceOver =
 -- ---- 'from no edit that somebody had cancelled', of every worksheet whose desks are closed at the
 -- start
 
--- A change in force was accepted between an accepted begin of its desk and that desk's accepted commit; between them nobody committed or took
--- back, nor was the draft cancelled or begun anew; and the commit was not taken back
+-- A change in force was accepted between an accepted begin of its desk and that desk's accepted
+-- commit; between them nobody committed or took back, nor was the draft cancelled or begun anew;
+-- and the commit was not taken back
 abbrev pub ChangeNeverCancelled : Type 0
 ChangeNeverCancelled =
     (source : Source) (w : Worksheet) → DesksClosed w → (cs : List Call) (e : Edit) →

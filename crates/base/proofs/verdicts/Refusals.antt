@@ -1,5 +1,5 @@
--- No answer is both a refusal and an acceptance, and what follows for two checks and for a test;
--- a check's answer reports 0 exactly when nothing is refused, since every refusal has a number above
+-- No answer is both a refusal and an acceptance, and what follows for two checks and for a test; a
+-- check's answer reports 0 exactly when nothing is refused, since every refusal has a number above
 -- 0. Assumes nothing.
 use mathlib.Core.Bool.{Bool, true, false}
 use mathlib.Core.Path.{_≡_, refl, sym, ap, _∙_}

@@ -139,7 +139,8 @@ module _ (tlat tlong rlat rlong : Degrees) (a : Typed tlat tlong) (b : Typed rla
         alatd = alatd-finite _ points-located;
       }
 
--- ---- whatever the pole, which enters nothing but the geomagnetic latitudes: the built-in one is in
+-- ---- whatever the pole, which enters nothing but the geomagnetic latitudes: the built-in one is
+-- in
 -- range
 abbrev builtIn : MagneticPole
 builtIn = record { lat = record { 0 = poleLat }; lon = record { 0 = poleLon } }

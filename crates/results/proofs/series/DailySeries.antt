@@ -44,7 +44,23 @@ daily-same v u u' (suc n) e =
     let b = e (2 * n + 2) (omega arith) in
     λ t. p t ⊕ v n .s ⊗ a t ⊕ v n .c ⊗ b t
 
--- ---- the parts of AB
+-- ---- the runs of COFION and the parts of AB
+
+-- where the coefficients of a map end, those of the next begin
+pub runs-meet : (k : ℕ) → k < 5 → getD IA (k + 1) 0 ≡ getD IA k 0 + getD rows k 0 * getD IB k 0
+runs-meet k h =
+    six (λ k. k < 5 → getD IA (k + 1) 0 ≡ getD IA k 0 + getD rows k 0 * getD IB k 0)
+    (λ l. refl)
+    (λ l. refl)
+    (λ l. refl)
+    (λ l. refl)
+    (λ l. refl)
+    (λ l. absurd (omega arith))
+    k (omega arith) h
+
+-- and those of the last end where COFION does
+pub runs-end : getD IA 5 0 + getD rows 5 0 * getD IB 5 0 ≡ 2604 + 1
+runs-end = refl
 
 -- where the rows of a map end, those of the next begin
 pub parts-meet : (k : ℕ) → k < 5 → getD IC (k + 1) 0 ≡ getD IC k 0 + getD rows k 0
