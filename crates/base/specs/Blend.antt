@@ -5,9 +5,9 @@ use lib.ListN.{getD}
 use lib.Ieee.{Float}
 use Rattle.base.specs.declared.blend.Weights.{Weights}
 use Rattle.base.specs.Single.{_⊕_, _⊖_, _⊗_, _⊘_, decimal}
-use Rattle.base.specs.Fill.{run}
+use Rattle.base.specs.Fill.{tabulate}
 use Rattle.base.specs.Words.{floatAt}
-use Rattle.base.specs.Tables.{placeOf, wordsOf, planeOf, holding, entryPlace, xf2cof, fakmap, xfm3cf, xesmcf, xpmap, xeslcf, xesucf, xercof}
+use Rattle.base.specs.Tables.{startOf, wordsOf, planeOf, holding, entryPlace, xf2cof, fakmap, xfm3cf, xesmcf, xpmap, xeslcf, xesucf, xercof}
 
 -- ---- the blend
 
@@ -35,7 +35,7 @@ blendAt file at width w i = blendOf w (floatAt file (at + 4 * i)) (floatAt file 
 
 -- the two planes of a table, blended; the file is the one that holds it
 abbrev pub blendTable : ℕ → Weights → List ℕ → List Float
-blendTable number w file = run (blendAt file (placeOf number) (planeOf number) w) (planeOf number)
+blendTable number w file = tabulate (blendAt file (startOf number) (planeOf number) w) (planeOf number)
 
 unfoldable pub eslcofOf : List ℕ → Float → List Float
 eslcofOf month s = blendTable xeslcf (eWeights s) month
@@ -60,7 +60,7 @@ hmymOf month s = blendTable xpmap (heightWeights s) month
 
 -- the land map has one plane, and nothing is blended
 unfoldable pub fakmapOf : List ℕ → List Float
-fakmapOf month = run (λ i. floatAt month (placeOf fakmap + 4 * i)) (wordsOf fakmap)
+fakmapOf month = tabulate (λ i. floatAt month (startOf fakmap + 4 * i)) (wordsOf fakmap)
 
 -- `cofion`: the six maps one after the other
 abbrev pub cofionMaps : List ℕ → List ℕ → Float → List (List Float)
@@ -104,7 +104,8 @@ mapTables = xeslcf ∷ xesmcf ∷ xesucf ∷ xf2cof ∷ xfm3cf ∷ xercof ∷ []
 abbrev pub mapWeights : Float → List Weights
 mapWeights s = eWeights s ∷ eWeights s ∷ eWeights s ∷ f2Weights s ∷ f2Weights s ∷ eWeights s ∷ []
 
--- the coefficient i of the row j of the map k, counted from 0: the entries [0][j][i] and [1][j][i] of its table, blended
+-- the coefficient i of the row j of the map k, counted from 0: the entries [0][j][i] and [1][j][i]
+-- of its table, blended
 unfoldable pub coefficientOf : List ℕ → List ℕ → Float → ℕ → ℕ → ℕ → Float
 coefficientOf f2 month s k i j =
     let number = getD mapTables k 0 in

@@ -1,4 +1,5 @@
--- Document 01, Elementary steps: worked in f64, every operation rounded once, in the order written. Assumes nothing.
+-- Document 01, Elementary steps: worked in f64, every operation rounded once, in the order written.
+-- Assumes nothing.
 use mathlib.Core.Bool.{true, false, cond}
 use mathlib.Core.List.{List, [], _∷_, map}
 use Prim.Native.Nat.{ℕ, zero, suc, _+_, _-_, _*_, _%_, _^_}
@@ -19,8 +20,8 @@ unfoldable pub quarterOf : Float → ℕ
 quarterOf n = let k = toUnsigned 64 (absOf n) % 4 in cond (negative n) ((4 - k) % 4) k
 
 -- 2^n
-unfoldable pub powerOf : Float → Float
-powerOf n = let k = toUnsigned 64 (absOf n) in cond (negative n) (fraction 1 (2 ^ k)) (fraction (2 ^ k) 1)
+unfoldable pub powerOfTwo : Float → Float
+powerOfTwo n = let k = toUnsigned 64 (absOf n) in cond (negative n) (fraction 1 (2 ^ k)) (fraction (2 ^ k) 1)
 
 -- ---- Horner: starts at the highest term; a coefficient is the f64 nearest its fraction
 
@@ -127,7 +128,10 @@ atanOf v = withSign v (atanFrom (absOf v))
 
 -- NaN beyond 1 in size, else 2 × atan(sqrt((1 - v)/(1 + v)))
 unfoldable pub acosOf : Float → Float
-acosOf v = cond (le (absOf v) (fraction 1 1)) (fraction 2 1 ⊗ atanOf (sqrtOf binary64 ((fraction 1 1 ⊖ v) ⊘ (fraction 1 1 ⊕ v)))) nan
+acosOf v =
+    cond (le (absOf v) (fraction 1 1))
+    (fraction 2 1 ⊗ atanOf (sqrtOf binary64 ((fraction 1 1 ⊖ v) ⊘ (fraction 1 1 ⊕ v))))
+    nan
 
 -- ---- exp, ln
 
@@ -136,7 +140,7 @@ ln2 = fraction 6931471805599453 (10 ^ 16)
 
 -- n = near(v × 1.4426950408889634), r = v - n × 0.6931471805599453; Horner, times 2^n
 unfoldable pub expWithin : Float → Float
-expWithin v = let n = nearOf (v ⊗ fraction 14426950408889634 (10 ^ 16)) in horner expTerms (v ⊖ n ⊗ ln2) ⊗ powerOf n
+expWithin v = let n = nearOf (v ⊗ fraction 14426950408889634 (10 ^ 16)) in horner expTerms (v ⊖ n ⊗ ln2) ⊗ powerOfTwo n
 
 -- above 700 infinity, below -700 zero
 unfoldable pub expOf : Float → Float

@@ -1,4 +1,5 @@
--- A list filled from a place on with the values of a function, and those values as a list of their own. Assumes nothing.
+-- A list filled from a place on with the values of a function, and those values as a list of their
+-- own. Assumes nothing.
 use Prim.Native.Nat.{ℕ, zero, suc, _+_}
 use mathlib.Core.List.{List, [], _∷_, _++_}
 use lib.ListN.{set}
@@ -10,6 +11,6 @@ module _ {A : Type 0} where
   fill f base l (suc n) = set (fill f base l n) (base + n) (f n)
 
   -- f 0 .. f (n - 1)
-  unfoldable pub run : (ℕ → A) → ℕ → List A
-  run f zero = []
-  run f (suc n) = run f n ++ (f n ∷ [])
+  unfoldable pub tabulate : (ℕ → A) → ℕ → List A
+  tabulate f zero = []
+  tabulate f (suc n) = tabulate f n ++ (f n ∷ [])

@@ -1,4 +1,5 @@
--- Document 01, Index check, over the words of `ikim`; and what it gives to those who index by them. Assumes nothing.
+-- Document 01, Index check, over the words of `ikim`; and what it gives to those who index by them.
+-- Assumes nothing.
 use mathlib.Core.Path.{_≡_}
 use Prim.Native.Nat.{ℕ, zero, suc, _+_, _-_, _*_, _%_, _≤_, _<_}
 use mathlib.Core.Bool.{Bool, true, cond, _&&_}
@@ -10,15 +11,15 @@ use lib.Signed.{leZ, ltZ}
 use Rattle.base.specs.declared.refusal.Refusal.the-variants.{Index}
 use Rattle.base.specs.declared.refusal.Verdict.{Verdict}
 use Rattle.base.specs.declared.refusal.Verdict.the-variants.{Accepted, Refused}
-use Rattle.base.specs.Fill.{run}
+use Rattle.base.specs.Fill.{tabulate}
 use Rattle.base.specs.Words.{wordAt, integerAt}
-use Rattle.base.specs.Tables.{ikim, placeOf, wordsOf}
+use Rattle.base.specs.Tables.{ikim, startOf, wordsOf}
 
 -- ---- the words
 
 -- where the word j of the map k stands, both counted from 0: a row of `ikim` has 10 words
 abbrev pub ikimPlace : ℕ → ℕ → ℕ
-ikimPlace k j = placeOf ikim + (k * 10 + j) * 4
+ikimPlace k j = startOf ikim + (k * 10 + j) * 4
 
 -- the word as the Rust reads it, signed
 abbrev pub ikimAt : List ℕ → ℕ → ℕ → ℤ
@@ -26,7 +27,7 @@ ikimAt month k j = integerAt month (ikimPlace k j)
 
 -- the 60 words of `ikim`, unsigned
 unfoldable pub indexOf : List ℕ → List ℕ
-indexOf month = run (λ i. wordAt month (placeOf ikim + i * 4)) (wordsOf ikim)
+indexOf month = tabulate (λ i. wordAt month (startOf ikim + i * 4)) (wordsOf ikim)
 
 -- ---- the check
 
@@ -38,8 +39,8 @@ abbrev pub harmonics : List ℕ
 harmonics = 2 ∷ 3 ∷ 2 ∷ 6 ∷ 4 ∷ 4 ∷ []
 
 -- z is a to b
-abbrev pub isTo : ℕ → ℕ → ℤ → Bool
-isTo a b z = leZ (pos a) z && leZ z (pos b)
+abbrev pub isWholeTo : ℕ → ℕ → ℤ → Bool
+isWholeTo a b z = leZ (pos a) z && leZ z (pos b)
 
 abbrev pub equals : ℤ → ℤ → Bool
 equals y z = leZ y z && leZ z y
@@ -48,15 +49,17 @@ equals y z = leZ y z && leZ z y
 abbrev pub exceeds : ℤ → ℤ → Bool
 exceeds y z = ltZ y z && (eqb (natAbs (z -ℤ y) % 2) 0 && leZ z (pos 75))
 
--- n words after the word j: each exceeds the one before, 'up to the first that equals its predecessor'
+-- n words after the word j: each exceeds the one before, 'up to the first that equals its
+-- predecessor'
 unfoldable pub climbs : (ℕ → ℤ) → ℕ → ℕ → Bool
 climbs w zero j = true
 climbs w (suc n) j = cond (equals (w j) (w (j + 1))) true (exceeds (w j) (w (j + 1)) && climbs w n (j + 1))
 
--- 'word 8 is 0 to rows - 1; word 9 is 0 to the harmonics; word 0 is 1 to 75; each of words 1 to 8 ..'
+-- 'word 8 is 0 to rows - 1; word 9 is 0 to the harmonics; word 0 is 1 to 75; each of words 1 to 8
+-- ..'
 unfoldable pub goodMap : (ℕ → ℤ) → ℕ → ℕ → Bool
 goodMap w rows harmonics =
-    isTo 0 (rows - 1) (w 8) && (isTo 0 harmonics (w 9) && (isTo 1 75 (w 0) && climbs w 8 0))
+    isWholeTo 0 (rows - 1) (w 8) && (isWholeTo 0 harmonics (w 9) && (isWholeTo 1 75 (w 0) && climbs w 8 0))
 
 -- 'place the lowest bad map 1 to 6': of n maps, the first one being the map k, counted from 0
 unfoldable pub lowestBad : List ℕ → ℕ → ℕ → Verdict
@@ -71,7 +74,8 @@ indexCheck month = lowestBad month 6 0
 
 -- ---- what a map that is not bad gives, over its words as natural numbers
 
--- n words after the word j: one that equals its predecessor ends the ladder, the others exceed theirs by an even number and are at most 75
+-- n words after the word j: one that equals its predecessor ends the ladder, the others exceed
+-- theirs by an even number and are at most 75
 pub data Climbs (w : ℕ → ℕ) : ℕ → ℕ → Type 0 where
   top : {j : ℕ} → Climbs w zero j
   level : {n j : ℕ} → w (j + 1) ≡ w j → Climbs w (suc n) j

@@ -1,4 +1,5 @@
--- Document 01, Files: the month record of the `.daw` file, and the month file's walk. Assumes nothing.
+-- Document 01, Files: the month record of the `.daw` file, and the month file's walk. Assumes
+-- nothing.
 use mathlib.Core.Path.{_≡_}
 use Prim.Native.Nat.{ℕ, _+_, _-_, _*_, _/_, _%_, _≤_}
 use mathlib.Core.Bool.{Bool, true, false, cond}
@@ -9,7 +10,7 @@ use denote.Ref.{RefT, ptr, now}
 use Rattle.base.specs.declared.refusal.Refusal.the-variants.{Record, Ended, Marker}
 use Rattle.base.specs.declared.refusal.Verdict.{Verdict}
 use Rattle.base.specs.declared.refusal.Verdict.the-variants.{Accepted, Refused}
-use Rattle.base.specs.Refusal.{refuseUnless, _then_}
+use Rattle.base.specs.Refusal.{refuseUnless, _then_, isAccepted}
 use Rattle.base.specs.Ranges.{monthCheck}
 use Rattle.base.specs.Words.{wordAt}
 
@@ -39,10 +40,6 @@ pub record IsPart (p : Part) (s x : RefT (List ℕ)) : Type 0 where
   pub block : ptr x .0 ≡ ptr s .0
   pub start : ptr x .1 ≡ ptr s .1 + p .from
 
-abbrev pub accepted : Verdict → Bool
-accepted Accepted = true
-accepted (Refused why) = false
-
 -- ---- Month record
 
 -- 'refuses 1 (place 1), then 8 if the file has under month × 7,904 bytes'
@@ -55,7 +52,7 @@ monthStart month = (month - 1) * recordSize
 -- 'It hands back those 7,904 bytes from (month - 1) × 7,904'
 unfoldable pub monthPart : List ℕ → ℕ → Part
 monthPart s month =
-    cond (accepted (monthRecordCheck s month)) (record { from = monthStart month; size = recordSize }) emptyPart
+    cond (isAccepted (monthRecordCheck s month)) (record { from = monthStart month; size = recordSize }) emptyPart
 
 -- ---- Month file
 
@@ -76,7 +73,8 @@ abbrev pub isRight : List ℕ → ℕ → Four → Bool
 isRight s at (marker n) = eqb (wordAt s at) n
 isRight s at anything = true
 
--- 'The walk goes in fours: 9 if four bytes are not there, 10 at a wrong marker, whichever comes first, with its byte place'
+-- 'The walk goes in fours: 9 if four bytes are not there, 10 at a wrong marker, whichever comes
+-- first, with its byte place'
 unfoldable pub walk : List ℕ → ℕ → List Four → Verdict
 walk s at [] = Accepted
 walk s at (f ∷ fs) =
@@ -107,7 +105,7 @@ pub record MarkedToLast (s : List ℕ) : Type 0 where
 
 -- ---- what the code's table of sizes says of each
 
-pub record Sized (k n : ℕ) : Type 0 where
+pub record RecordSize (k n : ℕ) : Type 0 where
   pub is : n ≡ getD sizes k 0
   pub fours : n % 4 ≡ 0
   pub most : n ≤ 11184

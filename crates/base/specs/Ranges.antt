@@ -1,4 +1,5 @@
--- Document 01, At the desks: the ranges of the fields that more than one call is held to. Assumes nothing.
+-- Document 01, At the desks: the ranges of the fields that more than one call is held to. Assumes
+-- nothing.
 use Prim.Native.Nat.{ℕ}
 use mathlib.Core.Bool.{Bool, _&&_}
 use lib.Dec.{leb}
@@ -22,7 +23,7 @@ isTo low high x = le low x && le x high
 
 -- 'hour 0 to 24 (GMT)'
 unfoldable pub hourCheck : Float → Verdict
-hourCheck x = refuseUnless (isTo (decimal 0 0) (decimal 24 0) x) Hour
+hourCheck x = refuseUnless (isTo (decimal 0 1) (decimal 24 0) x) Hour
 
 -- 'degrees, -90 to 90 and -180 to 180'; 'The place is the field's number, 1 to 14'
 unfoldable pub latitudeCheck : ℕ → Degrees → Verdict

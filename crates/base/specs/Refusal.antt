@@ -1,6 +1,6 @@
 -- Document 01's refusals: the number and the place of each case. Assumes nothing.
 use Prim.Native.Nat.{ℕ}
-use mathlib.Core.Bool.{Bool, cond}
+use mathlib.Core.Bool.{Bool, true, false, cond}
 use Rattle.base.specs.declared.refusal.Refusal.{Refusal}
 use Rattle.base.specs.declared.refusal.Refusal.the-variants.{Month, Sunspot, Hour, Latitude, Longitude, Factor, Flag, Record, Ended, Marker, Index, Figures, Table, Desk, Drafted, NoDraft, Stale, NothingEarlier}
 use Rattle.base.specs.declared.refusal.Report.{Report}
@@ -10,7 +10,8 @@ use Rattle.base.specs.declared.refusal.Verdict.the-variants.{Accepted, R
 abbrev pub pairOf : Report → ℕ × ℕ
 pairOf x = (x .0, x .1)
 
--- number and place. 'Refusals 9, 10 and 11 carry the place given below, those of input fields the field's number, all others place 0'
+-- number and place. 'Refusals 9, 10 and 11 carry the place given below, those of input fields the
+-- field's number, all others place 0'
 abbrev pub reportOf : Refusal → ℕ × ℕ
 reportOf Month = (1, 1)
 reportOf Sunspot = (2, 2)
@@ -31,10 +32,17 @@ reportOf NoDraft = (16, 0)
 reportOf Stale = (17, 0)
 reportOf NothingEarlier = (18, 0)
 
--- the same of a check's answer: 'it gives 0 and 0 exactly when nothing is refused'
+-- what goes by a check's answer: the value where nothing is refused, else what the refusal gives
+abbrev pub unlessRefused : {A : Type 0} → Verdict → A → (Refusal → A) → A
+unlessRefused Accepted x other = x
+unlessRefused (Refused why) x other = other why
+
+-- number and place of a check's answer: 'it gives 0 and 0 exactly when nothing is refused'
 abbrev pub verdictReport : Verdict → ℕ × ℕ
-verdictReport Accepted = (0, 0)
-verdictReport (Refused why) = reportOf why
+verdictReport v = unlessRefused v (0, 0) reportOf
+
+abbrev pub isAccepted : Verdict → Bool
+isAccepted v = unlessRefused v true (λ why. false)
 
 abbrev pub refuseUnless : Bool → Refusal → Verdict
 refuseUnless good why = cond good Accepted (Refused why)
@@ -47,5 +55,4 @@ Refused why then next = Refused why
 
 -- the value where nothing is refused, else what was there
 abbrev pub writtenOver : {A : Type 0} → Verdict → A → A → A
-writtenOver Accepted new old = new
-writtenOver (Refused why) new old = old
+writtenOver v new old = unlessRefused v new (λ why. old)

@@ -1,5 +1,6 @@
--- The 20 tables of the month file and, as number 0, the planes of the F2 record: where each stands, from the records' sizes and the shapes
--- of the Rust's arrays, and where each entry of its array; and document 01's Table. Assumes nothing.
+-- The 20 tables of the month file and, as number 0, the planes of the F2 record: where each stands,
+-- from the records' sizes and the shapes of the Rust's arrays, and where each entry of its array;
+-- and document 01's Table. Assumes nothing.
 use mathlib.Core.Path.{_≡_}
 use Prim.Native.Nat.{ℕ, _+_, _*_, _/_, _≤_, _<_}
 use mathlib.Core.Bool.{cond}
@@ -10,11 +11,13 @@ use denote.Ref.{RefT, now}
 use Rattle.base.specs.declared.refusal.Refusal.the-variants.{Record, Table as NoTable}
 use Rattle.base.specs.declared.refusal.Verdict.{Verdict}
 use Rattle.base.specs.declared.refusal.Verdict.the-variants.{Refused}
-use Rattle.base.specs.MonthFile.{Part, emptyPart, accepted, recordSize, sizes, monthFileCheck}
+use Rattle.base.specs.Refusal.{isAccepted}
+use Rattle.base.specs.MonthFile.{Part, emptyPart, recordSize, sizes, monthFileCheck}
 
 -- ---- shapes
 
--- the arrays of each record, in `parse_month_file`'s order; of each its dimensions, the innermost first
+-- the arrays of each record, in `parse_month_file`'s order; of each its dimensions, the innermost
+-- first
 abbrev pub shapes : List (List (List ℕ))
 shapes =
     -- ikim
@@ -60,7 +63,8 @@ abbrev pub inRecord : ℕ → List (List ℕ) → List Table
 inRecord at [] = []
 inRecord at (d ∷ ds) = record { from = at; shape = d } ∷ inRecord (at + 4 * product d) ds
 
--- those of each record, the first one's marker being at `at`: a record's body stands between two markers
+-- those of each record, the first one's marker being at `at`: a record's body stands between two
+-- markers
 abbrev pub inRecords : ℕ → List ℕ → List (List (List ℕ)) → List (List Table)
 inRecords at [] rs = []
 inRecords at (n ∷ ns) [] = []
@@ -83,14 +87,14 @@ abbrev pub numbered : List Table
 numbered = record { from = 0; shape = f2Shape } ∷ tables
 
 -- a number above 20 has no words
-abbrev pub absent : Table
-absent = record { from = 0; shape = 0 ∷ [] }
+abbrev pub noSuchTable : Table
+noSuchTable = record { from = 0; shape = 0 ∷ [] }
 
 abbrev pub tableOf : ℕ → Table
-tableOf number = getD numbered number absent
+tableOf number = getD numbered number noSuchTable
 
-abbrev pub placeOf : ℕ → ℕ
-placeOf number = tableOf number .from
+abbrev pub startOf : ℕ → ℕ
+startOf number = tableOf number .from
 
 abbrev pub wordsOf : ℕ → ℕ
 wordsOf number = wordsIn (tableOf number)
@@ -148,12 +152,14 @@ xercof = 20
 
 -- ---- by entry
 
--- the dimension n of a table's array, the innermost being 0; an array of one or two has 1 for the others
+-- the dimension n of a table's array, the innermost being 0; an array of one or two has 1 for the
+-- others
 unfoldable pub dimension : ℕ → ℕ → ℕ
 dimension number n = getD (tableOf number .shape) n 1
 
--- the array has an entry [k][j][i], as the Rust writes it; of one or two dimensions [i] and [j][i], the other indices being 0
-pub record Entry (number i j k : ℕ) : Type 0 where
+-- the array has an entry [k][j][i], as the Rust writes it; of one or two dimensions [i] and [j][i],
+-- the other indices being 0
+pub record HasEntry (number i j k : ℕ) : Type 0 where
   pub column : i < dimension number 0
   pub row : j < dimension number 1
   pub plane : k < dimension number 2
@@ -164,23 +170,24 @@ entryWord number i j k = (k * dimension number 1 + j) * dimension number 0 + i
 
 -- its first byte in the file that holds the table
 unfoldable pub entryPlace : ℕ → ℕ → ℕ → ℕ → ℕ
-entryPlace number i j k = placeOf number + 4 * entryWord number i j k
+entryPlace number i j k = startOf number + 4 * entryWord number i j k
 
 -- ---- what the tables and the records' sizes must agree in
 
-abbrev pub endOf : Table → ℕ
-endOf t = t .from + 4 * wordsIn t
+abbrev pub tableEnd : Table → ℕ
+tableEnd t = t .from + 4 * wordsIn t
 
 -- from `at` on each table starts where the one before ends, ends by `end`, and the last ends there
 abbrev pub Packed : ℕ → ℕ → List Table → Type 0
 Packed at end [] = at ≡ end
-Packed at end (t ∷ ts) = (t .from ≡ at) × (endOf t ≤ end) × Packed (endOf t) end ts
+Packed at end (t ∷ ts) = (t .from ≡ at) × (tableEnd t ≤ end) × Packed (tableEnd t) end ts
 
 abbrev pub bytesOf : List Table → ℕ
 bytesOf [] = 0
 bytesOf (t ∷ ts) = 4 * wordsIn t + bytesOf ts
 
--- in each record of n bytes, whose marker is at `at`, the tables make up the n bytes and stand packed in them; the last record ends at `end`
+-- in each record of n bytes, whose marker is at `at`, the tables make up the n bytes and stand
+-- packed in them; the last record ends at `end`
 abbrev pub PackedRecords : ℕ → ℕ → List ℕ → List (List Table) → Type 0
 PackedRecords at end [] [] = at ≡ end
 PackedRecords at end [] (ts ∷ rs) = ⊥
@@ -197,7 +204,8 @@ bytesIn t = record { from = t .from; size = 4 * wordsIn t }
 unfoldable pub partOf : ℕ → Part
 partOf number = bytesIn (tableOf number)
 
--- 'It refuses 13 (number above 20), 8, 9, 10, both files being checked for every number'; of the F2 record 'bytes after 7,904 ignored'
+-- 'It refuses 13 (number above 20), 8, 9, 10, both files being checked for every number'; of the F2
+-- record 'bytes after 7,904 ignored'
 unfoldable pub tableCheck : ℕ → List ℕ → List ℕ → Verdict
 tableCheck number f2 month =
     cond (leb number 20)
@@ -206,9 +214,9 @@ tableCheck number f2 month =
 
 -- 'Where this or Table refuses, the part handed back is empty'
 unfoldable pub tablePart : ℕ → List ℕ → List ℕ → Part
-tablePart number f2 month = cond (accepted (tableCheck number f2 month)) (partOf number) emptyPart
+tablePart number f2 month = cond (isAccepted (tableCheck number f2 month)) (partOf number) emptyPart
 
 -- 'a part of the lent file that holds them'; refused, 'at the start of the first file lent'
 unfoldable pub tableFile : ℕ → RefT (List ℕ) → RefT (List ℕ) → RefT (List ℕ)
 tableFile number f2 month =
-    cond (accepted (tableCheck number (now f2) (now month))) (holding number f2 month) f2
+    cond (isAccepted (tableCheck number (now f2) (now month))) (holding number f2 month) f2

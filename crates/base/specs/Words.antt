@@ -1,4 +1,5 @@
--- The words of a file. Document 01: 'Words are little-endian'; a byte that is not there counts as 0. Assumes nothing.
+-- The words of a file. Document 01: 'Words are little-endian'; a byte that is not there counts as
+-- 0. Assumes nothing.
 use Prim.Native.Nat.{ℕ, _+_, _*_}
 use mathlib.Core.List.{List}
 use lib.IntN.{ℤ}
@@ -10,7 +11,8 @@ use Rattle.base.specs.Number.{signedOf}
 abbrev pub wordOf : ℕ → ℕ → ℕ → ℕ → ℕ
 wordOf a b c d = a + b * 256 + c * 65536 + d * 16777216
 
--- the word of the four bytes at `at`, as an unsigned number, as an `i32` and as an `f32`; a NaN's pattern is a NaN
+-- the word of the four bytes at `at`, as an unsigned number, as an `i32` and as an `f32`; a NaN's
+-- pattern is a NaN
 unfoldable pub wordAt : List ℕ → ℕ → ℕ
 wordAt s at = wordOf (getD s at 0) (getD s (at + 1) 0) (getD s (at + 2) 0) (getD s (at + 3) 0)
 

@@ -9,6 +9,7 @@ pub struct Degrees(pub f32);
 pub struct Radians(pub f32);
 
 impl Degrees {
+    // The angle in radians: the degrees times D2R, rounded once.
     pub fn to_radians(self) -> Radians
         ensures { λ r. ⌜ r ≡ radiansOf self ⌝ }
     {
@@ -17,6 +18,7 @@ impl Degrees {
 }
 
 impl Radians {
+    // The angle in degrees: the radians times R2D, rounded once.
     pub fn to_degrees(self) -> Degrees
         ensures { λ r. ⌜ r ≡ degreesOf self ⌝ }
     {

@@ -23,7 +23,7 @@ pub struct Weights {
     pub d: f32,
 }
 
-// For F2 and M3000.
+// The weights of the F2 and M3000 maps at a sunspot number s: 100 - s and s, with the divisor 100.
 pub fn f2_weights(ssn: f32) -> Weights
     ensures { λ r. ⌜ r ≡ f2Weights ssn ⌝ }
 {
@@ -34,7 +34,7 @@ pub fn f2_weights(ssn: f32) -> Weights
     }
 }
 
-// For the Es and E maps.
+// The weights of the Es and E maps at a sunspot number s: 150 - s and s - 10, with the divisor 140.
 pub fn e_weights(ssn: f32) -> Weights
     ensures { λ r. ⌜ r ≡ eWeights ssn ⌝ }
 {
@@ -45,7 +45,7 @@ pub fn e_weights(ssn: f32) -> Weights
     }
 }
 
-// For the height map.
+// The weights of the height map at a sunspot number s: 125 - s and s - 25, with the divisor 100.
 pub fn height_weights(ssn: f32) -> Weights
     ensures { λ r. ⌜ r ≡ heightWeights ssn ⌝ }
 {
@@ -76,10 +76,15 @@ fn blended_words(w: Weights, x0: u32, x1: u32) -> f32
     }
 }
 
-// Two planes of `width` words each, one after the other from `at` on, blended into `out` from `base`
-// on.
+// Two planes of `width` words each, one after the other from `at` on, blended into `out` from
+// `base` on.
 fn blend(s: &[u8], at: usize, width: usize, w: Weights, out: &mut [f32], base: usize)
-    requires { ⌜ (at ≤ 65536) × (width ≤ 65536) × (at + 8 * width ≤ length (now s)) × (base + width ≤ length (now out)) ⌝ }
+    requires { ⌜ (
+        (at ≤ 65536)
+        × (width ≤ 65536)
+        × (at + 8 * width ≤ length (now s))
+        × (base + width ≤ length (now out))
+        ) ⌝ }
     ensures { λ _. ⌜ now (out .exit) ≡ fill (blendAt (now (s .entry)) at width w) base (now (out .entry)) width ⌝ }
 {
     let mut i = 0usize;
@@ -104,7 +109,8 @@ const FM3COF: usize = 441;
 
 const ERCOF: usize = 198;
 
-// The numbers of a plane `P(29,16)`, 16 rows of 29: the height map and the land map are such planes.
+// The numbers of a plane `P(29,16)`, 16 rows of 29: the height map and the land map are such
+// planes.
 pub const PLANE: usize = 464;
 
 // Where each of the six maps starts among their coefficients.

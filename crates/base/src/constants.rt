@@ -23,7 +23,8 @@ pub const DCL: f32 = 1.28;
 // The constants of this module in their order.
 pub type Constants = [f32; 9];
 
-// All of them: what the comparison with the Rust reads.
+// The nine constants of this module in their order, D2R to DCL, which is what the comparison with
+// the Rust reads.
 pub fn all() -> Constants
     ensures { λ r. ⌜ r ≡ constants ⌝ }
 {

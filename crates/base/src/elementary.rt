@@ -13,7 +13,7 @@ ghost use lib.Ieee.{binary64, le, minus, ofInt, ofBits};
 ghost use Rattle.base.specs.Double.{_⊕_, fraction};
 ghost use Rattle.base.specs.Number.{absOf};
 ghost use Rattle.base.specs.Elementary as steps;
-ghost use Rattle.base.specs.Elementary.{nearOf, quarterOf, powerOf, turnsOf, reducedOf, sinSeries, cosSeries, sinAt, cosAt, sinOf, cosOf, halfAngle, atanSeries, atanWithin, atanFrom, atanOf, acosOf, expWithin, expOf, lnSeries, lnSum, lnOf, sin32Of, cos32Of, atan32Of, acos32Of, exp32Of, ln32Of};
+ghost use Rattle.base.specs.Elementary.{nearOf, quarterOf, powerOfTwo, turnsOf, reducedOf, sinSeries, cosSeries, sinAt, cosAt, sinOf, cosOf, halfAngle, atanSeries, atanWithin, atanFrom, atanOf, acosOf, expWithin, expOf, lnSeries, lnSum, lnOf, sin32Of, cos32Of, atan32Of, acos32Of, exp32Of, ln32Of};
 
 // The coefficients of the series, lowest term first.
 const SIN: [f64; 8] = [
@@ -140,7 +140,8 @@ struct Turned {
 // v as the nearest quarter turns, modulo 4, and what v is without them.
 fn split(v: f64) -> Turned
     requires { ⌜ T (le (absOf v) (fraction 1000 1)) ⌝ }
-    ensures { λ r. ⌜ (r .quarter ≡ quarterOf (turnsOf v)) × (r .rest ≡ reducedOf v (turnsOf v)) ⌝ }
+    ensures quarter { λ r. ⌜ r .quarter ≡ quarterOf (turnsOf v) ⌝ }
+    ensures rest { λ r. ⌜ r .rest ≡ reducedOf v (turnsOf v) ⌝ }
 {
     let y = v * 0.6366197723675814;
     Turned {
@@ -190,7 +191,7 @@ fn cos_at(q: u64, a: f64) -> f64
     }
 }
 
-// The sine of v, which is a NaN beyond 1000.
+// The sine of v radians, by document 01's steps; a NaN for a NaN and for v beyond 1000 in size.
 pub fn sin64(v: f64) -> f64
     ensures { λ r. ⌜ r ≡ sinOf v ⌝ }
 {
@@ -202,7 +203,8 @@ pub fn sin64(v: f64) -> f64
     }
 }
 
-// The cosine of v, which is a NaN beyond 1000.
+// The cosine of v, in radians, by document 01's steps; a NaN for a NaN and for v beyond 1000 in
+// size.
 pub fn cos64(v: f64) -> f64
     ensures { λ r. ⌜ r ≡ cosOf v ⌝ }
 {
@@ -246,7 +248,7 @@ fn atan_from(a: f64) -> f64
     }
 }
 
-// The arc tangent of v.
+// The arc tangent of v, in radians, by document 01's steps; a NaN for a NaN.
 pub fn atan64(v: f64) -> f64
     ensures { λ r. ⌜ r ≡ atanOf v ⌝ }
 {
@@ -254,7 +256,8 @@ pub fn atan64(v: f64) -> f64
     if is_negative(v) { -t } else { t }
 }
 
-// The arc cosine of v, which is a NaN beyond 1 in size.
+// The arc cosine of v, in radians, by document 01's steps; a NaN for a NaN and for v beyond 1 in
+// size.
 pub fn acos64(v: f64) -> f64
     ensures { λ r. ⌜ r ≡ acosOf v ⌝ }
 {
@@ -291,7 +294,7 @@ fn power_down(k: u64) -> f64
 
 // 2^n
 fn power(n: f64) -> f64
-    ensures { λ r. ⌜ r ≡ powerOf n ⌝ }
+    ensures { λ r. ⌜ r ≡ powerOfTwo n ⌝ }
 {
     let k = to_u64(abs64(n));
     if is_negative(n) {
@@ -309,7 +312,7 @@ fn exp_within(v: f64) -> f64
     horner(&EXP, v - n * 0.6931471805599453) * power(n)
 }
 
-// e^v
+// e to the power v, by document 01's steps: infinity above 700, zero below -700, a NaN for a NaN.
 pub fn exp64(v: f64) -> f64
     ensures { λ r. ⌜ r ≡ expOf v ⌝ }
 {
@@ -371,7 +374,8 @@ fn ln_bits(b: u64) -> f64
     }
 }
 
-// The natural logarithm of x: a NaN below zero, minus infinity at either zero.
+// The natural logarithm of x, by document 01's steps: a NaN for a NaN and below zero, minus
+// infinity at either zero, infinity at infinity.
 pub fn ln64(x: f64) -> f64
     ensures { λ r. ⌜ r ≡ lnOf x ⌝ }
 {
@@ -391,36 +395,43 @@ pub fn ln64(x: f64) -> f64
     ln_bits(b)
 }
 
+// The sine of x radians: x is widened, `sin64` works it out, and its answer is narrowed.
 pub fn sin32(x: f32) -> f32
     ensures { λ r. ⌜ r ≡ sin32Of x ⌝ }
 {
     narrow(sin64(widen(x)))
 }
 
+// The cosine of x radians: x is widened, `cos64` works it out, and its answer is narrowed.
 pub fn cos32(x: f32) -> f32
     ensures { λ r. ⌜ r ≡ cos32Of x ⌝ }
 {
     narrow(cos64(widen(x)))
 }
 
+// The arc tangent of x, in radians: x is widened, `atan64` works it out, and its answer is
+// narrowed.
 pub fn atan32(x: f32) -> f32
     ensures { λ r. ⌜ r ≡ atan32Of x ⌝ }
 {
     narrow(atan64(widen(x)))
 }
 
+// The arc cosine of x, in radians: x is widened, `acos64` works it out, and its answer is narrowed.
 pub fn acos32(x: f32) -> f32
     ensures { λ r. ⌜ r ≡ acos32Of x ⌝ }
 {
     narrow(acos64(widen(x)))
 }
 
+// e to the power x: x is widened, `exp64` works it out, and its answer is narrowed.
 pub fn exp32(x: f32) -> f32
     ensures { λ r. ⌜ r ≡ exp32Of x ⌝ }
 {
     narrow(exp64(widen(x)))
 }
 
+// The natural logarithm of x: x is widened, `ln64` works it out, and its answer is narrowed.
 pub fn ln32(x: f32) -> f32
     ensures { λ r. ⌜ r ≡ ln32Of x ⌝ }
 {

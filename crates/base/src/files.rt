@@ -1,5 +1,5 @@
-// The lent files as a whole: the checks before they are used, and the arrays that a sheet reads from
-// them. A refusal leaves the arrays as they are.
+// The lent files as a whole: the checks before they are used, and the arrays that a sheet reads
+// from them. A refusal leaves the arrays as they are.
 use crate::blend::HeightMap;
 use crate::blend::LandMap;
 use crate::blend::SixMaps;
@@ -19,7 +19,7 @@ ghost use Rattle.base.specs.Index.{indexOf};
 ghost use Rattle.base.specs.Blend.{cofionOf, hmymOf, fakmapOf};
 ghost use Rattle.base.specs.Files.{fileCheck, filesCheck};
 
-// Whether a month file can be used.
+// The verdict on a month file: 9 or 10 by its walk, then 11 by its index table.
 pub fn file_check(month: &[u8]) -> Verdict
     ensures { λ r. ⌜ r ≡ fileCheck (now (month .entry)) ⌝ }
 {
@@ -30,7 +30,8 @@ pub fn file_check(month: &[u8]) -> Verdict
     }
 }
 
-// Whether an F2 record and a month file can be used.
+// The verdict on an F2 record and a month file: 8 where the record has under 7,904 bytes, then as
+// `file_check`.
 pub fn files_check(f2: &[u8], month: &[u8]) -> Verdict
     ensures { λ r. ⌜ r ≡ filesCheck (now (f2 .entry)) (now (month .entry)) ⌝ }
 {
@@ -40,13 +41,13 @@ pub fn files_check(f2: &[u8], month: &[u8]) -> Verdict
     file_check(month)
 }
 
-// The 60 words of `ikim`.
+// The 60 words of `ikim` into the lent array, and the verdict of `file_check`. Refused, the array
+// stays as it is.
 pub fn index(month: &[u8], out: &mut IndexTable) -> Verdict
-    ensures { λ r. ⌜ (
+    ensures answer { λ r. ⌜ r ≡ fileCheck (now (month .entry)) ⌝ }
+    ensures buffer { λ _. ⌜ (
         let m = now (month .entry) in
-        let v = fileCheck m in
-        (r ≡ v)
-        × (now (out .exit) ≡ writtenOver v (indexOf m) (now (out .entry)))
+        now (out .exit) ≡ writtenOver (fileCheck m) (indexOf m) (now (out .entry))
         ) ⌝ }
 {
     let verdict = file_check(month);
@@ -59,14 +60,14 @@ pub fn index(month: &[u8], out: &mut IndexTable) -> Verdict
     }
 }
 
-// The coefficients of the six maps at a sunspot number.
+// The coefficients of the six maps at a sunspot number into the lent array, and the verdict of
+// `files_check`. Refused, the array stays as it is.
 pub fn cofion(f2: &[u8], month: &[u8], ssn: f32, out: &mut SixMaps) -> Verdict
-    ensures { λ r. ⌜ (
+    ensures answer { λ r. ⌜ r ≡ filesCheck (now (f2 .entry)) (now (month .entry)) ⌝ }
+    ensures buffer { λ _. ⌜ (
         let f = now (f2 .entry) in
         let m = now (month .entry) in
-        let v = filesCheck f m in
-        (r ≡ v)
-        × (now (out .exit) ≡ writtenOver v (cofionOf f m ssn) (now (out .entry)))
+        now (out .exit) ≡ writtenOver (filesCheck f m) (cofionOf f m ssn) (now (out .entry))
         ) ⌝ }
 {
     let verdict = files_check(f2, month);
@@ -79,13 +80,13 @@ pub fn cofion(f2: &[u8], month: &[u8], ssn: f32, out: &mut SixMaps) -> Verdict
     }
 }
 
-// The coefficients of the height map at a sunspot number.
+// The coefficients of the height map at a sunspot number into the lent array, and the verdict of
+// `file_check`. Refused, the array stays as it is.
 pub fn hmym(month: &[u8], ssn: f32, out: &mut HeightMap) -> Verdict
-    ensures { λ r. ⌜ (
+    ensures answer { λ r. ⌜ r ≡ fileCheck (now (month .entry)) ⌝ }
+    ensures buffer { λ _. ⌜ (
         let m = now (month .entry) in
-        let v = fileCheck m in
-        (r ≡ v)
-        × (now (out .exit) ≡ writtenOver v (hmymOf m ssn) (now (out .entry)))
+        now (out .exit) ≡ writtenOver (fileCheck m) (hmymOf m ssn) (now (out .entry))
         ) ⌝ }
 {
     let verdict = file_check(month);
@@ -98,13 +99,13 @@ pub fn hmym(month: &[u8], ssn: f32, out: &mut HeightMap) -> Verdict
     }
 }
 
-// The words of the land map.
+// The words of the land map into the lent array, and the verdict of `file_check`. Refused, the
+// array stays as it is.
 pub fn fakmap(month: &[u8], out: &mut LandMap) -> Verdict
-    ensures { λ r. ⌜ (
+    ensures answer { λ r. ⌜ r ≡ fileCheck (now (month .entry)) ⌝ }
+    ensures buffer { λ _. ⌜ (
         let m = now (month .entry) in
-        let v = fileCheck m in
-        (r ≡ v)
-        × (now (out .exit) ≡ writtenOver v (fakmapOf m) (now (out .entry)))
+        now (out .exit) ≡ writtenOver (fileCheck m) (fakmapOf m) (now (out .entry))
         ) ⌝ }
 {
     let verdict = file_check(month);
@@ -117,7 +118,8 @@ pub fn fakmap(month: &[u8], out: &mut LandMap) -> Verdict
     }
 }
 
-// The four arrays that a sheet reads, from files that are checked once.
+// The four arrays that a sheet reads, from files that are checked once, and the verdict of
+// `files_check`. Refused, all four stay as they are.
 pub fn redmap(
     f2: &[u8],
     month: &[u8],
@@ -127,15 +129,26 @@ pub fn redmap(
     hmym: &mut HeightMap,
     fakmap: &mut LandMap,
 ) -> Verdict
-    ensures { λ r. ⌜ (
+    ensures answer { λ r. ⌜ r ≡ filesCheck (now (f2 .entry)) (now (month .entry)) ⌝ }
+    ensures index { λ _. ⌜ (
         let f = now (f2 .entry) in
         let m = now (month .entry) in
-        let v = filesCheck f m in
-        (r ≡ v)
-        × (now (index .exit) ≡ writtenOver v (indexOf m) (now (index .entry)))
-        × (now (cofion .exit) ≡ writtenOver v (cofionOf f m ssn) (now (cofion .entry)))
-        × (now (hmym .exit) ≡ writtenOver v (hmymOf m ssn) (now (hmym .entry)))
-        × (now (fakmap .exit) ≡ writtenOver v (fakmapOf m) (now (fakmap .entry)))
+        now (index .exit) ≡ writtenOver (filesCheck f m) (indexOf m) (now (index .entry))
+        ) ⌝ }
+    ensures cofion { λ _. ⌜ (
+        let f = now (f2 .entry) in
+        let m = now (month .entry) in
+        now (cofion .exit) ≡ writtenOver (filesCheck f m) (cofionOf f m ssn) (now (cofion .entry))
+        ) ⌝ }
+    ensures hmym { λ _. ⌜ (
+        let f = now (f2 .entry) in
+        let m = now (month .entry) in
+        now (hmym .exit) ≡ writtenOver (filesCheck f m) (hmymOf m ssn) (now (hmym .entry))
+        ) ⌝ }
+    ensures fakmap { λ _. ⌜ (
+        let f = now (f2 .entry) in
+        let m = now (month .entry) in
+        now (fakmap .exit) ≡ writtenOver (filesCheck f m) (fakmapOf m) (now (fakmap .entry))
         ) ⌝ }
 {
     let verdict = files_check(f2, month);

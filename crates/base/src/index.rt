@@ -80,7 +80,7 @@ fn is_good(month: &[u8], k: usize) -> bool
     is_ladder(month, k)
 }
 
-// The index check of a month file: the lowest bad map, 1 to 6.
+// Document 01's index check of a month file: 11 with the lowest bad map, 1 to 6, as its place.
 pub fn index_check(month: &[u8]) -> Verdict
     ensures { λ r. ⌜ r ≡ indexCheck (now (month .entry)) ⌝ }
 {
@@ -99,8 +99,8 @@ pub const INDEX: usize = 60;
 
 pub type IndexTable = [u32; INDEX];
 
-// The 60 words of `ikim`, of a file that was checked. The words that the index check does not leave free
-// are the signed ones too.
+// The 60 words of `ikim`, of a file that was checked. The words that the index check does not leave
+// free are the signed ones too.
 pub(crate) fn index_of(month: &[u8], out: &mut IndexTable)
     requires { ⌜ monthFileSize ≤ length (now month) ⌝ }
     ensures { λ _. ⌜ now (out .exit) ≡ indexOf (now (month .entry)) ⌝ }

@@ -17,7 +17,7 @@ pub fn is_negative(x: f64) -> bool
     f64::to_bits(x) >= 0x8000_0000_0000_0000
 }
 
-// |x|, which takes -0 to +0.
+// The size of x, which takes -0 to +0; a NaN gives a NaN.
 pub fn abs64(x: f64) -> f64
     ensures { λ r. ⌜ r ≡ absOf x ⌝ }
 {
@@ -27,7 +27,7 @@ pub fn abs64(x: f64) -> f64
     f64::from_bits(f64::to_bits(x) % 0x8000_0000_0000_0000)
 }
 
-// |x|, which takes -0 to +0.
+// The size of x, which takes -0 to +0; a NaN gives a NaN.
 pub fn abs32(x: f32) -> f32
     ensures { λ r. ⌜ r ≡ absOf x ⌝ }
 {
@@ -165,8 +165,8 @@ pub fn to_u64(x: f64) -> u64
     }
 }
 
-// m / 2^n to the nearest whole number, a tie to the even one: half a unit less one is added, and one
-// more where the quotient is odd.
+// m / 2^n to the nearest whole number, a tie to the even one: half a unit less one is added, and
+// one more where the quotient is odd.
 fn half_even(m: u64, n: u64) -> u64
     requires { ⌜ (0 < n) × (n < 64) × (m < 2 ^ 63) ⌝ }
     ensures { λ r. ⌜ r ≡ closest m (2 ^ n) ⌝ }
@@ -179,7 +179,10 @@ fn half_even(m: u64, n: u64) -> u64
 // The bits of the `f32` nearest to the `f64` whose bits, without the sign, are b, for either sign.
 fn magnitude(b: u64) -> u64
     requires { ⌜ b ≤ 2047 * 2 ^ 52 ⌝ }
-    ensures { λ r. ⌜ (r ≤ 255 * 2 ^ 23) × ((s : Bool) → ofBits binary32 (cond s (2 ^ 31) 0 + r) ≡ narrowOf (ofBits binary64 (cond s (2 ^ 63) 0 + b))) ⌝ }
+    ensures bound { λ r. ⌜ r ≤ 255 * 2 ^ 23 ⌝ }
+    ensures value { λ r. ⌜ (
+        (s : Bool) → ofBits binary32 (cond s (2 ^ 31) 0 + r) ≡ narrowOf (ofBits binary64 (cond s (2 ^ 63) 0 + b))
+        ) ⌝ }
 {
     let exponent = b / 0x10_0000_0000_0000;
     let digits = b % 0x10_0000_0000_0000 + 0x10_0000_0000_0000;
@@ -194,7 +197,7 @@ fn magnitude(b: u64) -> u64
     }
 }
 
-// The `f32` nearest to x, a tie going to the one whose last digit is even.
+// The `f32` nearest to x, a tie going to the one whose last digit is even; a NaN gives a NaN.
 pub fn narrow(x: f64) -> f32
     ensures { λ r. ⌜ r ≡ narrowOf x ⌝ }
 {
@@ -206,11 +209,12 @@ pub fn narrow(x: f64) -> f32
     f32::from_bits((sign * 0x8000_0000 + magnitude(b % 0x8000_0000_0000_0000)) as u32)
 }
 
-// The `f32` nearest to x, kept as an `f64`. From 2^-126 on an `f32` is an `f64` whose last 29 digits
-// are 0, so that the bits are rounded where they stand; what may overflow or is below goes by `narrow`.
+// The `f32` nearest to x, as `narrow` gives it, kept as an `f64`.
 pub fn narrowed(x: f64) -> f64
     ensures { λ r. ⌜ r ≡ narrowOf x ⌝ }
 {
+    // From 2^-126 on an `f32` is an `f64` whose last 29 digits are 0, so that the bits are rounded
+    // where they stand; what may overflow or is below goes by `narrow`.
     if x != x {
         return x;
     }
@@ -328,7 +332,8 @@ fn scaled_root(m: u64, f: u64) -> u64
 // The bits of the root of the positive number whose bits are b.
 fn root_bits(b: u64) -> u64
     requires { ⌜ (0 < b) × (b < 2047 * 2 ^ 52) ⌝ }
-    ensures { λ r. ⌜ (r < 2047 * 2 ^ 52) × (ofBits binary64 r ≡ sqrtOf binary64 (ofBits binary64 b)) ⌝ }
+    ensures bound { λ r. ⌜ r < 2047 * 2 ^ 52 ⌝ }
+    ensures value { λ r. ⌜ ofBits binary64 r ≡ sqrtOf binary64 (ofBits binary64 b) ⌝ }
 {
     if b < 0x10_0000_0000_0000 {
         let shift = u64::leading_zeros(b) as u64 - 11;
@@ -354,7 +359,7 @@ fn normal_root(b: u64) -> f64
     }
 }
 
-// √x to the nearest `f64`; a NaN for any x below zero but -0, whose root is -0.
+// √x to the nearest `f64`; a NaN for a NaN and for any x below zero but -0, whose root is -0.
 pub fn sqrt64(x: f64) -> f64
     ensures { λ r. ⌜ r ≡ sqrtOf binary64 x ⌝ }
 {
@@ -378,10 +383,11 @@ pub fn sqrt64(x: f64) -> f64
     f64::from_bits(root_bits(b))
 }
 
-// √x to the nearest `f32`. The `f64` nearest to √x has more than twice the digits, so that rounding
-// it once more gives the `f32` nearest to √x itself.
+// √x to the nearest `f32`; a NaN for a NaN and for any x below zero but -0, whose root is -0.
 pub fn sqrt32(x: f32) -> f32
     ensures { λ r. ⌜ r ≡ sqrtOf binary32 x ⌝ }
 {
+    // The `f64` nearest to √x has more than twice the digits, so that rounding it once more gives
+    // the `f32` nearest to √x itself.
     narrow(sqrt64(widen(x)))
 }

@@ -34,7 +34,8 @@ pub enum Refusal {
 pub struct Report(pub u32, pub u32);
 
 impl Refusal {
-    // A field's number, a byte's place or a map's number is the place; all others have place 0.
+    // Document 01's number of a refusal with its place: a field's number, a byte's place or a map's
+    // number; all others have place 0.
     pub fn report(self) -> Report
         ensures { λ r. ⌜ pairOf r ≡ reportOf self ⌝ }
     {
@@ -60,12 +61,14 @@ impl Refusal {
         }
     }
 
+    // Document 01's number of a refusal, 1 to 18.
     pub fn number(self) -> u32
         ensures { λ r. ⌜ r ≡ reportOf self .0 ⌝ }
     {
         self.report().0
     }
 
+    // The place of a refusal, as `report` has it.
     pub fn place(self) -> u32
         ensures { λ r. ⌜ r ≡ reportOf self .1 ⌝ }
     {
@@ -80,6 +83,7 @@ pub enum Verdict {
 }
 
 impl Verdict {
+    // The number and place of a verdict: the refusal's, or 0 and 0 where nothing is refused.
     pub fn report(self) -> Report
         ensures { λ r. ⌜ pairOf r ≡ verdictReport self ⌝ }
     {
@@ -89,12 +93,14 @@ impl Verdict {
         }
     }
 
+    // The number of a verdict: the refusal's, or 0 where nothing is refused.
     pub fn number(self) -> u32
         ensures { λ r. ⌜ r ≡ verdictReport self .0 ⌝ }
     {
         self.report().0
     }
 
+    // The place of a verdict: the refusal's, or 0 where nothing is refused.
     pub fn place(self) -> u32
         ensures { λ r. ⌜ r ≡ verdictReport self .1 ⌝ }
     {
@@ -102,6 +108,7 @@ impl Verdict {
     }
 }
 
+// Accepted where `good` is true, else refused as `why` says.
 pub fn refuse_unless(good: bool, why: Refusal) -> Verdict
     ensures { λ r. ⌜ r ≡ refuseUnless good why ⌝ }
 {
@@ -112,7 +119,7 @@ pub fn refuse_unless(good: bool, why: Refusal) -> Verdict
     }
 }
 
-// The first refusal of two verdicts.
+// The first refusal of two verdicts; accepted where both accept.
 pub fn then(first: Verdict, next: Verdict) -> Verdict
     ensures { λ r. ⌜ r ≡ (first then next) ⌝ }
 {

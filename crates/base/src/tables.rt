@@ -65,9 +65,11 @@ const PLACES: [[usize; 2]; 21] = [
     [XERCOF, 1584],
 ];
 
-// The place of a table; of no bytes where there is no such table.
+// Start and size in bytes of a table, 0 in the F2 record and 1 to 20 in the month file; 0 and 0
+// where there is no such table.
 pub fn table_place(number: u32) -> Place
-    ensures { λ r. ⌜ (r .start ≡ partOf number .from) × (r .size ≡ partOf number .size) ⌝ }
+    ensures start { λ r. ⌜ r .start ≡ partOf number .from ⌝ }
+    ensures size { λ r. ⌜ r .size ≡ partOf number .size ⌝ }
 {
     if 20 < number {
         return Place { start: 0, size: 0 };
@@ -79,7 +81,8 @@ pub fn table_place(number: u32) -> Place
     }
 }
 
-// Whether there is such a table and both files are whole.
+// Whether there is such a table and both files are whole: 13 for a number above 20, then 8, 9, 10,
+// for every number alike.
 pub fn table_check(number: u32, f2: &[u8], month: &[u8]) -> Verdict
     ensures { λ r. ⌜ r ≡ tableCheck number (now (f2 .entry)) (now (month .entry)) ⌝ }
 {
@@ -92,10 +95,13 @@ pub fn table_check(number: u32, f2: &[u8], month: &[u8]) -> Verdict
     month_file_check(month)
 }
 
-// A table's bytes, a part of the file that holds them; refused, the empty part at the F2 record's
-// start.
+// A table's bytes, a part of the file that holds them; where `table_check` refuses, the empty part
+// at the F2 record's start.
 pub fn table<'a>(number: u32, f2: &'a [u8], month: &'a [u8]) -> &'a [u8]
-    ensures { λ r. ⌜ IsPart (tablePart number (now (f2 .entry)) (now (month .entry))) (tableFile number (f2 .entry) (month .entry)) r ⌝ }
+    ensures { λ r. ⌜ IsPart
+        (tablePart number (now (f2 .entry)) (now (month .entry)))
+        (tableFile number (f2 .entry) (month .entry))
+        r ⌝ }
 {
     let verdict = table_check(number, f2, month);
     match verdict {

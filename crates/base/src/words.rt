@@ -3,18 +3,20 @@ use crate::number;
 ghost use mathlib.Core.Path.{_≡_};
 ghost use Prim.Native.Nat.{ℕ, _+_, _*_, _<_, _≤_};
 ghost use lib.ListN.{length, getD};
-ghost use Rattle.base.specs.Fill.{run};
+ghost use Rattle.base.specs.Fill.{tabulate};
 ghost use Rattle.base.specs.Words.{wordOf, wordAt, integerAt, floatAt};
 
 fn wide(x: u8) -> u32
-    ensures { λ r. ⌜ (r ≡ x) × (r < 256) ⌝ }
+    ensures answer { λ r. ⌜ r ≡ x ⌝ }
+    ensures bound { λ r. ⌜ r < 256 ⌝ }
 {
     x as u32
 }
 
 // A byte, or 0 where it is not there.
 fn byte(s: &[u8], at: usize) -> u32
-    ensures { λ r. ⌜ (r ≡ getD (now (s .entry)) at 0) × (r < 256) ⌝ }
+    ensures answer { λ r. ⌜ r ≡ getD (now (s .entry)) at 0 ⌝ }
+    ensures bound { λ r. ⌜ r < 256 ⌝ }
 {
     if at < s.len() { wide(s[at]) } else { 0 }
 }
@@ -67,14 +69,15 @@ pub fn word(s: &[u8], at: usize) -> u32
     short_word(s, at)
 }
 
-// The word at `at` as a signed number.
+// The word at `at` as a signed number; a byte that is not there counts as 0.
 pub fn integer(s: &[u8], at: usize) -> i32
     ensures { λ r. ⌜ r ≡ integerAt (now (s .entry)) at ⌝ }
 {
     number::signed(word(s, at))
 }
 
-// The word at `at` as an `f32`; a NaN's pattern gives a NaN.
+// The word at `at` as an `f32`; a NaN's pattern gives a NaN, and a byte that is not there counts as
+// 0.
 pub fn float(s: &[u8], at: usize) -> f32
     ensures { λ r. ⌜ r ≡ floatAt (now (s .entry)) at ⌝ }
 {
@@ -84,7 +87,9 @@ pub fn float(s: &[u8], at: usize) -> f32
 // The words from `at` on into a lent array, all of it.
 pub(crate) fn read_words(s: &[u8], at: usize, out: &mut [u32])
     requires { ⌜ at + 4 * length (now out) ≤ length (now s) ⌝ }
-    ensures { λ _. ⌜ now (out .exit) ≡ run (λ i. wordAt (now (s .entry)) (at + i * 4)) (length (now (out .entry))) ⌝ }
+    ensures { λ _. ⌜ now (out .exit) ≡ tabulate
+        (λ i. wordAt (now (s .entry)) (at + i * 4))
+        (length (now (out .entry))) ⌝ }
 {
     let mut i = 0usize;
     while i < out.len() {
@@ -96,7 +101,9 @@ pub(crate) fn read_words(s: &[u8], at: usize, out: &mut [u32])
 // The same of floats.
 pub(crate) fn read_floats(s: &[u8], at: usize, out: &mut [f32])
     requires { ⌜ at + 4 * length (now out) ≤ length (now s) ⌝ }
-    ensures { λ _. ⌜ now (out .exit) ≡ run (λ i. floatAt (now (s .entry)) (at + 4 * i)) (length (now (out .entry))) ⌝ }
+    ensures { λ _. ⌜ now (out .exit) ≡ tabulate
+        (λ i. floatAt (now (s .entry)) (at + 4 * i))
+        (length (now (out .entry))) ⌝ }
 {
     let mut i = 0usize;
     while i < out.len() {

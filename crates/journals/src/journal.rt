@@ -1,14 +1,11 @@
-// The journals: an open and the calls that follow it, answered as `replay` answers them, over one pair
-// of files. Of each journal the file has the 14 words, the calls and the wanted text.
+// The journals: an open and the calls that follow it, answered as `replay` answers them, over one
+// pair of files. Of each journal the file has the 14 words, the calls and the wanted text.
 use crate::files::CALLS;
 use crate::files::WANTED;
 use crate::files::bytes;
 use crate::files::next;
 use crate::files::next_size;
 use crate::files::opened;
-use crate::tally::counted;
-use crate::tally::none;
-use crate::tally::print_line;
 use crate::wanted::say;
 use base::month_file::MONTH_FILE;
 use base::month_file::RECORD;
@@ -23,6 +20,9 @@ use listing::call::call_in;
 use listing::call::size_of;
 use listing::turn::answered;
 use maps::inputs::FIELD_BYTES;
+use tally::counted;
+use tally::none;
+use tally::print_line;
 use worksheet::desks;
 use worksheet::desks::Worksheet;
 use worksheet::journal::Call;
@@ -54,7 +54,8 @@ fn cut_short(left: usize) -> Next
 
 fn call_at(calls: &[u8], from: usize) -> Next
     requires { ⌜ from < length (now calls) ⌝ }
-    ensures { λ r. ⌜ (1 ≤ r .size) × (from + r .size ≤ length (now (calls .entry))) ⌝ }
+    ensures some { λ r. ⌜ 1 ≤ r .size ⌝ }
+    ensures within { λ r. ⌜ from + r .size ≤ length (now (calls .entry)) ⌝ }
 {
     let left = calls.len() - from;
     if left < 4 {

@@ -1,10 +1,9 @@
-// Replays the Rust side's answers in data/: what `replay`, `sheet` and `sheet page` print, byte by byte.
-// Prints of each kind how many were compared and how many differ.
+// Replays the Rust side's answers in data/: what `replay`, `sheet` and `sheet page` print, byte by
+// byte. Prints of each kind how many were compared and how many differ.
 mod files;
 mod journal;
 mod pages;
 mod sheets;
-mod tally;
 mod wanted;
 
 fn main() {

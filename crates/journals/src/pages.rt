@@ -1,5 +1,5 @@
-// The pages: what `sheet page` prints of some words, over pairs of files that stand first. Of each page
-// the file has the number of its pair, the 14 words and the wanted text.
+// The pages: what `sheet page` prints of some words, over pairs of files that stand first. Of each
+// page the file has the number of its pair, the 14 words and the wanted text.
 use crate::files::WANTED;
 use crate::files::bytes;
 use crate::files::next;
@@ -7,15 +7,15 @@ use crate::files::next_size;
 use crate::files::opened;
 use crate::sheets::PAIR;
 use crate::sheets::part;
-use crate::tally::counted;
-use crate::tally::none;
-use crate::tally::print_line;
 use crate::wanted::say;
 use base::month_file::MONTH_FILE;
 use base::month_file::RECORD;
 use listing::page::PAGE;
 use listing::sheet::page_answer;
 use maps::inputs::FIELD_BYTES;
+use tally::counted;
+use tally::none;
+use tally::print_line;
 ghost use Prim.Native.Nat.{_≤_};
 
 // Three pairs of files.

@@ -1,23 +1,24 @@
-// The sheets: inputs good and bad, damaged, cut short or longer than needed, answered as `sheet` answers
-// them. Of each case the file has the 14 words, what is made of its record and month file, and the wanted
-// text.
+// The sheets: inputs good and bad, damaged, cut short or longer than needed, answered as `sheet`
+// answers them. Of each case the file has the 14 words, what is made of its record and month file,
+// and the wanted text.
 use crate::files::WANTED;
 use crate::files::bytes;
 use crate::files::next;
 use crate::files::next_size;
 use crate::files::opened;
-use crate::tally::counted;
-use crate::tally::none;
-use crate::tally::print_line;
 use crate::wanted::say;
 use base::month_file::MONTH_FILE;
 use base::month_file::RECORD;
 use listing::answer::ANSWER;
 use listing::sheet::sheet_answer;
 use maps::inputs::FIELD_BYTES;
+use tally::counted;
+use tally::none;
+use tally::print_line;
 ghost use Prim.Native.Nat.{_≤_};
 
-// The bytes of a record and its month file, and of the longest input: the words, the two files and more.
+// The bytes of a record and its month file, and of the longest input: the words, the two files and
+// more.
 pub const PAIR: usize = RECORD + MONTH_FILE;
 
 const INPUT: usize = FIELD_BYTES + PAIR + 1000;
@@ -26,7 +27,8 @@ const INPUT: usize = FIELD_BYTES + PAIR + 1000;
 const MONTH_START: usize = FIELD_BYTES + RECORD;
 
 fn min(a: usize, b: usize) -> usize
-    ensures { λ r. ⌜ (r ≤ a) × (r ≤ b) ⌝ }
+    ensures first { λ r. ⌜ r ≤ a ⌝ }
+    ensures second { λ r. ⌜ r ≤ b ⌝ }
 {
     if a < b { a } else { b }
 }
@@ -66,8 +68,8 @@ fn skip(fd: i32, n: usize)
     io::read_full(fd, &mut over[a..n]);
 }
 
-// An input with the first r bytes of the record after its words, then the month file. They are read anew
-// from the file's start, where they follow its first word.
+// An input with the first r bytes of the record after its words, then the month file. They are read
+// anew from the file's start, where they follow its first word.
 fn with_files(input: [u8; INPUT], r: usize) -> [u8; INPUT]
     requires { ⌜ r ≤ 7904 ⌝ }
 {

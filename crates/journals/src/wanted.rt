@@ -1,5 +1,5 @@
-// A wanted text, and a place in it up to which all that was said agrees. What is said at a place moves
-// it on, and to WRONG where it differs.
+// A wanted text, and a place in it up to which all that was said agrees. What is said at a place
+// moves it on, and to WRONG where it differs.
 
 // Past the end of any text.
 pub const WRONG: usize = 0xffff_ffff_ffff_ffff;

@@ -1,7 +1,3 @@
--- Laws that belong to no one function. Assumes nothing.
-pub mod Stored
-pub mod Returned
-pub mod Crossed
-pub mod Carried
-pub mod InsuredOver
-pub mod Unopened
+-- Laws that belong to no one function, in rooms by subject. Assumes nothing.
+pub mod crossing
+pub mod lists

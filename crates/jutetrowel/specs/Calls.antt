@@ -1,5 +1,5 @@
--- The exported calls as demand 3's, and demand 3 over lent words: a list of them, each on the words that the one before
--- it left. Assumes nothing.
+-- The exported calls as demand 3's, and demand 3 over lent words: a list of them, each on the words
+-- that the one before it left. Assumes nothing.
 use Prim.Native.Nat.{ℕ}
 use mathlib.Core.List.{List, [], _∷_}
 use mathlib.Core.Path.{_≡_}
@@ -14,14 +14,14 @@ use Rattle.worksheet.specs.Journal.{Call, begin, commit, cancel, change, takeBa
 use Rattle.jutetrowel.specs.declared.answers.Answer.{Answer as Numbers}
 use Rattle.jutetrowel.specs.declared.answers.Showing.{Showing}
 use Rattle.jutetrowel.specs.Answers.{answerOf, showingOf, shownNumbers}
-use Rattle.jutetrowel.specs.Words.{worksheetOf, wordsOf}
+use Rattle.jutetrowel.specs.Words.{worksheetOf, sheetWords}
 
 -- ---- answers as they cross
 
 -- an answer's number and place
-abbrev pub numbersOf : Answer → Numbers
-numbersOf (told v) = answerOf v
-numbersOf (shown s after) = shownNumbers s
+abbrev pub answerNumbers : Answer → Numbers
+answerNumbers (told v) = answerOf v
+answerNumbers (shown s after) = shownNumbers s
 
 -- what is handed back of a showing, beside the buffer afterwards; a verdict shows nothing
 abbrev pub Shows : Answer → Showing → List Float → Type 0
@@ -30,9 +30,10 @@ Shows (shown s after) r buffer = (r ≡ showingOf s) × (buffer ≡ after)
 
 -- ---- the calls over words
 
--- the words l after a call that answered so and left w: where it is accepted those of w, else and after a showing l
+-- the words l after a call that answered so and left w: where it is accepted those of w, else and
+-- after a showing l
 abbrev pub wordsBy : Answer → Worksheet → List ℕ → List ℕ
-wordsBy (told v) w l = writtenOver v (wordsOf w) l
+wordsBy (told v) w l = writtenOver v (sheetWords w) l
 wordsBy (shown s after) w l = l
 
 module _ (source : Source) where
@@ -42,9 +43,10 @@ module _ (source : Source) where
       let s = step source c (worksheetOf l) in
       wordsBy (s .answer) (s .sheet) l
 
--- the call c on the words l answers r and leaves the words `after`, whatever the files: it shows nothing
+-- the call c on the words l answers r and leaves the words `after`, whatever the files: it shows
+-- nothing
 pub record Made (c : Call) (l : List ℕ) (r : Numbers) (after : List ℕ) : Type 0 where
-  pub answer : (source : Source) → r ≡ numbersOf (step source c (worksheetOf l) .answer)
+  pub answer : (source : Source) → r ≡ answerNumbers (step source c (worksheetOf l) .answer)
   pub words : (source : Source) → after ≡ wordsLeft source c l
 
 -- ---- demand 3

@@ -1,4 +1,5 @@
--- A sheet's fields that cross to this library one by one, as the crates below take them. Assumes nothing.
+-- A sheet's fields that cross to this library one by one, as the crates below take them. Assumes
+-- nothing.
 use Prim.Native.Nat.{ℕ}
 use lib.Ieee.{Float}
 use Rattle.base.specs.declared.angle.Degrees.{Degrees}
@@ -15,8 +16,8 @@ abbrev pub radians : Float → Radians
 radians x = record { 0 = x }
 
 -- a path's numbers, and the flag's word as it is
-abbrev pub routeOf : Float → Float → Float → Float → ℕ → Route
-routeOf tlat tlong rlat rlong flag =
+abbrev pub routeTyped : Float → Float → Float → Float → ℕ → Route
+routeTyped tlat tlong rlat rlong flag =
     record {
       tlat = degrees tlat;
       tlong = degrees tlong;
@@ -28,18 +29,18 @@ routeOf tlat tlong rlat rlong flag =
 abbrev pub factorsOf : Float → Float → Float → Float → Factors
 factorsOf e f1 f2 es = record { e = e; f1 = f1; f2 = f2; es = es }
 
-abbrev pub poleOf : Float → Float → MagneticPole
-poleOf lat lon = record { lat = degrees lat; lon = degrees lon }
+abbrev pub poleTyped : Float → Float → MagneticPole
+poleTyped lat lon = record { lat = degrees lat; lon = degrees lon }
 
 -- the 14 fields in document 01's order
-unfoldable pub inputsOf :
+unfoldable pub inputsTyped :
     ℕ → Float → Float → Float → Float → Float → Float → ℕ → Float → Float → Float → Float → Float → Float → Inputs
-inputsOf month ssn gmt tlat tlong rlat rlong flag e f1 f2 es lat lon =
+inputsTyped month ssn gmt tlat tlong rlat rlong flag e f1 f2 es lat lon =
     record {
       month = month;
       ssn = ssn;
       gmt = gmt;
-      route = routeOf tlat tlong rlat rlong flag;
+      route = routeTyped tlat tlong rlat rlong flag;
       psc = factorsOf e f1 f2 es;
-      pole = poleOf lat lon;
+      pole = poleTyped lat lon;
     }

@@ -1,4 +1,5 @@
--- How the parts of `maps` cross: numbers in structs, the Rust's fields in their order, and what is worked out beside them. Assumes nothing.
+-- How the parts of `maps` cross: numbers in structs, the Rust's fields in their order, and what is
+-- worked out beside them. Assumes nothing.
 use Prim.Native.Nat.{ℕ}
 use lib.Ieee.{Float}
 use Rattle.base.specs.Refusal.{verdictReport}

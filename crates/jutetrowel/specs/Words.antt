@@ -1,12 +1,12 @@
--- A worksheet as the 90 words that another language lends: six sets of 15, which are the inputs, the earlier set and
--- the drafts of desks 1 to 4. Assumes nothing.
+-- A worksheet as the 90 words that another language lends: six sets of 15, which are the inputs,
+-- the earlier set and the drafts of desks 1 to 4. Assumes nothing.
 use mathlib.Core.Bool.{cond}
 use mathlib.Core.List.{List, _∷_, _++_}
 use Prim.Native.Nat.{ℕ, _+_}
 use lib.Dec.{eqb}
 use lib.ListN.{getD, replicate}
 use Rattle.base.specs.Refusal.{writtenOver}
-use Rattle.maps.specs.Inputs.{inputsFrom, fieldWords}
+use Rattle.maps.specs.Inputs.{inputsFrom, fieldWords, Singles}
 use Rattle.maps.specs.declared.inputs.Inputs.{Inputs}
 use Rattle.worksheet.specs.declared.desks.Draft.{Draft}
 use Rattle.worksheet.specs.declared.desks.Draft.the-variants.{Closed, Fresh, Stale}
@@ -14,6 +14,7 @@ use Rattle.worksheet.specs.declared.desks.Earlier.{Earlier}
 use Rattle.worksheet.specs.declared.desks.Earlier.the-variants.{Nothing, Set}
 use Rattle.worksheet.specs.declared.desks.Outcome.{Outcome}
 use Rattle.worksheet.specs.declared.desks.Worksheet.{Worksheet}
+use Rattle.worksheet.specs.Desks.{EarlierHas, DraftHas, SheetHas}
 
 -- a set's words: what it is, and its 14 fields
 abbrev pub setSize : ℕ
@@ -75,12 +76,23 @@ draftWords Closed = noWords
 draftWords (Fresh i) = setWords 1 i
 draftWords (Stale i) = setWords 2 i
 
-unfoldable pub wordsOf : Worksheet → List ℕ
-wordsOf w =
+unfoldable pub sheetWords : Worksheet → List ℕ
+sheetWords w =
     setWords 1 (w .inputs)
     ++ (earlierWords (w .earlier)
     ++ (draftWords (w .d1) ++ (draftWords (w .d2) ++ (draftWords (w .d3) ++ draftWords (w .d4)))))
 
 -- the lent words after an outcome: 'A refusal changes neither worksheet nor lent buffer'
 abbrev pub wordsAfter : Outcome → List ℕ → List ℕ
-wordsAfter o lent = writtenOver (o .answer) (wordsOf (o .sheet)) lent
+wordsAfter o lent = writtenOver (o .answer) (sheetWords (o .sheet)) lent
+
+-- ---- worksheets of numbers that an f32 can be
+
+abbrev pub EarlierSingles : Earlier → Type 0
+EarlierSingles = EarlierHas Singles
+
+abbrev pub DraftSingles : Draft → Type 0
+DraftSingles = DraftHas Singles
+
+abbrev pub SheetSingles : Worksheet → Type 0
+SheetSingles = SheetHas Singles

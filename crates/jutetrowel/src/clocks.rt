@@ -11,7 +11,7 @@ ghost use lib.Dec.{eqb};
 ghost use Rattle.maps.specs.declared.ionosphere.clocks.Direction.the-variants.{ToLocal, ToUniversal};
 ghost use Rattle.maps.specs.Clocks.{movedOf, timesOf, localTimeOf};
 ghost use Rattle.jutetrowel.specs.Fields.{degrees};
-ghost use Rattle.jutetrowel.specs.Clocks.{clockOf, hoursOf, localOf};
+ghost use Rattle.jutetrowel.specs.Clocks.{clockAnswer, hoursAnswer, localAnswer};
 
 // A time and its change of day: -1, 0 or 1. Refused, both +0, with the refusal's number and place.
 #[repr(C)]
@@ -41,7 +41,7 @@ pub struct LocalAnswer {
 }
 
 fn clock_of(moved: Moved) -> ClockAnswer
-    ensures { λ r. ⌜ r ≡ clockOf moved ⌝ }
+    ensures { λ r. ⌜ r ≡ clockAnswer moved ⌝ }
 {
     match moved {
         Moved::To(x) => ClockAnswer {
@@ -60,7 +60,7 @@ fn clock_of(moved: Moved) -> ClockAnswer
 }
 
 fn hours_of(times: Times) -> HoursAnswer
-    ensures { λ r. ⌜ r ≡ hoursOf times ⌝ }
+    ensures { λ r. ⌜ r ≡ hoursAnswer times ⌝ }
 {
     match times {
         Times::Hours(x) => HoursAnswer {
@@ -81,7 +81,7 @@ fn hours_of(times: Times) -> HoursAnswer
 }
 
 fn local_of(local: LocalTime) -> LocalAnswer
-    ensures { λ r. ⌜ r ≡ localOf local ⌝ }
+    ensures { λ r. ⌜ r ≡ localAnswer local ⌝ }
 {
     match local {
         LocalTime::At(x) => LocalAnswer {
@@ -97,34 +97,38 @@ fn local_of(local: LocalTime) -> LocalAnswer
     }
 }
 
-// A universal time made local.
+// A universal time in hours made local at a longitude in degrees, with the change of day. Refuses
+// as `cngtim`, with zeros for the time and the day.
 #[no_mangle]
 pub extern "C" fn jt_cngtim_to_local(time: f32, lon: f32) -> ClockAnswer
-    ensures { λ r. ⌜ r ≡ clockOf (movedOf time (degrees lon) ToLocal) ⌝ }
+    ensures { λ r. ⌜ r ≡ clockAnswer (movedOf time (degrees lon) ToLocal) ⌝ }
 {
     clock_of(clocks::cngtim(time, Degrees(lon), Direction::ToLocal))
 }
 
-// A local time made universal.
+// A local time in hours at a longitude in degrees made universal, with the change of day. Refuses
+// as `cngtim`, with zeros for the time and the day.
 #[no_mangle]
 pub extern "C" fn jt_cngtim_to_universal(time: f32, lon: f32) -> ClockAnswer
-    ensures { λ r. ⌜ r ≡ clockOf (movedOf time (degrees lon) ToUniversal) ⌝ }
+    ensures { λ r. ⌜ r ≡ clockAnswer (movedOf time (degrees lon) ToUniversal) ⌝ }
 {
     clock_of(clocks::cngtim(time, Degrees(lon), Direction::ToUniversal))
 }
 
 // A whole hour at both ends of a path; it is the transmitter's local time where `local` is not 0.
+// Refuses as `geotim`, with zeros for the times.
 #[no_mangle]
 pub extern "C" fn jt_geotim(hour: u32, local: u32, tlong: f32, rlong: f32) -> HoursAnswer
-    ensures { λ r. ⌜ r ≡ hoursOf (timesOf hour (not (eqb local 0)) (degrees tlong) (degrees rlong)) ⌝ }
+    ensures { λ r. ⌜ r ≡ hoursAnswer (timesOf hour (not (eqb local 0)) (degrees tlong) (degrees rlong)) ⌝ }
 {
     hours_of(clocks::geotim(hour, local != 0, Degrees(tlong), Degrees(rlong)))
 }
 
-// The local time at one place for a universal time.
+// The local time in hours at one place, its longitude in degrees, for a universal time. Refuses as
+// `geotim_clck`, with zero for the time.
 #[no_mangle]
 pub extern "C" fn jt_geotim_clck(gmt: f32, lon: f32) -> LocalAnswer
-    ensures { λ r. ⌜ r ≡ localOf (localTimeOf gmt (degrees lon)) ⌝ }
+    ensures { λ r. ⌜ r ≡ localAnswer (localTimeOf gmt (degrees lon)) ⌝ }
 {
     local_of(clocks::geotim_clck(gmt, Degrees(lon)))
 }

@@ -1,5 +1,5 @@
-// The calls of `worksheet::journal`, over a worksheet of 90 lent words. A call that is refused leaves
-// them, bit for bit.
+// The calls of `worksheet::journal`, over a worksheet of 90 lent words. A call that is refused
+// leaves them, bit for bit.
 use crate::answers::Answer;
 use crate::answers::Showing;
 use crate::answers::numbers_of;
@@ -20,21 +20,19 @@ ghost use mathlib.Core.List.{[]};
 ghost use Rattle.worksheet.specs.declared.inputs.Edit.the-variants.{Sunspot, Hour, Path, Psc, Pole};
 ghost use Rattle.worksheet.specs.Desks.{openedOf};
 ghost use Rattle.worksheet.specs.Showing.{pair};
-ghost use Rattle.worksheet.specs.Journal.{begin, change, commit, cancel, takeBack, show as showing, step};
+ghost use Rattle.worksheet.specs.Journal.{begin, change, commit, cancel, takeBack, show as showCall, step};
 ghost use Rattle.worksheet.specs.Calls.{called};
 ghost use Rattle.jutetrowel.specs.Answers.{answerOf};
-ghost use Rattle.jutetrowel.specs.Fields.{routeOf, factorsOf, poleOf};
+ghost use Rattle.jutetrowel.specs.Fields.{routeTyped, factorsOf, poleTyped};
 ghost use Rattle.jutetrowel.specs.Words.{worksheetOf, wordsAfter};
-ghost use Rattle.jutetrowel.specs.Calls.{numbersOf, Shows, wordsLeft, Made};
+ghost use Rattle.jutetrowel.specs.Calls.{answerNumbers, Shows, wordsLeft, Made};
 
-// A worksheet from 14 little-endian words, into the lent ones.
+// A worksheet from 14 little-endian words, into the 90 words lent. Refuses the first bad field; the
+// 90 words stay.
 #[no_mangle]
 pub extern "C" fn jt_open(words: &[u8], sheet: &mut [u32; SHEET_WORDS]) -> Answer
-    ensures { λ r. ⌜ (
-        let o = openedOf (now (words .entry)) in
-        (r ≡ answerOf (o .answer))
-        × (now (sheet .exit) ≡ wordsAfter o (now (sheet .entry)))
-        ) ⌝ }
+    ensures answer { λ r. ⌜ r ≡ answerOf (openedOf (now (words .entry)) .answer) ⌝ }
+    ensures sheet { λ _. ⌜ now (sheet .exit) ≡ wordsAfter (openedOf (now (words .entry))) (now (sheet .entry)) ⌝ }
 {
     let new = opened(words);
     let verdict = new.answer;
@@ -44,12 +42,11 @@ pub extern "C" fn jt_open(words: &[u8], sheet: &mut [u32; SHEET_WORDS]) -> Answe
 
 // Makes a call that needs no files. A showing has no buffer here: it is refused.
 fn made(sheet: &mut [u32; SHEET_WORDS], call: Call) -> Answer
-    ensures { λ r. ⌜ (
-        let l = now (sheet .entry) in
-        let c = called call [] in
-        (r ≡ numbersOf (step (pair [] []) c (worksheetOf l) .answer))
-        × (now (sheet .exit) ≡ wordsLeft (pair [] []) c l)
+    ensures answer { λ r. ⌜ (
+        let s = step (pair [] []) (called call []) (worksheetOf (now (sheet .entry))) in
+        r ≡ answerNumbers (s .answer)
         ) ⌝ }
+    ensures sheet { λ _. ⌜ now (sheet .exit) ≡ wordsLeft (pair [] []) (called call []) (now (sheet .entry)) ⌝ }
 {
     let mut nothing = [0.0f32; 0];
     let next = journal::make(load(sheet), call, b"", b"", &mut nothing);
@@ -61,6 +58,7 @@ fn made(sheet: &mut [u32; SHEET_WORDS], call: Call) -> Answer
     }
 }
 
+// Begins a desk's draft, a copy of the inputs. Refuses 14, then 15 where it has one.
 #[no_mangle]
 pub extern "C" fn jt_begin(sheet: &mut [u32; SHEET_WORDS], desk: u32) -> Answer
     ensures { λ r. ⌜ Made (begin desk) (now (sheet .entry)) r (now (sheet .exit)) ⌝ }
@@ -68,6 +66,7 @@ pub extern "C" fn jt_begin(sheet: &mut [u32; SHEET_WORDS], desk: u32) -> Answer
     made(sheet, Call::Begin(desk))
 }
 
+// Changes the sunspot number of a desk's draft. Refuses 14, 16, then the field, 2.
 #[no_mangle]
 pub extern "C" fn jt_change_sunspot(sheet: &mut [u32; SHEET_WORDS], desk: u32, ssn: f32) -> Answer
     ensures { λ r. ⌜ Made (change desk (Sunspot ssn)) (now (sheet .entry)) r (now (sheet .exit)) ⌝ }
@@ -75,6 +74,7 @@ pub extern "C" fn jt_change_sunspot(sheet: &mut [u32; SHEET_WORDS], desk: u32, s
     made(sheet, Call::Change(desk, Edit::Sunspot(ssn)))
 }
 
+// Changes the hour of a desk's draft. Refuses 14, 16, then the field, 3.
 #[no_mangle]
 pub extern "C" fn jt_change_hour(sheet: &mut [u32; SHEET_WORDS], desk: u32, gmt: f32) -> Answer
     ensures { λ r. ⌜ Made (change desk (Hour gmt)) (now (sheet .entry)) r (now (sheet .exit)) ⌝ }
@@ -82,7 +82,8 @@ pub extern "C" fn jt_change_hour(sheet: &mut [u32; SHEET_WORDS], desk: u32, gmt:
     made(sheet, Call::Change(desk, Edit::Hour(gmt)))
 }
 
-// A flag that is neither 0 nor 1 is refused.
+// Changes the path of a desk's draft, its ends in degrees. Refuses 14, 16, then the fields, 4 and
+// 5, and 7 for a flag that is neither 0 nor 1.
 #[no_mangle]
 pub extern "C" fn jt_change_path(
     sheet: &mut [u32; SHEET_WORDS],
@@ -93,13 +94,14 @@ pub extern "C" fn jt_change_path(
     rlong: f32,
     long_path: u32,
 ) -> Answer
-    ensures { λ r. ⌜ Made (change desk (Path (routeOf tlat tlong rlat rlong «long_path»)))
+    ensures { λ r. ⌜ Made (change desk (Path (routeTyped tlat tlong rlat rlong «long_path»)))
         (now (sheet .entry)) r (now (sheet .exit)) ⌝ }
 {
     let e = Edit::Path(route(tlat, tlong, rlat, rlong, long_path));
     made(sheet, Call::Change(desk, e))
 }
 
+// Changes the four factors of a desk's draft. Refuses 14, 16, then the fields, 6.
 #[no_mangle]
 pub extern "C" fn jt_change_factors(
     sheet: &mut [u32; SHEET_WORDS],
@@ -116,6 +118,8 @@ pub extern "C" fn jt_change_factors(
     made(sheet, Call::Change(desk, e))
 }
 
+// Changes the magnetic pole of a desk's draft, in degrees. Refuses 14, 16, then the fields, 4 and
+// 5.
 #[no_mangle]
 pub extern "C" fn jt_change_pole(
     sheet: &mut [u32; SHEET_WORDS],
@@ -123,13 +127,14 @@ pub extern "C" fn jt_change_pole(
     pole_lat: f32,
     pole_lon: f32,
 ) -> Answer
-    ensures { λ r. ⌜ Made (change desk (Pole (poleOf «pole_lat» «pole_lon»)))
+    ensures { λ r. ⌜ Made (change desk (Pole (poleTyped «pole_lat» «pole_lon»)))
         (now (sheet .entry)) r (now (sheet .exit)) ⌝ }
 {
     let e = Edit::Pole(pole(pole_lat, pole_lon));
     made(sheet, Call::Change(desk, e))
 }
 
+// Makes a desk's draft the inputs. Refuses 14, 16, then 17 where the draft is stale.
 #[no_mangle]
 pub extern "C" fn jt_commit(sheet: &mut [u32; SHEET_WORDS], desk: u32) -> Answer
     ensures { λ r. ⌜ Made (commit desk) (now (sheet .entry)) r (now (sheet .exit)) ⌝ }
@@ -137,6 +142,7 @@ pub extern "C" fn jt_commit(sheet: &mut [u32; SHEET_WORDS], desk: u32) -> Answer
     made(sheet, Call::Commit(desk))
 }
 
+// Drops a desk's draft; nothing else moves. Refuses 14, then 16 where there is none.
 #[no_mangle]
 pub extern "C" fn jt_cancel(sheet: &mut [u32; SHEET_WORDS], desk: u32) -> Answer
     ensures { λ r. ⌜ Made (cancel desk) (now (sheet .entry)) r (now (sheet .exit)) ⌝ }
@@ -144,6 +150,7 @@ pub extern "C" fn jt_cancel(sheet: &mut [u32; SHEET_WORDS], desk: u32) -> Answer
     made(sheet, Call::Cancel(desk))
 }
 
+// Brings back the earlier set of inputs. Refuses 18 where there is none.
 #[no_mangle]
 pub extern "C" fn jt_take_back(sheet: &mut [u32; SHEET_WORDS]) -> Answer
     ensures { λ r. ⌜ Made takeBack (now (sheet .entry)) r (now (sheet .exit)) ⌝ }
@@ -151,7 +158,8 @@ pub extern "C" fn jt_take_back(sheet: &mut [u32; SHEET_WORDS]) -> Answer
     made(sheet, Call::TakeBack)
 }
 
-// Desk 0 is the worksheet. `f2` is the F2 record and `file` the month file.
+// The number of points, with the figures of a desk's draft, of the worksheet for desk 0, in the
+// buffer. Refuses as `show`; the buffer stays.
 #[no_mangle]
 pub extern "C" fn jt_show(
     sheet: &[u32; SHEET_WORDS],
@@ -161,7 +169,7 @@ pub extern "C" fn jt_show(
     out: &mut [f32],
 ) -> Showing
     ensures { λ r. ⌜ Shows (step (pair (now (f2 .entry)) (now (file .entry)))
-        (showing desk (now (out .entry))) (worksheetOf (now (sheet .entry))) .answer)
+        (showCall desk (now (out .entry))) (worksheetOf (now (sheet .entry))) .answer)
         r (now (out .exit)) ⌝ }
 {
     shown_as(show(load(sheet), desk, f2, file, out))

@@ -4,10 +4,10 @@ use maps::inputs::Factors;
 use maps::inputs::MagneticPole;
 use maps::inputs::Route;
 ghost use mathlib.Core.Path.{_≡_};
-ghost use Rattle.jutetrowel.specs.Fields.{routeOf, factorsOf, poleOf};
+ghost use Rattle.jutetrowel.specs.Fields.{routeTyped, factorsOf, poleTyped};
 
 pub(crate) fn route(tlat: f32, tlong: f32, rlat: f32, rlong: f32, long_path: u32) -> Route
-    ensures { λ r. ⌜ r ≡ routeOf tlat tlong rlat rlong «long_path» ⌝ }
+    ensures { λ r. ⌜ r ≡ routeTyped tlat tlong rlat rlong «long_path» ⌝ }
 {
     Route {
         tlat: Degrees(tlat),
@@ -25,7 +25,7 @@ pub(crate) fn factors(e: f32, f1: f32, f2: f32, es: f32) -> Factors
 }
 
 pub(crate) fn pole(lat: f32, lon: f32) -> MagneticPole
-    ensures { λ r. ⌜ r ≡ poleOf lat lon ⌝ }
+    ensures { λ r. ⌜ r ≡ poleTyped lat lon ⌝ }
 {
     MagneticPole {
         lat: Degrees(lat),

@@ -18,6 +18,8 @@ ghost use Rattle.base.specs.Blend.{cofionOf, hmymOf};
 ghost use Rattle.base.specs.Files.{fileCheck, filesCheck};
 ghost use Rattle.jutetrowel.specs.Answers.{answerOf, spanOf};
 
+// The month file's walk in fours: 9 where four bytes are not there, 10 at a wrong marker, with that
+// byte's place.
 #[no_mangle]
 pub extern "C" fn jt_month_file_check(s: &[u8]) -> Answer
     ensures { λ r. ⌜ r ≡ answerOf (monthFileCheck (now (s .entry))) ⌝ }
@@ -25,7 +27,7 @@ pub extern "C" fn jt_month_file_check(s: &[u8]) -> Answer
     answered(month_file::month_file_check(s))
 }
 
-// Whether a month file can be used: its form, and then its index table.
+// Whether a month file can be used: 9 or 10 by its walk, then 11 by its index table.
 #[no_mangle]
 pub extern "C" fn jt_file_check(month: &[u8]) -> Answer
     ensures { λ r. ⌜ r ≡ answerOf (fileCheck (now (month .entry))) ⌝ }
@@ -33,7 +35,8 @@ pub extern "C" fn jt_file_check(month: &[u8]) -> Answer
     answered(files::file_check(month))
 }
 
-// Where a month's record lies in the `.daw` file.
+// Where a month's record lies in the `.daw` file: start and size in bytes. Refuses 1, 8, with zeros
+// for both.
 #[no_mangle]
 pub extern "C" fn jt_month_record(daw: &[u8], month: u32) -> Span
     ensures { λ r. ⌜ (
@@ -53,7 +56,8 @@ pub extern "C" fn jt_month_record(daw: &[u8], month: u32) -> Span
     }
 }
 
-// Where a table lies: number 0 in the F2 record, 1 to 20 in the month file.
+// Where a table lies, number 0 in the F2 record, 1 to 20 in the month file: start and size in
+// bytes. Refuses 13, 8, 9, 10, with zeros for both.
 #[no_mangle]
 pub extern "C" fn jt_table(number: u32, f2: &[u8], month: &[u8]) -> Span
     ensures { λ r. ⌜ (
@@ -77,28 +81,28 @@ pub extern "C" fn jt_table(number: u32, f2: &[u8], month: &[u8]) -> Span
     }
 }
 
-// The blended coefficients of the six maps at a sunspot number; refused, the array stays as it is.
+// The blended coefficients of the six maps at a sunspot number. Refuses 8, 9, 10, 11; the array
+// stays as it is.
 #[no_mangle]
 pub extern "C" fn jt_cofion(f2: &[u8], month: &[u8], ssn: f32, out: &mut SixMaps) -> Answer
-    ensures { λ r. ⌜ (
+    ensures answer { λ r. ⌜ r ≡ answerOf (filesCheck (now (f2 .entry)) (now (month .entry))) ⌝ }
+    ensures buffer { λ _. ⌜ (
         let f = now (f2 .entry) in
         let m = now (month .entry) in
-        let v = filesCheck f m in
-        (r ≡ answerOf v)
-        × (now (out .exit) ≡ writtenOver v (cofionOf f m ssn) (now (out .entry)))
+        now (out .exit) ≡ writtenOver (filesCheck f m) (cofionOf f m ssn) (now (out .entry))
         ) ⌝ }
 {
     answered(files::cofion(f2, month, ssn, out))
 }
 
-// The blended coefficients of the height map; refused, the array stays as it is.
+// The blended coefficients of the height map at a sunspot number. Refuses 9, 10, 11; the array
+// stays as it is.
 #[no_mangle]
 pub extern "C" fn jt_hmym(month: &[u8], ssn: f32, out: &mut HeightMap) -> Answer
-    ensures { λ r. ⌜ (
+    ensures answer { λ r. ⌜ r ≡ answerOf (fileCheck (now (month .entry))) ⌝ }
+    ensures buffer { λ _. ⌜ (
         let m = now (month .entry) in
-        let v = fileCheck m in
-        (r ≡ answerOf v)
-        × (now (out .exit) ≡ writtenOver v (hmymOf m ssn) (now (out .entry)))
+        now (out .exit) ≡ writtenOver (fileCheck m) (hmymOf m ssn) (now (out .entry))
         ) ⌝ }
 {
     answered(files::hmym(month, ssn, out))

@@ -18,7 +18,7 @@ ghost use Rattle.maps.specs.Inputs.{isLong};
 ghost use Rattle.maps.specs.Geometry.{pathOf};
 ghost use Rattle.maps.specs.Ionosphere.{hourMapsOf, layersAtOf};
 ghost use Rattle.jutetrowel.specs.Answers.{answerOf};
-ghost use Rattle.jutetrowel.specs.Fields.{degrees, radians, poleOf};
+ghost use Rattle.jutetrowel.specs.Fields.{degrees, radians, poleTyped};
 ghost use Rattle.jutetrowel.specs.Layers.{layerInputs, measuredOf, layersAs};
 
 // The lengths and bearings of a path, radians but for the names that say otherwise, and its points.
@@ -72,7 +72,8 @@ fn path_as(g: geometry::PathGeometry) -> Measured
     }
 }
 
-// A path by its ends in degrees; a flag that is not 0 is the long way round.
+// The path between two ends in degrees, its six figures, both bearings in degrees and its number of
+// points; a flag that is not 0 is the long way round. Nothing is refused.
 #[no_mangle]
 pub extern "C" fn jt_path(
     tlat: f32,
@@ -85,7 +86,7 @@ pub extern "C" fn jt_path(
 ) -> Measured
     ensures { λ r. ⌜ (
         let long = isLong «long_path» in
-        let pole = poleOf «pole_lat» «pole_lon» in
+        let pole = poleTyped «pole_lat» «pole_lon» in
         r ≡ measuredOf (pathOf (degrees tlat) (degrees tlong) (degrees rlat) (degrees rlong) long pole)
         ) ⌝ }
 {
@@ -99,7 +100,8 @@ pub extern "C" fn jt_path(
     ))
 }
 
-// The coefficients of the six maps at an hour; refused, the array stays as it is.
+// The coefficients of the six maps at a sunspot number and an hour. Refuses 8, 9, 10, 11; the array
+// stays as it is.
 #[no_mangle]
 pub extern "C" fn jt_hour_maps(
     f2: &[u8],
@@ -108,12 +110,11 @@ pub extern "C" fn jt_hour_maps(
     gmt: f32,
     ab: &mut TimeMaps,
 ) -> Answer
-    ensures { λ r. ⌜ (
+    ensures answer { λ r. ⌜ r ≡ answerOf (filesCheck (now (f2 .entry)) (now (file .entry))) ⌝ }
+    ensures buffer { λ _. ⌜ (
         let f = now (f2 .entry) in
         let m = now (file .entry) in
-        let v = filesCheck f m in
-        (r ≡ answerOf v)
-        × (now (ab .exit) ≡ writtenOver v (hourMapsOf f m ssn gmt) (now (ab .entry)))
+        now (ab .exit) ≡ writtenOver (filesCheck f m) (hourMapsOf f m ssn gmt) (now (ab .entry))
         ) ⌝ }
 {
     answered(ionosphere::hour_maps(f2, file, ssn, gmt, ab))
@@ -145,8 +146,8 @@ fn layers_as(l: LayersAt) -> Layers
     }
 }
 
-// The layers at a place in radians, from the maps at the hour and a month file. A month that there is
-// not is refused first.
+// The layers at a place in radians, from the maps at the hour and a month file. Refuses 1, then 9,
+// 10, 11, with +0.0 for every parameter.
 #[no_mangle]
 pub extern "C" fn jt_layers_at(
     month: u32,
@@ -165,7 +166,7 @@ pub extern "C" fn jt_layers_at(
 ) -> Layers
     ensures { λ r. ⌜ (
         let i = layerInputs month ssn gmt «psc_e» «psc_f1» «psc_f2» «psc_es» in
-        let pole = poleOf «pole_lat» «pole_lon» in
+        let pole = poleTyped «pole_lat» «pole_lon» in
         r ≡ layersAs (layersAtOf i (now (ab .entry)) (now (file .entry)) pole (radians lat) (radians lon))
         ) ⌝ }
 {

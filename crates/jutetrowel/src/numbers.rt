@@ -4,6 +4,7 @@ ghost use lib.Ieee.{binary32, binary64, ofInt, toSigned, toUnsigned};
 ghost use Rattle.base.specs.Number.{absOf, minOf, maxOf, narrowOf, sqrtOf};
 ghost use Rattle.base.specs.Elementary.{sinOf, cosOf, atanOf, acosOf, expOf, lnOf, sin32Of, cos32Of, atan32Of, acos32Of, exp32Of, ln32Of};
 
+// The size of x, which takes -0 to +0; a NaN gives a NaN.
 #[no_mangle]
 pub extern "C" fn jt_abs32(x: f32) -> f32
     ensures { λ r. ⌜ r ≡ absOf x ⌝ }
@@ -11,6 +12,7 @@ pub extern "C" fn jt_abs32(x: f32) -> f32
     base::number::abs32(x)
 }
 
+// The size of x, which takes -0 to +0; a NaN gives a NaN.
 #[no_mangle]
 pub extern "C" fn jt_abs64(x: f64) -> f64
     ensures { λ r. ⌜ r ≡ absOf x ⌝ }
@@ -18,6 +20,7 @@ pub extern "C" fn jt_abs64(x: f64) -> f64
     base::number::abs64(x)
 }
 
+// The lesser of two, the other one where one is a NaN, and the left of equals.
 #[no_mangle]
 pub extern "C" fn jt_min(a: f32, b: f32) -> f32
     ensures { λ r. ⌜ r ≡ minOf a b ⌝ }
@@ -25,6 +28,7 @@ pub extern "C" fn jt_min(a: f32, b: f32) -> f32
     base::number::min(a, b)
 }
 
+// The greater of two, the other one where one is a NaN, and the left of equals.
 #[no_mangle]
 pub extern "C" fn jt_max(a: f32, b: f32) -> f32
     ensures { λ r. ⌜ r ≡ maxOf a b ⌝ }
@@ -32,6 +36,7 @@ pub extern "C" fn jt_max(a: f32, b: f32) -> f32
     base::number::max(a, b)
 }
 
+// x as an `f64`, which holds every `f32`; a NaN gives a NaN.
 #[no_mangle]
 pub extern "C" fn jt_widen(x: f32) -> f64
     ensures { λ r. ⌜ r ≡ x ⌝ }
@@ -39,6 +44,7 @@ pub extern "C" fn jt_widen(x: f32) -> f64
     base::number::widen(x)
 }
 
+// The `f32` nearest to x, a tie going to the one whose last digit is even; a NaN gives a NaN.
 #[no_mangle]
 pub extern "C" fn jt_narrow(x: f64) -> f32
     ensures { λ r. ⌜ r ≡ narrowOf x ⌝ }
@@ -46,6 +52,7 @@ pub extern "C" fn jt_narrow(x: f64) -> f32
     base::number::narrow(x)
 }
 
+// √x to the nearest `f64`; a NaN for a NaN and for any x below zero but -0, whose root is -0.
 #[no_mangle]
 pub extern "C" fn jt_sqrt64(x: f64) -> f64
     ensures { λ r. ⌜ r ≡ sqrtOf binary64 x ⌝ }
@@ -53,6 +60,7 @@ pub extern "C" fn jt_sqrt64(x: f64) -> f64
     base::number::sqrt64(x)
 }
 
+// √x to the nearest `f32`; a NaN for a NaN and for any x below zero but -0, whose root is -0.
 #[no_mangle]
 pub extern "C" fn jt_sqrt32(x: f32) -> f32
     ensures { λ r. ⌜ r ≡ sqrtOf binary32 x ⌝ }
@@ -60,6 +68,8 @@ pub extern "C" fn jt_sqrt32(x: f32) -> f32
     base::number::sqrt32(x)
 }
 
+// x without its fraction, as Rust's `as i32` has it: the nearest end of the range where x is
+// outside, and 0 for a NaN.
 #[no_mangle]
 pub extern "C" fn jt_to_i32(x: f32) -> i32
     ensures { λ r. ⌜ r ≡ toSigned 31 x ⌝ }
@@ -67,6 +77,7 @@ pub extern "C" fn jt_to_i32(x: f32) -> i32
     base::number::to_i32(x)
 }
 
+// The `f32` nearest to n, as Rust's `as` has it.
 #[no_mangle]
 pub extern "C" fn jt_from_i32(n: i32) -> f32
     ensures { λ r. ⌜ r ≡ ofInt binary32 n ⌝ }
@@ -74,6 +85,7 @@ pub extern "C" fn jt_from_i32(n: i32) -> f32
     base::number::from_i32(n)
 }
 
+// x without its fraction, as Rust's `as u64` has it.
 #[no_mangle]
 pub extern "C" fn jt_to_u64(x: f64) -> u64
     ensures { λ r. ⌜ r ≡ toUnsigned 64 x ⌝ }
@@ -81,6 +93,7 @@ pub extern "C" fn jt_to_u64(x: f64) -> u64
     base::number::to_u64(x)
 }
 
+// The sine of x radians, by document 01's steps; a NaN for a NaN and beyond 1000 in size.
 #[no_mangle]
 pub extern "C" fn jt_sin64(x: f64) -> f64
     ensures { λ r. ⌜ r ≡ sinOf x ⌝ }
@@ -88,6 +101,7 @@ pub extern "C" fn jt_sin64(x: f64) -> f64
     base::elementary::sin64(x)
 }
 
+// The cosine of x radians, by document 01's steps; a NaN for a NaN and beyond 1000 in size.
 #[no_mangle]
 pub extern "C" fn jt_cos64(x: f64) -> f64
     ensures { λ r. ⌜ r ≡ cosOf x ⌝ }
@@ -95,6 +109,7 @@ pub extern "C" fn jt_cos64(x: f64) -> f64
     base::elementary::cos64(x)
 }
 
+// The arc tangent of x, in radians, by document 01's steps; a NaN for a NaN.
 #[no_mangle]
 pub extern "C" fn jt_atan64(x: f64) -> f64
     ensures { λ r. ⌜ r ≡ atanOf x ⌝ }
@@ -102,6 +117,7 @@ pub extern "C" fn jt_atan64(x: f64) -> f64
     base::elementary::atan64(x)
 }
 
+// The arc cosine of x, in radians, by document 01's steps; a NaN for a NaN and beyond 1 in size.
 #[no_mangle]
 pub extern "C" fn jt_acos64(x: f64) -> f64
     ensures { λ r. ⌜ r ≡ acosOf x ⌝ }
@@ -109,6 +125,7 @@ pub extern "C" fn jt_acos64(x: f64) -> f64
     base::elementary::acos64(x)
 }
 
+// e to the power x, by document 01's steps; a NaN for a NaN.
 #[no_mangle]
 pub extern "C" fn jt_exp64(x: f64) -> f64
     ensures { λ r. ⌜ r ≡ expOf x ⌝ }
@@ -116,6 +133,7 @@ pub extern "C" fn jt_exp64(x: f64) -> f64
     base::elementary::exp64(x)
 }
 
+// The natural logarithm of x, by document 01's steps; a NaN for a NaN and below zero.
 #[no_mangle]
 pub extern "C" fn jt_ln64(x: f64) -> f64
     ensures { λ r. ⌜ r ≡ lnOf x ⌝ }
@@ -123,6 +141,8 @@ pub extern "C" fn jt_ln64(x: f64) -> f64
     base::elementary::ln64(x)
 }
 
+// The sine of x radians, through the `f64` one and narrowed; a NaN for a NaN and beyond 1000 in
+// size.
 #[no_mangle]
 pub extern "C" fn jt_sin32(x: f32) -> f32
     ensures { λ r. ⌜ r ≡ sin32Of x ⌝ }
@@ -130,6 +150,8 @@ pub extern "C" fn jt_sin32(x: f32) -> f32
     base::elementary::sin32(x)
 }
 
+// The cosine of x radians, through the `f64` one and narrowed; a NaN for a NaN and beyond 1000
+// in size.
 #[no_mangle]
 pub extern "C" fn jt_cos32(x: f32) -> f32
     ensures { λ r. ⌜ r ≡ cos32Of x ⌝ }
@@ -137,6 +159,7 @@ pub extern "C" fn jt_cos32(x: f32) -> f32
     base::elementary::cos32(x)
 }
 
+// The arc tangent of x, in radians, through the `f64` one and narrowed; a NaN for a NaN.
 #[no_mangle]
 pub extern "C" fn jt_atan32(x: f32) -> f32
     ensures { λ r. ⌜ r ≡ atan32Of x ⌝ }
@@ -144,6 +167,8 @@ pub extern "C" fn jt_atan32(x: f32) -> f32
     base::elementary::atan32(x)
 }
 
+// The arc cosine of x, in radians, through the `f64` one and narrowed; a NaN for a NaN and beyond 1
+// in size.
 #[no_mangle]
 pub extern "C" fn jt_acos32(x: f32) -> f32
     ensures { λ r. ⌜ r ≡ acos32Of x ⌝ }
@@ -151,6 +176,7 @@ pub extern "C" fn jt_acos32(x: f32) -> f32
     base::elementary::acos32(x)
 }
 
+// e to the power x, through the `f64` one and narrowed; a NaN for a NaN.
 #[no_mangle]
 pub extern "C" fn jt_exp32(x: f32) -> f32
     ensures { λ r. ⌜ r ≡ exp32Of x ⌝ }
@@ -158,6 +184,7 @@ pub extern "C" fn jt_exp32(x: f32) -> f32
     base::elementary::exp32(x)
 }
 
+// The natural logarithm of x, through the `f64` one and narrowed; a NaN for a NaN and below zero.
 #[no_mangle]
 pub extern "C" fn jt_ln32(x: f32) -> f32
     ensures { λ r. ⌜ r ≡ ln32Of x ⌝ }

@@ -11,13 +11,13 @@ use worksheet::showing::show;
 ghost use mathlib.Core.Path.{_≡_};
 ghost use Rattle.worksheet.specs.Desks.{openedOf};
 ghost use Rattle.worksheet.specs.Showing.{pair, drawnOf, drawnBuffer};
-ghost use Rattle.worksheet.specs.Journal.{show as showing, step};
+ghost use Rattle.worksheet.specs.Journal.{show as showCall, step};
 ghost use Rattle.jutetrowel.specs.Answers.{showingOf};
-ghost use Rattle.jutetrowel.specs.Fields.{inputsOf};
+ghost use Rattle.jutetrowel.specs.Fields.{inputsTyped};
 ghost use Rattle.jutetrowel.specs.Calls.{Shows};
 
-// The figures of a sheet, its fields one by one. Nothing judges them: a flag that is not 0 is the long
-// way round.
+// The number of points of a sheet by its fields, which nothing judges, with its figures in the
+// buffer; a flag that is not 0 is the long way round. Refuses 12, 8, 9, 10, 11; the buffer stays.
 #[no_mangle]
 pub extern "C" fn jt_figures(
     month: u32,
@@ -38,12 +38,17 @@ pub extern "C" fn jt_figures(
     file: &[u8],
     out: &mut [f32],
 ) -> Showing
-    ensures { λ r. ⌜ (
-        let i = inputsOf month ssn gmt tlat tlong rlat rlong «long_path»
+    ensures answer { λ r. ⌜ (
+        let i = inputsTyped month ssn gmt tlat tlong rlat rlong «long_path»
         «psc_e» «psc_f1» «psc_f2» «psc_es» «pole_lat» «pole_lon» in
         let files = pair (now (f2 .entry)) (now (file .entry)) i in
-        (r ≡ showingOf (drawnOf files i (now (out .entry))))
-        × (now (out .exit) ≡ drawnBuffer files i (now (out .entry)))
+        r ≡ showingOf (drawnOf files i (now (out .entry)))
+        ) ⌝ }
+    ensures buffer { λ _. ⌜ (
+        let i = inputsTyped month ssn gmt tlat tlong rlat rlong «long_path»
+        «psc_e» «psc_f1» «psc_f2» «psc_es» «pole_lat» «pole_lon» in
+        let files = pair (now (f2 .entry)) (now (file .entry)) i in
+        now (out .exit) ≡ drawnBuffer files i (now (out .entry))
         ) ⌝ }
 {
     let i = Inputs {
@@ -57,12 +62,12 @@ pub extern "C" fn jt_figures(
     shown_as(drawn(i, f2, file, out))
 }
 
-// A whole sheet: 14 little-endian words, an F2 record and a month file, as the program `sheet` reads
-// them. A showing judges the fields that an open does, so it gives a refused open's refusal.
+// A whole sheet of 14 little-endian words, an F2 record and a month file: the number of points,
+// with the figures in the buffer. Refuses the fields, 12, 8, 9, 10, 11; the buffer stays.
 #[no_mangle]
 pub extern "C" fn jt_sheet(words: &[u8], f2: &[u8], file: &[u8], out: &mut [f32]) -> Showing
     ensures { λ r. ⌜ Shows (step (pair (now (f2 .entry)) (now (file .entry)))
-        (showing 0 (now (out .entry))) (openedOf (now (words .entry)) .sheet) .answer)
+        (showCall 0 (now (out .entry))) (openedOf (now (words .entry)) .sheet) .answer)
         r (now (out .exit)) ⌝ }
 {
     let new = opened(words);

@@ -1,5 +1,5 @@
-// A worksheet's value in 90 words that the caller lends: the inputs, the earlier set and the drafts of
-// desks 1 to 4, 15 words each.
+// A worksheet's value in 90 words that the caller lends: the inputs, the earlier set and the drafts
+// of desks 1 to 4, 15 words each.
 use crate::answers::Answer;
 use crate::answers::answered;
 use base::refusal::Verdict;
@@ -16,7 +16,7 @@ ghost use lib.ListN.{length};
 ghost use Rattle.base.specs.Fill.{fill};
 ghost use Rattle.base.specs.Refusal.{writtenOver};
 ghost use Rattle.jutetrowel.specs.Answers.{answerOf};
-ghost use Rattle.jutetrowel.specs.Words.{setSize, sheetSize, wordIn, inputsIn, earlierIn, draftIn, worksheetOf, setWords, earlierWords, draftWords, wordsOf};
+ghost use Rattle.jutetrowel.specs.Words.{setSize, sheetSize, wordIn, inputsIn, earlierIn, draftIn, worksheetOf, setWords, earlierWords, draftWords, sheetWords};
 
 // The words of a set: what it is, and its fields.
 const SET: usize = FIELDS + 1;
@@ -126,7 +126,7 @@ fn draft_words(d: Draft) -> [u32; SET]
 
 // A worksheet's words. Of a set that is not there all are 0.
 fn words_of(w: Worksheet) -> [u32; SHEET_WORDS]
-    ensures { λ r. ⌜ r ≡ wordsOf w ⌝ }
+    ensures { λ r. ⌜ r ≡ sheetWords w ⌝ }
 {
     let i = w.inputs;
     let e = w.earlier;
@@ -150,13 +150,11 @@ fn words_of(w: Worksheet) -> [u32; SHEET_WORDS]
     out
 }
 
-// A call's verdict as it crosses, with the worksheet that it leaves in the lent words; refused, they
-// stay.
+// A call's verdict as it crosses, with the worksheet that it leaves in the lent words; refused,
+// they stay.
 pub(crate) fn settle(sheet: &mut [u32; SHEET_WORDS], verdict: Verdict, w: Worksheet) -> Answer
-    ensures { λ r. ⌜ (
-        (r ≡ answerOf verdict)
-        × (now (sheet .exit) ≡ writtenOver verdict (wordsOf w) (now (sheet .entry)))
-        ) ⌝ }
+    ensures answer { λ r. ⌜ r ≡ answerOf verdict ⌝ }
+    ensures sheet { λ _. ⌜ now (sheet .exit) ≡ writtenOver verdict (sheetWords w) (now (sheet .entry)) ⌝ }
 {
     match verdict {
         Verdict::Accepted => {

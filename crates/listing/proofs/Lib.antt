@@ -1,9 +1,3 @@
--- Laws that belong to no one function. Assumes nothing.
-pub mod Answers
-pub mod Turns
-pub mod HexLines
-pub mod Places
-pub mod Puts
-pub mod Quotients
-pub mod Rows
-pub mod Values
+-- Laws that belong to no one function, in rooms by subject. Assumes nothing.
+pub mod pieces
+pub mod digits

@@ -1,4 +1,5 @@
--- A call as a run of little-endian words, as docs/PROGRAMS.md's table of calls has it. Assumes nothing.
+-- A call as a run of little-endian words, as docs/PROGRAMS.md's table of calls has it. Assumes
+-- nothing.
 use Prim.Native.Nat.{ℕ, _*_}
 use mathlib.Core.List.{List, [], _∷_}
 use lib.ListN.{getD}
@@ -63,7 +64,8 @@ operations =
     -- 2, desk, x: change its sunspot number; 3: its hour
     ∷ operation 2 (λ s. changeIn s (Sunspot (floatAt s 4)))
     ∷ operation 2 (λ s. changeIn s (Hour (floatAt s 4)))
-    -- 4, desk, four numbers, flag: change its path; 5, desk, four numbers: its factors; 6, desk, two numbers: its pole
+    -- 4, desk, four numbers, flag: change its path; 5, desk, four numbers: its factors; 6, desk,
+    -- two numbers: its pole
     ∷ operation 6 (λ s. changeIn s (pathEdit s))
     ∷ operation 5 (λ s. changeIn s (pscEdit s))
     ∷ operation 3 (λ s. changeIn s (poleEdit s))

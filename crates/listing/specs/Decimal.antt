@@ -11,12 +11,12 @@ unfoldable pub nearestOf : ℕ → ℕ → ℕ
 nearestOf n d = (2 * n + d) / (2 * d)
 
 -- a minus sign or a blank
-unfoldable pub signOf : Bool → ℕ
-signOf negative = cond negative 45 32
+unfoldable pub signText : Bool → ℕ
+signText negative = cond negative 45 32
 
 -- what stands before the place of 10 ^ k: a digit, the sign just before the first, or a blank
 unfoldable pub leadingOf : ℕ → Bool → ℕ → ℕ
-leadingOf n negative k = cond (hasDigit n (k + 1)) (digitOf n (k + 1)) (cond (hasDigit n k) (signOf negative) 32)
+leadingOf n negative k = cond (hasDigit n (k + 1)) (digitOf n (k + 1)) (cond (hasDigit n k) (signText negative) 32)
 
 -- a number of millionths in 16 characters: nine before the point, six after it
 unfoldable pub textOf : ℕ → Bool → List ℕ
@@ -48,7 +48,8 @@ minusOf negative = cond negative (ascii "-") []
 unfoldable pub scaledText : Bool → ℕ → ℕ → List ℕ
 scaledText negative q k = minusOf negative ++ (decimalOf q ++ (ascii "*2^" ++ decimalOf k))
 
--- a whole number of 24 binary digits or more: its 24 highest digits, and a power of two for the others
+-- a whole number of 24 binary digits or more: its 24 highest digits, and a power of two for the
+-- others
 unfoldable pub largeText : Bool → ℕ → List ℕ
 largeText negative n =
     let k = size n - 24 in

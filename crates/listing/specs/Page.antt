@@ -14,7 +14,8 @@ use Rattle.listing.specs.Decimal.{decimalText}
 
 -- ---- the table
 
--- a number of the page: its name, of a figure the Rust's (the ground pair has none there), and its unit, which is empty where it has none
+-- a number of the page: its name, of a figure the Rust's (the ground pair has none there), and its
+-- unit, which is empty where it has none
 pub record Row : Type 0 where
   pub name : String
   pub unit : String
@@ -135,7 +136,8 @@ unfoldable pub fieldsText : Inputs → List ℕ
 fieldsText i =
     let early = rowsText 0 (earlyFields i) 0 6 in
     let late = rowsText 6 (lateFields i) 0 6 in
-    ascii "month       " ++ (decimalOf (i .month) ++ (ascii "\n" ++ (early ++ (longText (isLong (i .route .«long_path»)) ++ late))))
+    let long = longText (isLong (i .route .«long_path»)) in
+    ascii "month       " ++ (decimalOf (i .month) ++ (ascii "\n" ++ (early ++ (long ++ late))))
 
 -- the point of number p, from 0 on: number k of it stands at 6 + 29 p + k
 unfoldable pub pointText : List Float → ℕ → List ℕ

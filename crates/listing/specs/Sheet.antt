@@ -1,4 +1,5 @@
--- The program `sheet`: its text from 14 words, a record and a month file, and the page of `sheet page`. Assumes nothing.
+-- The program `sheet`: its text from 14 words, a record and a month file, and the page of `sheet
+-- page`. Assumes nothing.
 use Prim.Native.Nat.{ℕ}
 use mathlib.Core.List.{List}
 use lib.Ieee.{Float}

@@ -1,4 +1,5 @@
--- Text put into a lent buffer piece after piece, and whole numbers in decimal digits. Assumes nothing.
+-- Text put into a lent buffer piece after piece, and whole numbers in decimal digits. Assumes
+-- nothing.
 use Prim.Native.Nat.{ℕ, zero, suc, _+_, _/_, _%_, _^_}
 use Prim.Native.Char.{code}
 use Prim.Native.String.{String, [] as []ˢ, _∷_ as _∷ˢ_}

@@ -13,10 +13,11 @@ ghost use Rattle.io.specs.Counts.{Counts};
 ghost use Rattle.listing.specs.Text.{Put};
 ghost use Rattle.listing.specs.Answer.{glyphOf, hexOf, lineOf, linesOf, refusalText, verdictText, pointsText, shownText, sheetText, stoppedText};
 
-// The bytes of the longest answer: `points`, a number of ten digits, and a line of nine bytes for each figure.
+// The bytes of the longest answer: `points`, a number of ten digits, and a line of nine bytes for
+// each figure.
 pub const ANSWER: usize = 18 + 9 * FIGURES;
 
-// The hexadecimal digit of d, of its last one where d has more.
+// The lowercase hexadecimal digit of d as a byte of text, of its last one where d has more.
 pub fn glyph(d: u32) -> u8
     ensures { λ r. ⌜ r ≡ glyphOf d ⌝ }
 {
@@ -63,10 +64,10 @@ fn put_lines(out: &mut [u8], at: usize, figures: &[f32]) -> usize
     next
 }
 
-// The line `refused`, number, place.
+// Writes the line of a refusal, `refused`, number, place, and gives its length in bytes.
 pub fn refusal_text(why: Refusal, out: &mut [u8; ANSWER]) -> usize
-    ensures { λ r. ⌜ take r (now (out .exit)) ≡ refusalText why ⌝ }
-    ensures { λ r. ⌜ Counts r (now (out .exit)) ⌝ }
+    ensures text { λ r. ⌜ take r (now (out .exit)) ≡ refusalText why ⌝ }
+    ensures count { λ r. ⌜ Counts r (now (out .exit)) ⌝ }
 {
     let next = put(out, 0, b"refused ");
     let next = put_number(out, next, why.number() as u64);
@@ -75,10 +76,11 @@ pub fn refusal_text(why: Refusal, out: &mut [u8; ANSWER]) -> usize
     put(out, next, b"\n")
 }
 
-// The line of a call that shows nothing.
+// Writes the line of a call that shows nothing, `accepted` or the refusal's, and gives its length
+// in bytes.
 pub fn verdict_text(v: Verdict, out: &mut [u8; ANSWER]) -> usize
-    ensures { λ r. ⌜ take r (now (out .exit)) ≡ verdictText v ⌝ }
-    ensures { λ r. ⌜ Counts r (now (out .exit)) ⌝ }
+    ensures text { λ r. ⌜ take r (now (out .exit)) ≡ verdictText v ⌝ }
+    ensures count { λ r. ⌜ Counts r (now (out .exit)) ⌝ }
 {
     match v {
         Verdict::Accepted => put(out, 0, b"accepted\n"),
@@ -88,8 +90,8 @@ pub fn verdict_text(v: Verdict, out: &mut [u8; ANSWER]) -> usize
 
 // The line `points`, number, and the lines of the figures.
 fn points_text(count: u32, figures: &[f32; FIGURES], out: &mut [u8; ANSWER]) -> usize
-    ensures { λ r. ⌜ take r (now (out .exit)) ≡ pointsText count (now (figures .entry)) ⌝ }
-    ensures { λ r. ⌜ Counts r (now (out .exit)) ⌝ }
+    ensures text { λ r. ⌜ take r (now (out .exit)) ≡ pointsText count (now (figures .entry)) ⌝ }
+    ensures count { λ r. ⌜ Counts r (now (out .exit)) ⌝ }
 {
     let next = put(out, 0, b"points ");
     let next = put_number(out, next, count as u64);
@@ -97,10 +99,11 @@ fn points_text(count: u32, figures: &[f32; FIGURES], out: &mut [u8; ANSWER]) -> 
     put_lines(out, next, figures)
 }
 
-// What a showing in a journal answers.
+// Writes what a showing in a journal answers, `points` and the figures' lines or the refusal's
+// line, and gives its length in bytes.
 pub fn shown_text(s: Shown, figures: &[f32; FIGURES], out: &mut [u8; ANSWER]) -> usize
-    ensures { λ r. ⌜ take r (now (out .exit)) ≡ shownText s (now (figures .entry)) ⌝ }
-    ensures { λ r. ⌜ Counts r (now (out .exit)) ⌝ }
+    ensures text { λ r. ⌜ take r (now (out .exit)) ≡ shownText s (now (figures .entry)) ⌝ }
+    ensures count { λ r. ⌜ Counts r (now (out .exit)) ⌝ }
 {
     match s {
         Shown::Points(count) => points_text(count, figures, out),
@@ -108,10 +111,11 @@ pub fn shown_text(s: Shown, figures: &[f32; FIGURES], out: &mut [u8; ANSWER]) ->
     }
 }
 
-// What a sheet by itself answers: the lines alone, or the refusal.
+// Writes what a sheet by itself answers, the figures' lines alone or the refusal's line, and gives
+// its length in bytes.
 pub fn sheet_text(s: Shown, figures: &[f32; FIGURES], out: &mut [u8; ANSWER]) -> usize
-    ensures { λ r. ⌜ take r (now (out .exit)) ≡ sheetText s (now (figures .entry)) ⌝ }
-    ensures { λ r. ⌜ Counts r (now (out .exit)) ⌝ }
+    ensures text { λ r. ⌜ take r (now (out .exit)) ≡ sheetText s (now (figures .entry)) ⌝ }
+    ensures count { λ r. ⌜ Counts r (now (out .exit)) ⌝ }
 {
     match s {
         Shown::Points(_) => put_lines(out, 0, figures),
@@ -119,10 +123,11 @@ pub fn sheet_text(s: Shown, figures: &[f32; FIGURES], out: &mut [u8; ANSWER]) ->
     }
 }
 
-// The line where bytes make no call, with the place of the first of them.
+// Writes the line where bytes make no call, with the place of the first of them, and gives its
+// length in bytes.
 pub fn stopped_text(at: u64, out: &mut [u8; ANSWER]) -> usize
-    ensures { λ r. ⌜ take r (now (out .exit)) ≡ stoppedText at ⌝ }
-    ensures { λ r. ⌜ Counts r (now (out .exit)) ⌝ }
+    ensures text { λ r. ⌜ take r (now (out .exit)) ≡ stoppedText at ⌝ }
+    ensures count { λ r. ⌜ Counts r (now (out .exit)) ⌝ }
 {
     let next = put(out, 0, b"stopped at ");
     let next = put_number(out, next, at);

@@ -15,7 +15,8 @@ ghost use mathlib.Core.Path.{_≡_};
 ghost use Prim.Native.Nat.{_≤_};
 ghost use Rattle.listing.specs.Calls.{pathEdit, pscEdit, poleEdit, changeIn, sizeOf, callIn};
 
-// The first byte of the first call of a journal: before it stand the words, the record and the month file.
+// The first byte of the first call of a journal: before it stand the words, the record and the
+// month file.
 pub const START: u64 = (FIELD_BYTES + RECORD + MONTH_FILE) as u64;
 
 pub enum Read {
@@ -31,7 +32,8 @@ const SIZES: [usize; 11] = [0, 4, 8, 8, 24, 20, 12, 4, 4, 0, 4];
 
 // How many bytes follow the operation's word; none where it is unknown.
 pub fn size_of(operation: u32) -> usize
-    ensures { λ r. ⌜ (r ≡ sizeOf operation) × (r ≤ 24) ⌝ }
+    ensures answer { λ r. ⌜ r ≡ sizeOf operation ⌝ }
+    ensures bound { λ r. ⌜ r ≤ 24 ⌝ }
 {
     if 10 < operation {
         return 0;
@@ -77,7 +79,8 @@ fn change_in(s: &[u8], e: Edit) -> Read
     Read::Call(Call::Change(word(s, 0), e))
 }
 
-// The call of an operation, from the bytes after its word.
+// The call of an operation, from the bytes after its word, of which one that is not there counts as
+// 0; `Bad` where the operation is unknown.
 pub fn call_in(operation: u32, s: &[u8]) -> Read
     ensures { λ r. ⌜ r ≡ callIn operation (now (s .entry)) ⌝ }
 {

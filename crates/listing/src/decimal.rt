@@ -3,6 +3,7 @@ use crate::text::digit;
 use crate::text::divided;
 use crate::text::has_digit;
 use crate::text::put;
+use crate::text::put_if;
 use crate::text::put_number;
 use base::number;
 ghost use mathlib.Core.Path.{_≡_};
@@ -10,7 +11,7 @@ ghost use Prim.Native.Nat.{_+_, _^_, _≤_, _<_};
 ghost use lib.ListN.{length};
 ghost use lib.Ieee.{binary32, ofFields};
 ghost use Rattle.listing.specs.Text.{Put};
-ghost use Rattle.listing.specs.Decimal.{nearestOf, signOf, leadingOf, textOf, minusOf, scaledText, decimalText};
+ghost use Rattle.listing.specs.Decimal.{nearestOf, signText, leadingOf, textOf, scaledText, decimalText};
 
 // n / 2^s, to the nearest whole number.
 fn halved(n: u64, s: u32) -> u64
@@ -24,7 +25,7 @@ fn halved(n: u64, s: u32) -> u64
 }
 
 fn sign(negative: bool) -> u8
-    ensures { λ r. ⌜ r ≡ signOf negative ⌝ }
+    ensures { λ r. ⌜ r ≡ signText negative ⌝ }
 {
     if negative { b'-' } else { b' ' }
 }
@@ -85,22 +86,12 @@ fn small(negative: bool, exponent: u32, fraction: u32) -> [u8; 16]
     )
 }
 
-fn put_sign(out: &mut [u8], at: usize, negative: bool) -> usize
-    requires { ⌜ at < length (now out) ⌝ }
-    ensures { λ r. ⌜ Put (now (out .entry)) at (minusOf negative) (now (out .exit)) r ⌝ }
-{
-    if negative {
-        return put(out, at, b"-");
-    }
-    at
-}
-
 // A number of 2^24 or more in size is a whole number: its 24 bits times a power of two.
 fn put_scaled(out: &mut [u8], at: usize, negative: bool, q: u32, k: u32) -> usize
     requires { ⌜ at + 44 ≤ length (now out) ⌝ }
     ensures { λ r. ⌜ Put (now (out .entry)) at (scaledText negative q k) (now (out .exit)) r ⌝ }
 {
-    let next = put_sign(out, at, negative);
+    let next = put_if(out, at, negative, b"-");
     let next = put_number(out, next, q as u64);
     let next = put(out, next, b"*2^");
     put_number(out, next, k as u64)

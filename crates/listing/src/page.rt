@@ -2,6 +2,7 @@
 use crate::answer::hex;
 use crate::decimal::put_float;
 use crate::text::put;
+use crate::text::put_if;
 use crate::text::put_number;
 use base::number;
 use maps::figures::FIGURES;
@@ -11,13 +12,13 @@ ghost use Prim.Native.Nat.{_+_, _*_, _≤_, _<_};
 ghost use lib.ListN.{length, take};
 ghost use Rattle.io.specs.Counts.{Counts};
 ghost use Rattle.listing.specs.Text.{Put};
-ghost use Rattle.listing.specs.Page.{pageRow, nameText, lettersIn, unitIn, unitText, valueText, rowText, rowsText, longText, fieldsText, pointText, thereText, firstPoints, pageText};
+ghost use Rattle.listing.specs.Page.{pageRow, nameText, lettersIn, unitIn, unitText, valueText, rowText, rowsText, fieldsText, pointText, thereText, firstPoints, pageText};
 
 // More than the bytes of the longest page.
 pub const PAGE: usize = 12800;
 
-// The numbers of a page by name, and below by unit, in 12 and 7 letters: the fields after the month, the
-// fields after the flag, the figures of the path, the figures of a point.
+// The numbers of a page by name, and below by unit, in 12 and 7 letters: the fields after the
+// month, the fields after the flag, the figures of the path, the figures of a point.
 const NAMES: [[u8; 12]; 47] = [
     *b"ssn         ",
     *b"gmt         ",
@@ -203,16 +204,6 @@ fn put_rows(out: &mut [u8], at: usize, first: usize, xs: &[f32], from: usize, n:
     next
 }
 
-fn put_long(out: &mut [u8], at: usize, long: bool) -> usize
-    requires { ⌜ at + 19 ≤ length (now out) ⌝ }
-    ensures { λ r. ⌜ Put (now (out .entry)) at (longText long) (now (out .exit)) r ⌝ }
-{
-    if long {
-        return put(out, at, b"the long way round\n");
-    }
-    at
-}
-
 // The 14 fields that a sheet is of, so that a page stands for itself.
 fn put_fields(out: &mut [u8; PAGE], i: Inputs) -> usize
     ensures { λ r. ⌜ Put (now (out .entry)) 0 (fieldsText i) (now (out .exit)) r ⌝ }
@@ -233,7 +224,7 @@ fn put_fields(out: &mut [u8; PAGE], i: Inputs) -> usize
     let next = put_number(out, next, i.month as u64);
     let next = put(out, next, b"\n");
     let next = put_rows(out, next, 0, &early, 0, 6);
-    let next = put_long(out, next, long);
+    let next = put_if(out, next, long, b"the long way round\n");
     put_rows(out, next, 6, &late, 0, 6)
 }
 
@@ -274,10 +265,11 @@ fn put_points(out: &mut [u8], at: usize, count: u32, figures: &[f32; FIGURES]) -
     next
 }
 
-// The fields, the six figures of the path, then the points.
+// Writes the page, the fields, the six figures of the path and the points that are there, and gives
+// its length in bytes.
 pub fn page_text(i: Inputs, count: u32, figures: &[f32; FIGURES], out: &mut [u8; PAGE]) -> usize
-    ensures { λ r. ⌜ take r (now (out .exit)) ≡ pageText i count (now (figures .entry)) ⌝ }
-    ensures { λ r. ⌜ Counts r (now (out .exit)) ⌝ }
+    ensures text { λ r. ⌜ take r (now (out .exit)) ≡ pageText i count (now (figures .entry)) ⌝ }
+    ensures count { λ r. ⌜ Counts r (now (out .exit)) ⌝ }
 {
     let next = put_fields(out, i);
     let next = put_rows(out, next, 12, figures, 0, 6);

@@ -1,4 +1,5 @@
-// A sheet's text from its 14 words, an F2 record and a month file, as the program `sheet` prints it.
+// A sheet's text from its 14 words, an F2 record and a month file, as the program `sheet` prints
+// it.
 use crate::answer::ANSWER;
 use crate::answer::refusal_text;
 use crate::answer::sheet_text;
@@ -17,11 +18,13 @@ ghost use Rattle.io.specs.Counts.{Counts};
 ghost use Rattle.listing.specs.Answer.{refusalText};
 ghost use Rattle.listing.specs.Sheet.{sheetAnswer, pageFor, pageAnswer};
 
-// The 151 lines of the worksheet that the words open, or the line of the refusal. A showing judges the
-// fields as opening does, so that it refuses what opening refuses.
+// Writes the 151 lines of the worksheet that the words open, or the line of the refusal, and gives
+// the length in bytes.
 pub fn sheet_answer(words: &[u8], f2: &[u8], file: &[u8], out: &mut [u8; ANSWER]) -> usize
-    ensures { λ r. ⌜ take r (now (out .exit)) ≡ sheetAnswer (now (words .entry)) (now (f2 .entry)) (now (file .entry)) ⌝ }
-    ensures { λ r. ⌜ Counts r (now (out .exit)) ⌝ }
+    ensures text { λ r. ⌜ (
+        take r (now (out .exit)) ≡ sheetAnswer (now (words .entry)) (now (f2 .entry)) (now (file .entry))
+        ) ⌝ }
+    ensures count { λ r. ⌜ Counts r (now (out .exit)) ⌝ }
 {
     let mut figures = [0.0f32; FIGURES];
     let o = opened(words);
@@ -31,8 +34,8 @@ pub fn sheet_answer(words: &[u8], f2: &[u8], file: &[u8], out: &mut [u8; ANSWER]
 }
 
 fn page_for(i: Inputs, shown: Shown, figures: &[f32; FIGURES], out: &mut [u8; PAGE]) -> usize
-    ensures { λ r. ⌜ take r (now (out .exit)) ≡ pageFor i shown (now (figures .entry)) ⌝ }
-    ensures { λ r. ⌜ Counts r (now (out .exit)) ⌝ }
+    ensures text { λ r. ⌜ take r (now (out .exit)) ≡ pageFor i shown (now (figures .entry)) ⌝ }
+    ensures count { λ r. ⌜ Counts r (now (out .exit)) ⌝ }
 {
     match shown {
         Shown::Points(count) => page_text(i, count, figures, out),
@@ -41,18 +44,21 @@ fn page_for(i: Inputs, shown: Shown, figures: &[f32; FIGURES], out: &mut [u8; PA
 }
 
 fn put_refusal(why: Refusal, out: &mut [u8; PAGE]) -> usize
-    ensures { λ r. ⌜ take r (now (out .exit)) ≡ refusalText why ⌝ }
-    ensures { λ r. ⌜ Counts r (now (out .exit)) ⌝ }
+    ensures text { λ r. ⌜ take r (now (out .exit)) ≡ refusalText why ⌝ }
+    ensures count { λ r. ⌜ Counts r (now (out .exit)) ⌝ }
 {
     let mut line = [0u8; ANSWER];
     let n = refusal_text(why, &mut line);
     put(out, 0, &line[..n])
 }
 
-// The page of the worksheet that the words open, or the line of the refusal.
+// Writes the page of the worksheet that the words open, or the line of the refusal, and gives the
+// length in bytes.
 pub fn page_answer(words: &[u8], f2: &[u8], file: &[u8], out: &mut [u8; PAGE]) -> usize
-    ensures { λ r. ⌜ take r (now (out .exit)) ≡ pageAnswer (now (words .entry)) (now (f2 .entry)) (now (file .entry)) ⌝ }
-    ensures { λ r. ⌜ Counts r (now (out .exit)) ⌝ }
+    ensures text { λ r. ⌜ (
+        take r (now (out .exit)) ≡ pageAnswer (now (words .entry)) (now (f2 .entry)) (now (file .entry))
+        ) ⌝ }
+    ensures count { λ r. ⌜ Counts r (now (out .exit)) ⌝ }
 {
     let mut figures = [0.0f32; FIGURES];
     let o = opened(words);

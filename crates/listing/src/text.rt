@@ -1,5 +1,7 @@
 // Text in a lent buffer: each piece is put after those before it.
 ghost use mathlib.Core.Path.{_≡_};
+ghost use mathlib.Core.Bool.{cond};
+ghost use mathlib.Core.List.{[]};
 ghost use Prim.Native.Nat.{_+_, _/_, _^_, _≤_, _<_};
 ghost use lib.ListN.{length};
 ghost use Rattle.listing.specs.Text.{Put, digitOf, hasDigit, digitAt, decimalOf};
@@ -15,6 +17,17 @@ pub(crate) fn put(out: &mut [u8], at: usize, piece: &[u8]) -> usize
         i += 1;
     }
     at + i
+}
+
+// Puts `piece`, or nothing.
+pub(crate) fn put_if(out: &mut [u8], at: usize, there: bool, piece: &[u8]) -> usize
+    requires { ⌜ at + length (now piece) ≤ length (now out) ⌝ }
+    ensures { λ r. ⌜ Put (now (out .entry)) at (cond there (now (piece .entry)) []) (now (out .exit)) r ⌝ }
+{
+    if there {
+        return put(out, at, piece);
+    }
+    at
 }
 
 // n / b^k, without its fraction.

@@ -22,8 +22,8 @@ pub struct Turn {
 }
 
 fn handed_text(a: Answer, figures: &[f32; FIGURES], out: &mut [u8; ANSWER]) -> usize
-    ensures { λ r. ⌜ take r (now (out .exit)) ≡ handedText a (now (figures .entry)) ⌝ }
-    ensures { λ r. ⌜ Counts r (now (out .exit)) ⌝ }
+    ensures text { λ r. ⌜ take r (now (out .exit)) ≡ handedText a (now (figures .entry)) ⌝ }
+    ensures count { λ r. ⌜ Counts r (now (out .exit)) ⌝ }
 {
     match a {
         Answer::Told(v) => verdict_text(v, out),
@@ -31,14 +31,15 @@ fn handed_text(a: Answer, figures: &[f32; FIGURES], out: &mut [u8; ANSWER]) -> u
     }
 }
 
-// Makes a call over a lent record and month file, a showing with a buffer of zeros, and writes the text
-// of its answer.
+// Makes a call over a lent record and month file, a showing with a buffer of zeros, writes the text
+// of its answer and gives its length beside the worksheet that the call leaves.
 pub fn answered(w: Worksheet, call: Call, f2: &[u8], file: &[u8], out: &mut [u8; ANSWER]) -> Turn
-    ensures { λ r. ⌜ (
+    ensures sheet { λ r. ⌜ r .sheet ≡ step (pair (now (f2 .entry)) (now (file .entry))) (called call blank) w .sheet ⌝ }
+    ensures text { λ r. ⌜ (
         let s = step (pair (now (f2 .entry)) (now (file .entry))) (called call blank) w in
-        (r .sheet ≡ s .sheet) × (take (r .size) (now (out .exit)) ≡ answerText (s .answer))
+        take (r .size) (now (out .exit)) ≡ answerText (s .answer)
         ) ⌝ }
-    ensures { λ r. ⌜ Counts (r .size) (now (out .exit)) ⌝ }
+    ensures count { λ r. ⌜ Counts (r .size) (now (out .exit)) ⌝ }
 {
     let mut figures = [0.0f32; FIGURES];
     let next = make(w, call, f2, file, &mut figures);

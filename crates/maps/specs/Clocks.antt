@@ -1,4 +1,5 @@
--- `cngtim` and `geotim` of ionosphere.rs in its order of work, and document 01's **Clocks**. Assumes nothing.
+-- `cngtim` and `geotim` of ionosphere.rs in its order of work, and document 01's **Clocks**.
+-- Assumes nothing.
 use Prim.Native.Nat.{ℕ, zero, suc}
 use mathlib.Core.Bool.{Bool, true, false, cond}
 use lib.Dec.{leb}
@@ -8,10 +9,9 @@ use Rattle.base.specs.declared.angle.Degrees.{Degrees}
 use Rattle.base.specs.declared.angle.Radians.{Radians}
 use Rattle.base.specs.declared.refusal.Refusal.the-variants.{Hour}
 use Rattle.base.specs.declared.refusal.Verdict.{Verdict}
-use Rattle.base.specs.declared.refusal.Verdict.the-variants.{Accepted, Refused}
 use Rattle.base.specs.Angle.{radiansOf, degreesOf}
 use Rattle.base.specs.Ranges.{hourCheck, longitudeCheck}
-use Rattle.base.specs.Refusal.{refuseUnless, _then_}
+use Rattle.base.specs.Refusal.{refuseUnless, _then_, unlessRefused}
 use Rattle.base.specs.Single.{_⊕_, _⊖_, _⊗_, _⊘_, decimal, minusDecimal}
 use Rattle.maps.specs.declared.ionosphere.clocks.Direction.{Direction}
 use Rattle.maps.specs.declared.ionosphere.clocks.Direction.the-variants.{ToLocal, ToUniversal}
@@ -69,7 +69,7 @@ wraps (suc n) time =
     cond (lt time (decimal 0 1)) (wraps n (time ⊕ decimal 240 1))
     (cond (lt (decimal 240 1) time) (wraps n (time ⊖ decimal 240 1)) time)
 
--- One turn of the loop is as many as it takes (proofs/Wraps.antt, `cngtim-settled`).
+-- One turn of the loop is as many as it takes (results/proofs/clock/Wraps.antt, `cngtim-settled`).
 unfoldable pub cngtimOf : Float → Degrees → Direction → Shifted
 cngtimOf time xtheta isw =
     let theta = thetaOf xtheta in
@@ -103,24 +103,15 @@ timeCheck time lon = hourCheck time then longitudeCheck 5 lon
 unfoldable pub hoursCheck : ℕ → Degrees → Degrees → Verdict
 hoursCheck hour tlong rlong = refuseUnless (leb hour 24) Hour then longitudeCheck 5 tlong then longitudeCheck 7 rlong
 
-abbrev pub movedIf : Verdict → Shifted → Moved
-movedIf Accepted s = To s
-movedIf (Refused why) s = NotMoved why
-
-abbrev pub timesIf : Verdict → HourTimes → Times
-timesIf Accepted t = Hours t
-timesIf (Refused why) t = NoTimes why
-
-abbrev pub localIf : Verdict → Float → LocalTime
-localIf Accepted t = At t
-localIf (Refused why) t = NoLocalTime why
-
 unfoldable pub movedOf : Float → Degrees → Direction → Moved
-movedOf time lon isw = movedIf (timeCheck time lon) (cngtimOf time lon isw)
+movedOf time lon isw = unlessRefused (timeCheck time lon) (To (cngtimOf time lon isw)) NotMoved
 
 -- 'The Rust's `geotim` gets each longitude times D2R'
 unfoldable pub timesOf : ℕ → Bool → Degrees → Degrees → Times
-timesOf hour local tlong rlong = timesIf (hoursCheck hour tlong rlong) (geotimOf hour local (radiansOf tlong) (radiansOf rlong))
+timesOf hour local tlong rlong =
+    unlessRefused (hoursCheck hour tlong rlong)
+    (Hours (geotimOf hour local (radiansOf tlong) (radiansOf rlong)))
+    NoTimes
 
 unfoldable pub localTimeOf : Float → Degrees → LocalTime
-localTimeOf gmt lon = localIf (timeCheck gmt lon) (timeAt gmt (radiansOf lon) ToLocal)
+localTimeOf gmt lon = unlessRefused (timeCheck gmt lon) (At (timeAt gmt (radiansOf lon) ToLocal)) NoLocalTime

@@ -1,6 +1,7 @@
--- geometry.rs, expression by expression in binary32, in its names: the length, the bearings and the points of a path, with the
--- Fortran's own PI, clamped arc cosines, least distance, nudged receiver and pole cases. Angles are in radians but for `Degrees`.
--- `tx .sin` stands for `tlat.sin()` and `rx .cos` for `rlat.cos()`. Assumes nothing.
+-- geometry.rs, expression by expression in binary32, in its names: the length, the bearings and the
+-- points of a path, with the Fortran's own PI, clamped arc cosines, least distance, nudged receiver
+-- and pole cases. Angles are in radians but for `Degrees`. `tx .sin` stands for `tlat.sin()` and
+-- `rx .cos` for `rlat.cos()`. Assumes nothing.
 use mathlib.Core.Bool.{Bool, cond, _&&_}
 use mathlib.Core.List.{List, [], _∷_}
 use Prim.Native.Nat.{ℕ}
@@ -37,12 +38,12 @@ unfoldable pub signOf : Float → Float → Float
 signOf a b = cond (le (decimal 0 1) b) (absOf a) (neg (absOf a))
 
 -- if q.abs() > 1.0 { q = sign(1.0, q) }
-unfoldable pub clampedOf : Float → Float
-clampedOf q = cond (lt (decimal 10 1) (absOf q)) (signOf (decimal 10 1) q) q
+unfoldable pub clampedCosine : Float → Float
+clampedCosine q = cond (lt (decimal 10 1) (absOf q)) (signOf (decimal 10 1) q) q
 
 -- .. and q.acos()
 unfoldable pub acosClamped : Float → Float
-acosClamped q = acos32Of (clampedOf q)
+acosClamped q = acos32Of (clampedCosine q)
 
 -- PIO2 - q.acos()
 unfoldable pub latitudeOf : Float → Float
@@ -76,7 +77,10 @@ nudgeOf rlatd = cond (lt (rlatd .0) (decimal 0 1)) (neg DDX) DDX
 
 -- `rlatd`: rlatd = tlatd - dd where the receiver sits on top of the transmitter
 unfoldable pub nudgedOf : Degrees → Degrees → Degrees → Degrees → Degrees
-nudgedOf tlatd tlongd rlatd rlongd = cond (close tlatd rlatd && close tlongd rlongd) (record { 0 = tlatd .0 ⊖ nudgeOf rlatd }) rlatd
+nudgedOf tlatd tlongd rlatd rlongd =
+    cond (close tlatd rlatd && close tlongd rlongd)
+    (record { 0 = tlatd .0 ⊖ nudgeOf rlatd })
+    rlatd
 
 -- a place, with the sine and the cosine of its latitude
 unfoldable pub placeOf : Float → Float → Place
@@ -147,9 +151,12 @@ distancesOf gcd count =
     (cond (eqb count 3) (R1 ∷ half ∷ (gcd ⊖ R1) ∷ decimal 0 1 ∷ decimal 0 1 ∷ [])
     (R1 ∷ r2 ∷ half ∷ (gcd ⊖ r2) ∷ (gcd ⊖ R1) ∷ []))
 
--- `rflt` of a transmitter near a pole: tlat - sign(drf, tlat); if rflt.abs() > PIO2 { rflt = PIO2 * sign(1.0, rflt) }
+-- `rflt` of a transmitter near a pole: tlat - sign(drf, tlat); if rflt.abs() > PIO2 { rflt = PIO2 *
+-- sign(1.0, rflt) }
 unfoldable pub downMeridian : Float → Float → Float
-downMeridian tlat drf = let rflt = tlat ⊖ signOf drf tlat in cond (lt PIO2 (absOf rflt)) (PIO2 ⊗ signOf (decimal 10 1) rflt) rflt
+downMeridian tlat drf =
+    let rflt = tlat ⊖ signOf drf tlat in
+    cond (lt PIO2 (absOf rflt)) (PIO2 ⊗ signOf (decimal 10 1) rflt) rflt
 
 -- `rflg` on the circle; the three last arguments are drf.cos(), rflt.sin() and rflt.cos()
 unfoldable pub circleLongitude : Track → Float → Float → Float → Float → Float
@@ -170,13 +177,15 @@ onCircle track drf =
 unfoldable pub sampleOf : Track → Float → Place
 sampleOf track drf =
     let tx = track .tx in
-    cond (lt (tx .cos ⊖ EPSLON) (decimal 0 1)) (placeOf (downMeridian (tx .lat) drf) (track .rlong)) (onCircle track drf)
+    cond (lt (tx .cos ⊖ EPSLON) (decimal 0 1))
+    (placeOf (downMeridian (tx .lat) drf) (track .rlong))
+    (onCircle track drf)
 
 -- ---- geomagnetic latitude
 
 -- glt and glg
-unfoldable pub poleOf : MagneticPole → Place
-poleOf pole = placeOf (radiansOf (pole .lat) .0) (radiansOf (pole .lon) .0)
+unfoldable pub polePlace : MagneticPole → Place
+polePlace pole = placeOf (radiansOf (pole .lat) .0) (radiansOf (pole .lon) .0)
 
 -- q is glt.sin() * lat.sin() + glt.cos() * lat.cos() * (lon - glg).cos()
 unfoldable pub gmlatOf : Place → Place → Float
@@ -184,7 +193,7 @@ gmlatOf pole at = latitudeOf (cosBetween pole at (at .lon ⊖ pole .lon))
 
 -- `geomagnetic_latitude`
 unfoldable pub geomagneticOf : MagneticPole → Radians → Radians → Radians
-geomagneticOf pole lat lon = record { 0 = gmlatOf (poleOf pole) (placeOf (lat .0) (lon .0)) }
+geomagneticOf pole lat lon = record { 0 = gmlatOf (polePlace pole) (placeOf (lat .0) (lon .0)) }
 
 -- ---- the rows
 
@@ -192,23 +201,39 @@ geomagneticOf pole lat lon = record { 0 = gmlatOf (poleOf pole) (placeOf (lat .0
 unfoldable pub pointOf : Track → Place → Float → ControlPoint
 pointOf track pole drf =
     let at = sampleOf track drf in
-    record { rd = record { 0 = drf }; lat = record { 0 = at .lat }; lon = record { 0 = at .lon }; gmlat = record { 0 = gmlatOf pole at } }
+    record {
+      rd = record { 0 = drf };
+      lat = record { 0 = at .lat };
+      lon = record { 0 = at .lon };
+      gmlat = record { 0 = gmlatOf pole at };
+    }
 
 -- +0.0 in every field
 unfoldable pub absent : ControlPoint
-absent = record { rd = record { 0 = decimal 0 1 }; lat = record { 0 = decimal 0 1 }; lon = record { 0 = decimal 0 1 }; gmlat = record { 0 = decimal 0 1 } }
+absent =
+    record {
+      rd = record { 0 = decimal 0 1 };
+      lat = record { 0 = decimal 0 1 };
+      lon = record { 0 = decimal 0 1 };
+      gmlat = record { 0 = decimal 0 1 };
+    }
 
 -- a point, or +0.0 where it is absent
-unfoldable pub rowOf : Track → Place → Float → Bool → ControlPoint
-rowOf track pole drf present = cond present (pointOf track pole drf) absent
+unfoldable pub controlPointIf : Track → Place → Float → Bool → ControlPoint
+controlPointIf track pole drf present = cond present (pointOf track pole drf) absent
 
 -- row i of a path of `count` points
-unfoldable pub rowAt : Track → Place → Float → ℕ → ℕ → ControlPoint
-rowAt track pole gcd count i = rowOf track pole (getD (distancesOf gcd count) i nan) (ltb i count)
+unfoldable pub controlRow : Track → Place → Float → ℕ → ℕ → ControlPoint
+controlRow track pole gcd count i = controlPointIf track pole (getD (distancesOf gcd count) i nan) (ltb i count)
 
 unfoldable pub rowsOf : Track → Place → Float → ℕ → List ControlPoint
 rowsOf track pole gcd count =
-    rowAt track pole gcd count 0 ∷ rowAt track pole gcd count 1 ∷ rowAt track pole gcd count 2 ∷ rowAt track pole gcd count 3 ∷ rowAt track pole gcd count 4 ∷ []
+    controlRow track pole gcd count 0
+    ∷ controlRow track pole gcd count 1
+    ∷ controlRow track pole gcd count 2
+    ∷ controlRow track pole gcd count 3
+    ∷ controlRow track pole gcd count 4
+    ∷ []
 
 -- ---- the whole path
 
@@ -233,20 +258,27 @@ pathOf tlatd tlongd rlat rlongd long pole =
       brt = record { 0 = c .brt };
       rlatd = rlatd;
       count = countOf gcdKm;
-      points = rowsOf (trackOf tx rx long) (poleOf pole) (c .gcd) (countOf gcdKm);
+      points = rowsOf (trackOf tx rx long) (polePlace pole) (c .gcd) (countOf gcdKm);
     }
 
 -- ---- what is read off a path
 
 -- what `getD` gives past the end of `points`; there are always five
 abbrev pub nowhere : ControlPoint
-nowhere = record { rd = record { 0 = nan }; lat = record { 0 = nan }; lon = record { 0 = nan }; gmlat = record { 0 = nan } }
+nowhere =
+    record {
+      rd = record { 0 = nan };
+      lat = record { 0 = nan };
+      lon = record { 0 = nan };
+      gmlat = record { 0 = nan };
+    }
 
 -- points[i].lat
 unfoldable pub latAt : PathGeometry → ℕ → Float
 latAt g i = getD (g .points) i nowhere .lat .0
 
--- points[0].lat.abs() where points.len() == 1, else ((points[0].lat + points[1].lat + points[2].lat) / 3.0).abs()
+-- points[0].lat.abs() where points.len() == 1, else ((points[0].lat + points[1].lat +
+-- points[2].lat) / 3.0).abs()
 unfoldable pub meanLatitude : ℕ → Float → Float → Float → Float
 meanLatitude count lat1 lat2 lat3 = cond (eqb count 1) (absOf lat1) (absOf ((lat1 ⊕ lat2 ⊕ lat3) ⊘ decimal 30 1))
 

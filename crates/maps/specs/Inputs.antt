@@ -1,4 +1,5 @@
--- Document 01's 14 fields of a sheet as words: the month and the flag are whole numbers, the others the bits of an f32. Assumes nothing.
+-- Document 01's 14 fields of a sheet as words: the month and the flag are whole numbers, the others
+-- the bits of an f32. Assumes nothing.
 use Prim.Native.Nat.{ℕ}
 use mathlib.Core.Bool.{Bool, not}
 use mathlib.Core.List.{List, [], _∷_}

@@ -5,8 +5,7 @@ use lib.Ieee.{Float}
 use Rattle.base.specs.declared.angle.Radians.{Radians}
 use Rattle.maps.specs.declared.inputs.MagneticPole.{MagneticPole}
 use Rattle.base.specs.declared.refusal.Verdict.{Verdict}
-use Rattle.base.specs.declared.refusal.Verdict.the-variants.{Accepted, Refused}
-use Rattle.base.specs.Refusal.{_then_}
+use Rattle.base.specs.Refusal.{_then_, writtenOver}
 use Rattle.base.specs.Single.{decimal}
 use Rattle.base.specs.Elementary.{cos32Of}
 use Rattle.base.specs.Ranges.{monthCheck}
@@ -44,7 +43,8 @@ layersCheck month file = monthCheck month then fileCheck file
 
 -- the distance is 0.0, which no step reads
 unfoldable pub pointAt : MagneticPole → Radians → Radians → ControlPoint
-pointAt pole lat lon = record { rd = record { 0 = decimal 0 1 }; lat = lat; lon = lon; gmlat = geomagneticOf pole lat lon }
+pointAt pole lat lon =
+    record { rd = record { 0 = decimal 0 1 }; lat = lat; lon = lon; gmlat = geomagneticOf pole lat lon }
 
 unfoldable pub layersThere :
     LayerInputs → Monthly → List Float → List ℕ → List Float → MagneticPole → Radians → Radians → LayerParams
@@ -70,8 +70,7 @@ noLayers =
     }
 
 abbrev pub layersIf : Verdict → LayerParams → LayersAt
-layersIf Accepted l = record { verdict = Accepted; params = l }
-layersIf (Refused why) l = record { verdict = Refused why; params = noLayers }
+layersIf v l = record { verdict = v; params = writtenOver v l noLayers }
 
 unfoldable pub layersAtOf : LayerInputs → List Float → List ℕ → MagneticPole → Radians → Radians → LayersAt
 layersAtOf i ab file pole lat lon =

@@ -1,5 +1,6 @@
--- The parts of `layer_parameters` of ionosphere.rs, TIMVAR, EF1VAR and F2VAR, expression by expression in binary32 and in its names, with
--- `esind`, `ground_constants` and `timvar_clck`. What it has for a month, 'set', is `Monthly`, worked out once. Assumes nothing.
+-- The parts of `layer_parameters` of ionosphere.rs, TIMVAR, EF1VAR and F2VAR, expression by
+-- expression in binary32 and in its names, with `esind`, `ground_constants` and `timvar_clck`. What
+-- it has for a month, 'set', is `Monthly`, worked out once. Assumes nothing.
 use Prim.Native.Nat.{ℕ, _+_, _-_, _*_}
 use mathlib.Core.Bool.{Bool, true, false, cond}
 use mathlib.Core.List.{List, [], _∷_}
@@ -13,7 +14,7 @@ use Rattle.base.specs.Number.{absOf, minOf, maxOf, sqrtOf}
 use Rattle.base.specs.Angle.{radiansOf, degreesOf}
 use Rattle.base.specs.Elementary.{sin32Of, cos32Of, acos32Of, exp32Of, ln32Of}
 use Rattle.base.specs.Words.{floatAt}
-use Rattle.base.specs.Tables.{placeOf, anew, bnew, achi, bchi, abmap}
+use Rattle.base.specs.Tables.{startOf, anew, bnew, achi, bchi, abmap}
 use Rattle.maps.specs.declared.geometry.ControlPoint.{ControlPoint}
 use Rattle.maps.specs.declared.magnetic.MagneticVars.{MagneticVars}
 use Rattle.maps.specs.declared.inputs.Factors.{Factors}
@@ -51,17 +52,18 @@ SUN =
     ∷ sun (minusDecimal 2166 2) (minusDecimal 2345 2)
     ∷ []
 
--- SUN[month - 1]; no definition decides of a month out of 1 to 12: it has no sun, and so no zenith angle
+-- SUN[month - 1]; no definition decides of a month out of 1 to 12: it has no sun, and so no zenith
+-- angle
 unfoldable pub sunOf : ℕ → Sun
 sunOf month = cond (eqb month 0) (sun nan nan) (getD SUN (month - 1) (sun nan nan))
 
 -- set.a[i] + set.b[i] * ssn, of two tables of the month file
 unfoldable pub termOf : List ℕ → ℕ → ℕ → ℕ → Float → Float
-termOf file a b i ssn = floatAt file (placeOf a + 4 * i) ⊕ floatAt file (placeOf b + 4 * i) ⊗ ssn
+termOf file a b i ssn = floatAt file (startOf a + 4 * i) ⊕ floatAt file (startOf b + 4 * i) ⊗ ssn
 
 -- set.abmap[c][i]
 unfoldable pub abmapAt : List ℕ → ℕ → ℕ → Float
-abmapAt file c i = floatAt file (placeOf abmap + 4 * (c * 2 + i))
+abmapAt file c i = floatAt file (startOf abmap + 4 * (c * 2 + i))
 
 unfoldable pub monthlyOf : List ℕ → ℕ → Float → Monthly
 monthlyOf file month ssn =
@@ -87,7 +89,8 @@ clockOf gmt lon =
     cond (lt (decimal 240 1 ⊖ clock) (decimal 0 1)) (clock ⊖ decimal 240 1)
     (cond (le clock (decimal 0 1)) (clock ⊕ decimal 240 1) clock)
 
--- `ssp`: sun[1] in radians, or sun[0] where that is the farther one. A product of two is the same either way round.
+-- `ssp`: sun[1] in radians, or sun[0] where that is the farther one. A product of two is the same
+-- either way round.
 unfoldable pub sspOf : Sun → Radians → Float
 sspOf s cenlat =
     let s0 = radiansOf (s .0) .0 in
@@ -116,7 +119,9 @@ timvarOf s gmt cenlat cenlg =
 -- the map's value, or where it is below 0.36 the one of midnight
 unfoldable pub gamma6Of : Float → Float → Float
 gamma6Of gamma6 ssn =
-    cond (lt (gamma6 ⊖ decimal 36 2) (decimal 0 1)) (decimal 36 2 ⊗ sqrtOf binary32 (decimal 10 1 ⊕ decimal 98 4 ⊗ ssn)) gamma6
+    cond (lt (gamma6 ⊖ decimal 36 2) (decimal 0 1))
+    (decimal 36 2 ⊗ sqrtOf binary32 (decimal 10 1 ⊕ decimal 98 4 ⊗ ssn))
+    gamma6
 
 -- fi[0], yi[0] and hi[0]
 unfoldable pub eLayer : Float → Float → Float → Layer
@@ -171,7 +176,8 @@ atLeastXf1 fc f = maxOf (fc ⊘ f) (decimal 11 1)
 unfoldable pub halfOver : Float → Float → Float
 halfOver y r = decimal 5 1 ⊗ y ⊗ (r ⊖ decimal 20 1)
 
--- within two degrees of zenmax: F1 rises into F2 and its retardation goes to zero. hm is the height that F2 would have alone.
+-- within two degrees of zenmax: F1 rises into F2 and its retardation goes to zero. hm is the height
+-- that F2 would have alone.
 unfoldable pub twilightOf : Layer → Float → Float → Float → Float → Float → Float → Float → Merged
 twilightOf f1 ffec zmax z hm rat fc fi2 =
     let zn = zmax ⊖ decimal 20 1 in
@@ -191,7 +197,8 @@ twilightOf f1 ffec zmax z hm rat fc fi2 =
     (record { rft = rft; hi = hm ⊖ ym ⊖ dh ⊕ f1 .yi; yi = f1 .yi }))
     (record { rft = rft; hi = f1 .hi; yi = f1 .yi })
 
--- an F1 layer's part of the retardation, its height and its semithickness: merged only within two degrees of zenmax
+-- an F1 layer's part of the retardation, its height and its semithickness: merged only within two
+-- degrees of zenmax
 unfoldable pub mergedOf : Layer → Float → Float → Float → Float → Float → Float → Merged
 mergedOf f1 zmax z hm rat fc fi2 =
     let ffec = atLeastXf1 fc (f1 .fi) in
@@ -216,7 +223,8 @@ retardedOf f1 ret zmax z hpf2 rat fc fi2 =
 
 -- ---- the layers at a point
 
-unfoldable pub layersOf : Monthly → Float → Float → Factors → List Float → ControlPoint → MagneticVars → Gammas → LayerParams
+unfoldable pub layersOf :
+    Monthly → Float → Float → Factors → List Float → ControlPoint → MagneticVars → Gammas → LayerParams
 layersOf m ssn gmt psc hmym pt mag g =
     let t = timvarOf (m .sun) gmt (pt .lat) (pt .lon) in
     let ef1 = ef1Of m ssn psc (mag .gmdip) (t .cycen) (g .g6) in
@@ -249,7 +257,9 @@ esindOf g psc3 = record { fs = g .g3 ⊗ psc3 ∷ g .g2 ⊗ psc3 ∷ g .g1 ⊗ p
 
 unfoldable pub groundAt : Float → Ground
 groundAt wld =
-    cond (le (decimal 0 1) wld) (record { 0 = decimal 1 3; 1 = decimal 40 1 }) (record { 0 = decimal 50 1; 1 = decimal 800 1 })
+    cond (le (decimal 0 1) wld)
+    (record { 0 = decimal 1 3; 1 = decimal 40 1 })
+    (record { 0 = decimal 50 1; 1 = decimal 800 1 })
 
 unfoldable pub groundOf : Monthly → List Float → Radians → Radians → Ground
 groundOf m fakmap lat eastLon =

@@ -1,6 +1,6 @@
--- magnetic.rs under its names, in closed form: sines, powers and Legendre's functions by their recurrences, and the
--- field as sums over them; each operation is one of the Rust's, in its order. What the private contracts say of its
--- arrays stands at the end. Assumes nothing.
+-- magnetic.rs under its names, in closed form: sines, powers and Legendre's functions by their
+-- recurrences, and the field as sums over them; each operation is one of the Rust's, in its order.
+-- What the private contracts say of its arrays stands at the end. Assumes nothing.
 use mathlib.Core.Bool.{cond}
 use mathlib.Core.List.{List, [], _∷_}
 use Prim.Native.Nat.{ℕ, zero, suc, _+_, _-_, _*_}
@@ -47,7 +47,8 @@ CT =
     ∷ (decimal 26666667 8 ∷ decimal 2 1 ∷ o ∷ o ∷ o ∷ o ∷ o ∷ [])
     ∷ (decimal 25714286 8 ∷ decimal 22857142 8 ∷ decimal 14285714 8 ∷ o ∷ o ∷ o ∷ o ∷ [])
     ∷ (decimal 25396825 8 ∷ decimal 23809523 8 ∷ decimal 19047619 8 ∷ decimal 11111111 8 ∷ o ∷ o ∷ o ∷ [])
-    ∷ (decimal 25252525 8 ∷ decimal 24242424 8 ∷ decimal 21212121 8 ∷ decimal 16161616 8 ∷ decimal 9090909 8 ∷ o ∷ o ∷ [])
+    ∷ (decimal 25252525 8 ∷ decimal 24242424 8 ∷ decimal 21212121 8 ∷ decimal 16161616 8 ∷
+    decimal 9090909 8 ∷ o ∷ o ∷ [])
     ∷ []
 
 -- Jensen-Cain 1960 G coefficients
@@ -57,9 +58,12 @@ G =
     ∷ (decimal 304112 6 ∷ decimal 21474 6 ∷ o ∷ o ∷ o ∷ o ∷ o ∷ [])
     ∷ (decimal 24035 6 ∷ minusDecimal 51253 6 ∷ minusDecimal 13381 6 ∷ o ∷ o ∷ o ∷ o ∷ [])
     ∷ (minusDecimal 31518 6 ∷ decimal 62130 6 ∷ minusDecimal 24898 6 ∷ minusDecimal 6496 6 ∷ o ∷ o ∷ o ∷ [])
-    ∷ (minusDecimal 41794 6 ∷ minusDecimal 45298 6 ∷ minusDecimal 21795 6 ∷ decimal 7008 6 ∷ minusDecimal 2044 6 ∷ o ∷ o ∷ [])
-    ∷ (decimal 16256 6 ∷ minusDecimal 34407 6 ∷ minusDecimal 19447 6 ∷ minusDecimal 608 6 ∷ decimal 2775 6 ∷ decimal 697 6 ∷ o ∷ [])
-    ∷ (minusDecimal 19523 6 ∷ minusDecimal 4853 6 ∷ decimal 3212 6 ∷ decimal 21413 6 ∷ decimal 1051 6 ∷ decimal 227 6 ∷ decimal 1115 6 ∷ [])
+    ∷ (minusDecimal 41794 6 ∷ minusDecimal 45298 6 ∷ minusDecimal 21795 6 ∷ decimal 7008 6 ∷
+    minusDecimal 2044 6 ∷ o ∷ o ∷ [])
+    ∷ (decimal 16256 6 ∷ minusDecimal 34407 6 ∷ minusDecimal 19447 6 ∷ minusDecimal 608 6 ∷
+    decimal 2775 6 ∷ decimal 697 6 ∷ o ∷ [])
+    ∷ (minusDecimal 19523 6 ∷ minusDecimal 4853 6 ∷ decimal 3212 6 ∷ decimal 21413 6 ∷
+    decimal 1051 6 ∷ decimal 227 6 ∷ decimal 1115 6 ∷ [])
     ∷ []
 
 -- Jensen-Cain 1960 H coefficients
@@ -71,7 +75,8 @@ H =
     ∷ (o ∷ decimal 14870 6 ∷ minusDecimal 4075 6 ∷ decimal 21 5 ∷ o ∷ o ∷ o ∷ [])
     ∷ (o ∷ minusDecimal 11825 6 ∷ decimal 10006 6 ∷ decimal 43 5 ∷ decimal 1385 6 ∷ o ∷ o ∷ [])
     ∷ (o ∷ minusDecimal 796 6 ∷ minusDecimal 2 3 ∷ decimal 4597 6 ∷ decimal 2421 6 ∷ minusDecimal 1218 6 ∷ o ∷ [])
-    ∷ (o ∷ minusDecimal 5758 6 ∷ minusDecimal 8735 6 ∷ minusDecimal 3406 6 ∷ minusDecimal 118 6 ∷ minusDecimal 1116 6 ∷ minusDecimal 325 6 ∷ [])
+    ∷ (o ∷ minusDecimal 5758 6 ∷ minusDecimal 8735 6 ∷ minusDecimal 3406 6 ∷
+    minusDecimal 118 6 ∷ minusDecimal 1116 6 ∷ minusDecimal 325 6 ∷ [])
     ∷ []
 
 -- t[n][m] of a constant table
@@ -81,8 +86,8 @@ entry t n m = getD (getD t n []) m nan
 -- ---- the position
 
 -- p1 and p2, after `if p1 > RD { .. } else if p1 < -RD { .. }`
-unfoldable pub clampedOf : Radians → Radians → Position
-clampedOf lat eastLon =
+unfoldable pub clampedPlace : Radians → Radians → Position
+clampedPlace lat eastLon =
     cond (lt RD (lat .0)) (record { p1 = record { 0 = RD }; p2 = record { 0 = o } })
     (cond (lt (lat .0) (neg RD)) (record { p1 = record { 0 = neg RD }; p2 = record { 0 = o } })
     (record { p1 = lat; p2 = eastLon }))
@@ -107,7 +112,8 @@ aorOf ar (suc (suc n)) = ar ⊗ aorOf ar (suc n)
 
 -- ---- Legendre's functions, as Gauss normalised them
 
--- c is the sine of the latitude, which is the cosine of the colatitude, and s the sine of the colatitude
+-- c is the sine of the latitude, which is the cosine of the colatitude, and s the sine of the
+-- colatitude
 module _ (c s : Float) where
   -- p[n][m]; 0 for m above n, where the Rust reads what it has never written
   unfoldable pub pOf : ℕ → ℕ → Float
@@ -159,10 +165,11 @@ module _ (c s : Float) (phi : Radians) where
 
 -- ---- the field, the gyrofrequency and the dip angle
 
--- [-bv, bn, -bphi / s], where c is p1.sin(), s is (1.0 - c * c).sqrt(), and ar the ratio of the radii
+-- [-bv, bn, -bphi / s], where c is p1.sin(), s is (1.0 - c * c).sqrt(), and ar the ratio of the
+-- radii
 unfoldable pub magfinOf : Radians → Radians → Float → Une
 magfinOf lat eastLon heightM =
-    let q = clampedOf lat eastLon in
+    let q = clampedPlace lat eastLon in
     let ar = HC ⊘ (HC ⊕ heightM) in
     let c = sin32Of (q .p1 .0) in
     let s = sqrtOf binary32 (decimal 10 1 ⊖ c ⊗ c) in
@@ -178,7 +185,8 @@ eastOf lon =
 unfoldable pub gobOf : Radians → Float
 gobOf lat = let gob = cos32Of (lat .0) in cond (le gob (decimal 1 6)) (decimal 1 6) gob
 
--- gyz, gmdip and east_lon. gmdip is Rawer's modified dip mu: tan(mu) = I / sqrt(cos lat), where I is the dip.
+-- gyz, gmdip and east_lon. gmdip is Rawer's modified dip mu: tan(mu) = I / sqrt(cos lat), where I
+-- is the dip.
 unfoldable pub magvarOf : Radians → Radians → MagneticVars
 magvarOf lat lon =
     let eastLon = eastOf lon in
@@ -191,12 +199,12 @@ magvarOf lat lon =
 
 -- ---- the arrays on the way: nothing below need be believed
 
--- Only private contracts and proofs use what follows; that the arrays hold the functions above is proofs/FieldSums.antt.
--- A table of 7 by 7 numbers that changes stands as one list, row after row.
+-- Only private contracts and proofs use what follows; that the arrays hold the functions above is
+-- proofs/FieldSums.antt. A table of 7 by 7 numbers that changes stands as one list, row after row.
 
 -- CT[n], G[n] and H[n]
-unfoldable pub rowOf : ℕ → Row
-rowOf n = record { ct = getD CT n []; g = getD G n []; h = getD H n [] }
+unfoldable pub tableRow : ℕ → Row
+tableRow n = record { ct = getD CT n []; g = getD G n []; h = getD H n [] }
 
 -- a[m]
 abbrev pub at : List Float → ℕ → Float
@@ -224,17 +232,17 @@ multiplesOf phi =
     })
 
 -- the store to aor[m]
-unfoldable pub powerOf : Float → ℕ → List Float → List Float
-powerOf ar m aor = set aor m (ar ⊗ at aor (m - 1))
+unfoldable pub aorStep : Float → ℕ → List Float → List Float
+aorStep ar m aor = set aor m (ar ⊗ at aor (m - 1))
 
 -- aor: aor[0] is ar * ar, and aor[1] is aor[0] * ar
 unfoldable pub powersOf : Float → List Float
-powersOf ar = loop 2 7 (powerOf ar) (ar ⊗ ar ∷ ar ⊗ ar ⊗ ar ∷ o ∷ o ∷ o ∷ o ∷ o ∷ [])
+powersOf ar = loop 2 7 (aorStep ar) (ar ⊗ ar ∷ ar ⊗ ar ⊗ ar ∷ o ∷ o ∷ o ∷ o ∷ o ∷ [])
 
 -- what stands before the loop over n: c is p1.sin(), and s is (1.0 - c * c).sqrt()
 unfoldable pub placedOf : Radians → Radians → Float → Place
 placedOf lat eastLon heightM =
-    let q = clampedOf lat eastLon in
+    let q = clampedPlace lat eastLon in
     let ar = HC ⊘ (HC ⊕ heightM) in
     let c = sin32Of (q .p1 .0) in
     let v = multiplesOf (q .p2) in
@@ -249,7 +257,11 @@ placedOf lat eastLon heightM =
 -- p[n][m] and dp[n][m], where ct is CT[n][m]
 unfoldable pub elementOf : Float → Float → Float → ℕ → ℕ → List Float → List Float → Element
 elementOf c s ct n m p dp =
-    cond (eqb n m) (record { p = s ⊗ at7 p (n - 1) (n - 1); dp = s ⊗ at7 dp (n - 1) (n - 1) ⊕ c ⊗ at7 p (n - 1) (n - 1) })
+    cond (eqb n m)
+    (record {
+      p = s ⊗ at7 p (n - 1) (n - 1);
+      dp = s ⊗ at7 dp (n - 1) (n - 1) ⊕ c ⊗ at7 p (n - 1) (n - 1);
+    })
     (cond (eqb n 1) (record { p = c; dp = neg s })
     (record {
       p = c ⊗ at7 p (n - 1) m ⊖ ct ⊗ at7 p (n - 2) m;

@@ -1,4 +1,5 @@
--- `noisy` of ionosphere.rs, the two-variable Fourier map, in its names. A plane's 16 rows of 29 stand one after the other. Assumes nothing.
+-- `noisy` of ionosphere.rs, the two-variable Fourier map, in its names. A plane's 16 rows of 29
+-- stand one after the other. Assumes nothing.
 use Prim.Native.Nat.{ℕ, zero, suc, _+_, _*_}
 use mathlib.Core.Bool.{Bool, cond}
 use mathlib.Core.List.{List}
@@ -12,7 +13,8 @@ use Rattle.base.specs.Fill.{fill}
 abbrev pub inPlane : List Float → ℕ → ℕ → Float
 inPlane plane k j = getD plane (k * 29 + j) nan
 
--- the sine and the cosine of k + 1 times an angle, from those of the angle, as both of its loops have them
+-- the sine and the cosine of k + 1 times an angle, from those of the angle, as both of its loops
+-- have them
 pub record Turn : Type 0 where
   pub sine : Float
   pub cosine : Float
@@ -37,7 +39,8 @@ unfoldable pub latitudeSum : (ℕ → Float) → (ℕ → Float) → ℕ → Flo
 latitudeSum sk zz zero = decimal 0 1
 latitudeSum sk zz (suc k) = latitudeSum sk zz k ⊕ sk k ⊗ zz k
 
--- lm columns, each summed over ln sines of half the longitude, and they over sines of the latitude counted from the south pole
+-- lm columns, each summed over ln sines of half the longitude, and they over sines of the latitude
+-- counted from the south pole
 unfoldable pub noisySum : ℕ → ℕ → List Float → Float → Float → Float → Float → Float
 noisySum lm ln plane alf bet xla ceg =
     let q = decimal 87266466 10 ⊗ ceg in
@@ -45,9 +48,11 @@ noisySum lm ln plane alf bet xla ceg =
     let p = decimal 1745329252 11 ⊗ (xla ⊕ decimal 900 1) in
     latitudeSum (λ k. turnOf (sin32Of p) (cos32Of p) k .sine) zz lm ⊕ alf ⊕ bet ⊗ p
 
--- `noisy(plane, &[alf, bet], ratio_map, xla, ceg)`: (lm, ln) = if ratio_map { (15, 10) } else { (29, 15) }
+-- `noisy(plane, &[alf, bet], ratio_map, xla, ceg)`: (lm, ln) = if ratio_map { (15, 10) } else {
+-- (29, 15) }
 unfoldable pub noisyOf : List Float → Float → Float → Bool → Float → Float → Float
-noisyOf plane alf bet ratioMap xla ceg = cond ratioMap (noisySum 15 10 plane alf bet xla ceg) (noisySum 29 15 plane alf bet xla ceg)
+noisyOf plane alf bet ratioMap xla ceg =
+    cond ratioMap (noisySum 15 10 plane alf bet xla ceg) (noisySum 29 15 plane alf bet xla ceg)
 
 -- ---- the arrays on the way; past what is filled they keep the 0.0 they are made of
 

@@ -1,5 +1,5 @@
--- `virtim` of ionosphere.rs: every map's daily series worked out at an hour, 2,604 coefficients to 318. Maps are counted from 0 here.
--- Assumes nothing.
+-- `virtim` of ionosphere.rs: every map's daily series worked out at an hour, 2,604 coefficients to
+-- 318. Maps are counted from 0 here. Assumes nothing.
 use Prim.Native.Nat.{ℕ, zero, suc, _+_, _-_, _*_, _<_}
 use mathlib.Core.List.{List}
 use lib.ListN.{getD, replicate}
@@ -8,7 +8,7 @@ use Rattle.base.specs.declared.angle.Radians.{Radians}
 use Rattle.base.specs.Single.{_⊕_, _⊖_, _⊗_, decimal}
 use Rattle.base.specs.Angle.{radiansOf}
 use Rattle.base.specs.Elementary.{sin32Of, cos32Of}
-use Rattle.base.specs.Fill.{fill, run}
+use Rattle.base.specs.Fill.{fill, tabulate}
 use Rattle.base.specs.Index.{mapWord, rows, harmonics, GoodIndex}
 use Rattle.base.specs.Blend.{IA, IB, IC}
 use Rattle.maps.specs.declared.ionosphere.virtim.Waves.{Waves}
@@ -39,20 +39,21 @@ hourWave gmt jb = let time = timeOf gmt .0 in waveOf (cos32Of time) (sin32Of tim
 
 -- the arrays c and s
 unfoldable pub hourWaves : Float → Waves
-hourWaves gmt = record { c = run (λ jb. hourWave gmt jb .c) 8; s = run (λ jb. hourWave gmt jb .s) 8 }
+hourWaves gmt = record { c = tabulate (λ jb. hourWave gmt jb .c) 8; s = tabulate (λ jb. hourWave gmt jb .s) 8 }
 
 -- c[jb] and s[jb] of two arrays
 unfoldable pub waveIn : List Float → List Float → ℕ → Wave
 waveIn c s jb = record { c = getD c jb nan; s = getD s jb nan }
 
--- `value` after ka harmonics: cof[at], then value + s[ka] * cof[at + 2 * ka + 1] + c[ka] * cof[at + 2 * ka + 2]
+-- `value` after ka harmonics: cof[at], then value + s[ka] * cof[at + 2 * ka + 1] + c[ka] * cof[at +
+-- 2 * ka + 2]
 unfoldable pub valueOf : (ℕ → Wave) → List Float → ℕ → ℕ → Float
 valueOf v cof at zero = getD cof at nan
 valueOf v cof at (suc ka) =
     valueOf v cof at ka ⊕ v ka .s ⊗ getD cof (at + 2 * ka + 1) nan ⊕ v ka .c ⊗ getD cof (at + 2 * ka + 2) nan
 
--- D(T) = U_0 + sum over h = 1 .. n of (U_{2h-1} sin hT + U_{2h} cos hT): u are a row's coefficients, v (h - 1) has cos hT
--- and sin hT
+-- D(T) = U_0 + sum over h = 1 .. n of (U_{2h-1} sin hT + U_{2h} cos hT): u are a row's
+-- coefficients, v (h - 1) has cos hT and sin hT
 unfoldable pub dailyOf : (ℕ → Wave) → (ℕ → Float) → ℕ → Float
 dailyOf v u zero = u 0
 dailyOf v u (suc n) = dailyOf v u n ⊕ v n .s ⊗ u (2 * n + 1) ⊕ v n .c ⊗ u (2 * n + 2)
@@ -61,7 +62,8 @@ dailyOf v u (suc n) = dailyOf v u n ⊕ v n .s ⊗ u (2 * n + 1) ⊕ v n .c ⊗ 
 abbrev pub coefficientIn : List Float → ℕ → ℕ → ℕ → Float
 coefficientIn cof k s j = getD cof (getD IA k 0 - 1 + j * getD IB k 0 + s) nan
 
--- the value of the row j of the map iz: its coefficients start at IA + j * IB, and word 9 is its number of harmonics
+-- the value of the row j of the map iz: its coefficients start at IA + j * IB, and word 9 is its
+-- number of harmonics
 unfoldable pub rowValue : (ℕ → Wave) → List Float → List ℕ → ℕ → ℕ → Float
 rowValue v cof index iz j = valueOf v cof (getD IA iz 0 - 1 + j * getD IB iz 0) (mapWord index iz 9)
 

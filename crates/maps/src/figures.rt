@@ -1,6 +1,7 @@
 // The 151 figures of a sheet.
 use crate::geometry;
 use crate::geometry::ControlPoint;
+use crate::geometry::POINTS;
 use crate::geometry::PathGeometry;
 use crate::inputs::Inputs;
 use crate::ionosphere;
@@ -29,7 +30,7 @@ ghost use lib.ListN.{length, getD};
 ghost use lib.Ieee.{nan};
 ghost use Rattle.base.specs.Fill.{fill};
 ghost use Rattle.maps.specs.Virtim.{GoodTable};
-ghost use Rattle.maps.specs.Figures.{hour, hourFrom, headOf, numbersOf, pointRow, rowAt, figuresTo, routeOf, shownOf, bufferAfter};
+ghost use Rattle.maps.specs.Figures.{hour, hourFrom, headOf, numbersOf, figureRow, figuresTo, sheetPath, shownOf, figuresBuffer};
 
 // The figures of a path.
 const HEAD: usize = 6;
@@ -38,7 +39,7 @@ const HEAD: usize = 6;
 const ROW: usize = 29;
 
 // How many figures a sheet has, those of its path before a row for each of five points.
-pub const FIGURES: usize = HEAD + 5 * ROW;
+pub const FIGURES: usize = HEAD + POINTS * ROW;
 
 // What a showing answers: the number of points, or why it is refused.
 pub enum Shown {
@@ -74,12 +75,8 @@ fn numbers(
     let gmlat = pt.gmlat;
     let gmdip = mag.gmdip;
     let east_lon = mag.east_lon;
-    let fi = l.fi;
-    let yi = l.yi;
-    let hi = l.hi;
     let zenang = l.zenang;
     let zenmax = l.zenmax;
-    let fs = es.fs;
     [
         rd.0,
         lat.0,
@@ -88,15 +85,15 @@ fn numbers(
         mag.gyz,
         gmdip.0,
         east_lon.0,
-        fi[0],
-        fi[1],
-        fi[2],
-        yi[0],
-        yi[1],
-        yi[2],
-        hi[0],
-        hi[1],
-        hi[2],
+        l.fi[0],
+        l.fi[1],
+        l.fi[2],
+        l.yi[0],
+        l.yi[1],
+        l.yi[2],
+        l.hi[0],
+        l.hi[1],
+        l.hi[2],
         l.f2m3,
         l.hpf2,
         l.rat,
@@ -104,40 +101,16 @@ fn numbers(
         l.clck,
         zenang.0,
         zenmax.0,
-        fs[0],
-        fs[1],
-        fs[2],
+        es.fs[0],
+        es.fs[1],
+        es.fs[2],
         es.hs,
         ground.0,
         ground.1,
     ]
 }
 
-// The 29 numbers of a point.
-fn point_row(
-    i: Inputs,
-    m: Monthly,
-    ab: &TimeMaps,
-    index: &IndexTable,
-    hmym: &HeightMap,
-    fakmap: &LandMap,
-    pt: ControlPoint,
-) -> [f32; ROW]
-    requires { ⌜ GoodTable (now index) ⌝ }
-    ensures { λ r. ⌜ r ≡ pointRow (hour (now (ab .entry)) (now (index .entry)) m (now (hmym .entry)) (now (fakmap .entry))) i pt ⌝ }
-{
-    let lat = pt.lat;
-    let lon = pt.lon;
-    let psc = i.psc;
-    let mag = magnetic::magvar(lat, lon);
-    let g = ionosphere::gammas_at(ab, index, lat, lon, mag);
-    let l = layers::layer_parameters(m, i.ssn, i.gmt, psc, hmym, pt, mag, g);
-    let es = layers::esind(g, psc.es);
-    let ground = layers::ground_constants(m, fakmap, lat, mag.east_lon);
-    numbers(pt, mag, l, es, ground)
-}
-
-// The row p: a point's numbers, or zeros where there is no such point.
+// The row p: a point's 29 numbers, or zeros where there is no such point.
 fn row(
     i: Inputs,
     m: Monthly,
@@ -149,20 +122,34 @@ fn row(
     p: usize,
 ) -> [f32; ROW]
     requires { ⌜ GoodTable (now index) × (p < 5) ⌝ }
-    ensures { λ r. ⌜ r ≡ rowAt (hour (now (ab .entry)) (now (index .entry)) m (now (hmym .entry)) (now (fakmap .entry))) i g p ⌝ }
+    ensures { λ r. ⌜ (
+        let h = hour (now (ab .entry)) (now (index .entry)) m (now (hmym .entry)) (now (fakmap .entry)) in
+        r ≡ figureRow h i g p
+        ) ⌝ }
 {
-    if (p as u32) < g.count {
-        let points = g.points;
-        point_row(i, m, ab, index, hmym, fakmap, points[p])
-    } else {
-        [0.0f32; ROW]
+    if g.count <= p as u32 {
+        return [0.0f32; ROW];
     }
+    let points = g.points;
+    let pt = points[p];
+    let lat = pt.lat;
+    let lon = pt.lon;
+    let psc = i.psc;
+    let mag = magnetic::magvar(lat, lon);
+    let maps = ionosphere::gammas_at(ab, index, lat, lon, mag);
+    let l = layers::layer_parameters(m, i.ssn, i.gmt, psc, hmym, pt, mag, maps);
+    let es = layers::esind(maps, psc.es);
+    let ground = layers::ground_constants(m, fakmap, lat, mag.east_lon);
+    numbers(pt, mag, l, es, ground)
 }
 
 // The numbers of one list put into the buffer from `at` on.
 fn put(out: &mut [f32], at: usize, from: &[f32])
     requires { ⌜ at + length (now from) ≤ length (now out) ⌝ }
-    ensures { λ _. ⌜ now (out .exit) ≡ fill (λ (k : ℕ). getD (now (from .entry)) k nan) at (now (out .entry)) (length (now (from .entry))) ⌝ }
+    ensures { λ _. ⌜ (
+        let l = now (from .entry) in
+        now (out .exit) ≡ fill (λ (k : ℕ). getD l k nan) at (now (out .entry)) (length l)
+        ) ⌝ }
 {
     let mut k = 0usize;
     while k < from.len() {
@@ -183,12 +170,15 @@ fn put_figures(
     out: &mut [f32],
 )
     requires { ⌜ GoodTable (now index) × (length (now out) ≡ 151) ⌝ }
-    ensures { λ _. ⌜ now (out .exit) ≡ figuresTo (hour (now (ab .entry)) (now (index .entry)) m (now (hmym .entry)) (now (fakmap .entry))) i g 5 ⌝ }
+    ensures { λ _. ⌜ (
+        let h = hour (now (ab .entry)) (now (index .entry)) m (now (hmym .entry)) (now (fakmap .entry)) in
+        now (out .exit) ≡ figuresTo h i g 5
+        ) ⌝ }
 {
     let six = head(g);
     put(out, 0, &six);
     let mut p = 0usize;
-    while p < 5 {
+    while p < POINTS {
         let numbers = row(i, m, ab, index, hmym, fakmap, g, p);
         put(out, HEAD + ROW * p, &numbers);
         p += 1;
@@ -197,7 +187,7 @@ fn put_figures(
 
 // The path of a sheet.
 fn path(i: Inputs) -> PathGeometry
-    ensures { λ r. ⌜ r ≡ routeOf i ⌝ }
+    ensures { λ r. ⌜ r ≡ sheetPath i ⌝ }
 {
     let route = i.route;
     geometry::path_geometry(
@@ -221,12 +211,11 @@ fn fill_in(
     out: &mut [f32],
 ) -> u32
     requires { ⌜ GoodTable (now index) × (length (now out) ≡ 151) ⌝ }
-    ensures { λ r. ⌜ (
-        let g = routeOf i in
+    ensures answer { λ r. ⌜ r ≡ sheetPath i .count ⌝ }
+    ensures buffer { λ _. ⌜ (
         let m = now (file .entry) in
         let h = hourFrom m (now (index .entry)) (now (cofion .entry)) (now (hmym .entry)) (now (fakmap .entry)) i in
-        (r ≡ g .count)
-        × (now (out .exit) ≡ figuresTo h i g 5)
+        now (out .exit) ≡ figuresTo h i (sheetPath i) 5
         ) ⌝ }
 {
     let ab = virtim::virtim(cofion, index, i.gmt);
@@ -236,14 +225,12 @@ fn fill_in(
     g.count
 }
 
-// The figures of a sheet into the lent buffer, from a lent F2 record and month file. Refused, the
-// buffer stays as it is.
+// The number of points of a sheet, with its 151 figures in the lent buffer; no field is judged.
+// Where the files are refused (8, 9, 10, 11) the buffer stays as it is.
 pub fn figures(i: Inputs, f2: &[u8], file: &[u8], out: &mut [f32; FIGURES]) -> Shown
-    ensures { λ r. ⌜ (
-        let f = now (f2 .entry) in
-        let m = now (file .entry) in
-        (r ≡ shownOf f m i)
-        × (now (out .exit) ≡ bufferAfter f m i (now (out .entry)))
+    ensures answer { λ r. ⌜ r ≡ shownOf (now (f2 .entry)) (now (file .entry)) i ⌝ }
+    ensures buffer { λ _. ⌜ (
+        now (out .exit) ≡ figuresBuffer (now (f2 .entry)) (now (file .entry)) i (now (out .entry))
         ) ⌝ }
 {
     let mut index = [0u32; INDEX];

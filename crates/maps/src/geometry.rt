@@ -1,6 +1,6 @@
-// A path between two ends, after geometry.rs: its length, its two bearings and the places on it where the
-// ionosphere is asked for.
-// Degrees are always `Degrees`; inside, an angle that is worked with is a plain `f32` in radians.
+// A path between two ends, after geometry.rs: its length, its two bearings and the places on it
+// where the ionosphere is asked for. Degrees are always `Degrees`; inside, an angle that is worked
+// with is a plain `f32` in radians.
 use crate::inputs::MagneticPole;
 use base::angle::Degrees;
 use base::angle::Radians;
@@ -13,11 +13,14 @@ use base::elementary::cos32;
 use base::elementary::sin32;
 use base::number::abs32;
 ghost use mathlib.Core.Path.{_≡_};
-ghost use Rattle.maps.specs.Geometry.{signOf, clampedOf, acosClamped, latitudeOf, turnedOf, foldedOf, otherWay, polar, close, nudgeOf, nudgedOf, placeOf, endLongitude, endOf, cosBetween, dlongOf, atLeastMinimum, gcdOf, fromNorth, circleOf, countOf, distancesOf, downMeridian, circleLongitude, onCircle, sampleOf, poleOf, gmlatOf, pointOf, rowOf, rowsOf, pathOf, geomagneticOf, meanLatitude, alatdOf, btrDeg, brtDeg};
+ghost use Rattle.maps.specs.Geometry.{signOf, clampedCosine, acosClamped, latitudeOf, turnedOf, foldedOf, otherWay, polar, close, nudgeOf, nudgedOf, placeOf, endLongitude, endOf, cosBetween, dlongOf, atLeastMinimum, gcdOf, fromNorth, circleOf, countOf, distancesOf, downMeridian, circleLongitude, onCircle, sampleOf, polePlace, gmlatOf, pointOf, controlPointIf, rowsOf, pathOf, geomagneticOf, meanLatitude, alatdOf, btrDeg, brtDeg};
 
 const EPSLON: f32 = 1.0e-7;
 // A receiver that is this near in both coordinates, in degrees, is moved off its transmitter.
 const DDX: f32 = 0.03;
+
+// The control points of a path, at most.
+pub const POINTS: usize = 5;
 
 // A place on the path where the ionosphere is asked for, with its distance from the transmitter and
 // its latitude against the magnetic pole.
@@ -39,31 +42,31 @@ pub struct PathGeometry {
     pub rlatd: Degrees,
     // How many of the points are there; the rows past them are +0.0.
     pub count: u32,
-    pub points: [ControlPoint; 5],
+    pub points: [ControlPoint; POINTS],
 }
 
 // A place in radians, with the sine and the cosine of its latitude.
-struct Place {
-    lat: f32,
-    lon: f32,
-    sin: f32,
-    cos: f32,
+pub struct Place {
+    pub lat: f32,
+    pub lon: f32,
+    pub sin: f32,
+    pub cos: f32,
 }
 
 // The great circle through both ends.
-struct Circle {
-    dlong: f32,
-    gcd: f32,
-    btr: f32,
-    brt: f32,
+pub struct Circle {
+    pub dlong: f32,
+    pub gcd: f32,
+    pub btr: f32,
+    pub brt: f32,
 }
 
 // What every sample area of a path is found from.
-struct Track {
-    tx: Place,
-    rlong: f32,
-    dlong: f32,
-    btr_cos: f32,
+pub struct Track {
+    pub tx: Place,
+    pub rlong: f32,
+    pub dlong: f32,
+    pub btr_cos: f32,
 }
 
 // As Fortran's SIGN: the size of a, negative where b is below zero or a NaN. -0 is not below zero.
@@ -76,7 +79,7 @@ pub fn sign(a: f32, b: f32) -> f32
 
 // q, but no more than 1 in size.
 fn clamped(q: f32) -> f32
-    ensures { λ r. ⌜ r ≡ clampedOf q ⌝ }
+    ensures { λ r. ⌜ r ≡ clampedCosine q ⌝ }
 {
     if abs32(q) > 1.0 { sign(1.0, q) } else { q }
 }
@@ -245,9 +248,9 @@ fn point_count(gcd_km: f32) -> u32
     }
 }
 
-// The distances, nearest first: of five the outer two serve the E layer, the next two the F layer and
-// the middle one all layers.
-fn distances(gcd: f32, count: u32) -> [f32; 5]
+// The distances, nearest first: of five the outer two serve the E layer, the next two the F layer
+// and the middle one all layers.
+fn distances(gcd: f32, count: u32) -> [f32; POINTS]
     ensures { λ r. ⌜ r ≡ distancesOf gcd count ⌝ }
 {
     let r1 = 1000.0 / RZ;
@@ -318,7 +321,7 @@ fn sample(track: Track, drf: f32) -> Place
 }
 
 fn pole_place(pole: MagneticPole) -> Place
-    ensures { λ r. ⌜ r ≡ poleOf pole ⌝ }
+    ensures { λ r. ⌜ r ≡ polePlace pole ⌝ }
 {
     let lat = pole.lat;
     let lon = pole.lon;
@@ -346,7 +349,7 @@ fn control_point(track: Track, pole: Place, drf: f32) -> ControlPoint
 
 // A control point, or +0.0 in every field where it is absent.
 fn row(track: Track, pole: Place, drf: f32, present: bool) -> ControlPoint
-    ensures { λ r. ⌜ r ≡ rowOf track pole drf present ⌝ }
+    ensures { λ r. ⌜ r ≡ controlPointIf track pole drf present ⌝ }
 {
     if present {
         control_point(track, pole, drf)
@@ -360,7 +363,7 @@ fn row(track: Track, pole: Place, drf: f32, present: bool) -> ControlPoint
     }
 }
 
-fn rows(track: Track, pole: Place, gcd: f32, count: u32) -> [ControlPoint; 5]
+fn rows(track: Track, pole: Place, gcd: f32, count: u32) -> [ControlPoint; POINTS]
     ensures { λ r. ⌜ r ≡ rowsOf track pole gcd count ⌝ }
 {
     let rd = distances(gcd, count);
@@ -372,7 +375,8 @@ fn rows(track: Track, pole: Place, gcd: f32, count: u32) -> [ControlPoint; 5]
     [p1, p2, p3, p4, p5]
 }
 
-// The path of two ends, the short way or, with `long_path`, the long way round.
+// Length, bearings and control points of the path between two ends in degrees, the short way or,
+// with `long_path`, the long way round. Nothing is refused.
 pub fn path_geometry(
     tlat: Degrees,
     tlong: Degrees,
@@ -407,7 +411,7 @@ pub fn path_geometry(
     }
 }
 
-// A place's latitude against the magnetic pole.
+// The latitude against the magnetic pole, in radians, of a place in radians.
 pub fn geomagnetic_latitude(pole: MagneticPole, lat: Radians, lon: Radians) -> Radians
     ensures { λ r. ⌜ r ≡ geomagneticOf pole lat lon ⌝ }
 {
@@ -425,7 +429,8 @@ fn mean_latitude(count: u32, lat1: f32, lat2: f32, lat3: f32) -> f32
     }
 }
 
-// The absolute path latitude. With five points it still averages the first three.
+// The path's latitude in degrees, without its sign: of its one point, or the mean of the first
+// three, with five points too.
 pub fn alatd(g: PathGeometry) -> Degrees
     ensures { λ r. ⌜ r ≡ alatdOf g ⌝ }
 {
@@ -439,6 +444,7 @@ pub fn alatd(g: PathGeometry) -> Degrees
     Radians(mean_latitude(g.count, lat1.0, lat2.0, lat3.0)).to_degrees()
 }
 
+// The bearing from transmitter to receiver in degrees.
 pub fn btr_deg(g: PathGeometry) -> Degrees
     ensures { λ r. ⌜ r ≡ btrDeg g ⌝ }
 {
@@ -446,6 +452,7 @@ pub fn btr_deg(g: PathGeometry) -> Degrees
     btr.to_degrees()
 }
 
+// The bearing from receiver to transmitter in degrees.
 pub fn brt_deg(g: PathGeometry) -> Degrees
     ensures { λ r. ⌜ r ≡ brtDeg g ⌝ }
 {

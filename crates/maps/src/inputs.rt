@@ -33,9 +33,10 @@ pub struct MagneticPole {
 }
 
 impl MagneticPole {
-    // The built-in pole.
+    // The built-in pole: 78.5 degrees north, 69 degrees west.
     pub fn built_in() -> MagneticPole
-        ensures { λ r. ⌜ (r .lat .0 ≡ poleLat) × (r .lon .0 ≡ poleLon) ⌝ }
+        ensures latitude { λ r. ⌜ r .lat .0 ≡ poleLat ⌝ }
+        ensures longitude { λ r. ⌜ r .lon .0 ≡ poleLon ⌝ }
     {
         MagneticPole {
             lat: Degrees(78.5),
@@ -102,7 +103,7 @@ fn pole_in(words: &FieldWords) -> MagneticPole
     }
 }
 
-// The inputs whose fields the words are; any 14 words are some.
+// The inputs whose 14 fields the words are, in document 01's order; any 14 words are some.
 pub fn from_words(words: &FieldWords) -> Inputs
     ensures { λ r. ⌜ r ≡ inputsFrom (λ (k : ℕ). getD (now (words .entry)) k 0) ⌝ }
 {
@@ -138,7 +139,8 @@ fn words_in(s: &[u8]) -> FieldWords
     ]
 }
 
-// The same from bytes; one that is not there counts as 0.
+// The inputs whose 14 fields are the little-endian words of the bytes; one that is not there counts
+// as 0.
 pub fn inputs_in(s: &[u8]) -> Inputs
     ensures { λ r. ⌜ r ≡ inputsFrom (λ (k : ℕ). wordAt (now (s .entry)) (4 * k)) ⌝ }
 {
@@ -146,7 +148,7 @@ pub fn inputs_in(s: &[u8]) -> Inputs
     from_words(&words)
 }
 
-// The words of the fields; any NaN is 7fc00000.
+// The 14 words of the inputs' fields, in document 01's order; any NaN is 7fc00000.
 pub fn to_words(i: Inputs) -> FieldWords
     ensures { λ r. ⌜ r ≡ fieldWords i ⌝ }
 {

@@ -1,5 +1,5 @@
-// What the maps give at a point, after ionosphere.rs: a module for each group of the Fortran routines
-// that it has in one file, and here what works over lent files.
+// What the maps give at a point, after ionosphere.rs: a module for each group of the Fortran
+// routines that it has in one file, and here what works over lent files.
 pub mod clocks;
 pub mod layers;
 pub mod noisy;
@@ -35,14 +35,14 @@ ghost use Rattle.base.specs.Files.{filesCheck};
 ghost use Rattle.maps.specs.Virtim.{GoodTable};
 ghost use Rattle.maps.specs.Ionosphere.{hourMapsOf, gammasAt, pointAt, layersCheck, layersThere, noLayers, layersAtOf};
 
-// The coefficients of the six maps at an hour into a lent array, which a refusal leaves as it is.
+// The coefficients of the six maps at a sunspot number and an hour into the lent array, and the
+// verdict on the files (8, 9, 10, 11). Refused, the array stays as it is.
 pub fn hour_maps(f2: &[u8], file: &[u8], ssn: f32, gmt: f32, ab: &mut TimeMaps) -> Verdict
-    ensures { λ r. ⌜ (
+    ensures answer { λ r. ⌜ r ≡ filesCheck (now (f2 .entry)) (now (file .entry)) ⌝ }
+    ensures buffer { λ _. ⌜ (
         let f = now (f2 .entry) in
         let m = now (file .entry) in
-        let v = filesCheck f m in
-        (r ≡ v)
-        × (now (ab .exit) ≡ writtenOver v (hourMapsOf f m ssn gmt) (now (ab .entry)))
+        now (ab .exit) ≡ writtenOver (filesCheck f m) (hourMapsOf f m ssn gmt) (now (ab .entry))
         ) ⌝ }
 {
     let mut index = [0u32; INDEX];
@@ -108,12 +108,14 @@ fn layer_tables(
     index: &mut IndexTable,
     hmym: &mut HeightMap,
 ) -> Verdict
-    ensures { λ r. ⌜ (
+    ensures answer { λ r. ⌜ r ≡ layersCheck month (now (file .entry)) ⌝ }
+    ensures index { λ _. ⌜ (
         let m = now (file .entry) in
-        let v = layersCheck month m in
-        (r ≡ v)
-        × (now (index .exit) ≡ writtenOver v (indexOf m) (now (index .entry)))
-        × (now (hmym .exit) ≡ writtenOver v (hmymOf m ssn) (now (hmym .entry)))
+        now (index .exit) ≡ writtenOver (layersCheck month m) (indexOf m) (now (index .entry))
+        ) ⌝ }
+    ensures hmym { λ _. ⌜ (
+        let m = now (file .entry) in
+        now (hmym .exit) ≡ writtenOver (layersCheck month m) (hmymOf m ssn) (now (hmym .entry))
         ) ⌝ }
 {
     let verdict = month_check(month);
@@ -164,8 +166,8 @@ fn no_layers() -> LayerParams
     }
 }
 
-// The layer parameters at one place, by the same steps as at a control point of a path, from the maps
-// at the hour and a month file.
+// The layer parameters at one place, as at a control point, from the maps at the hour and a month
+// file. Refused, by 1 and then 9, 10, 11, every parameter is +0.0.
 pub fn layer_parameters_at(
     inputs: LayerInputs,
     ab: &TimeMaps,

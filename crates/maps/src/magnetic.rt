@@ -1,5 +1,5 @@
-// Field strength and dip 300 km over a point, after magnetic.rs: a series to degree 6 with the numbers
-// that Jensen and Cain gave for 1960.
+// Field strength and dip 300 km over a point, after magnetic.rs: a series to degree 6 with the
+// numbers that Jensen and Cain gave for 1960.
 use base::angle::Degrees;
 use base::angle::Radians;
 use base::elementary::atan32;
@@ -10,7 +10,7 @@ ghost use mathlib.Core.Path.{_≡_};
 ghost use Prim.Native.Nat.{_+_, _≤_, _<_};
 ghost use lib.IntN.{pos};
 ghost use lib.Ieee.{binary32, ofInt};
-ghost use Rattle.maps.specs.Magnetic.{rowOf, clampedOf, multipleOf, multiplesOf, powersOf, placedOf, at7, elementOf, state, orderOf, ordersOf, degreeOf, expansionOf, magfinOf, eastOf, gobOf, magvarOf};
+ghost use Rattle.maps.specs.Magnetic.{tableRow, clampedPlace, multipleOf, multiplesOf, powersOf, placedOf, at7, elementOf, state, orderOf, ordersOf, degreeOf, expansionOf, magfinOf, eastOf, gobOf, magvarOf};
 
 // Latitudes beyond this, 89.9 degrees, are pinned to it.
 const RD: f32 = 1.56905124;
@@ -108,7 +108,7 @@ struct Row {
 
 fn row_of(n: usize) -> Row
     requires { ⌜ n < 7 ⌝ }
-    ensures { λ r. ⌜ r ≡ rowOf n ⌝ }
+    ensures { λ r. ⌜ r ≡ tableRow n ⌝ }
 {
     let ct = CT[n];
     let g = G[n];
@@ -117,14 +117,14 @@ fn row_of(n: usize) -> Row
 }
 
 // Latitude and longitude.
-struct Position {
-    p1: Radians,
-    p2: Radians,
+pub struct Position {
+    pub p1: Radians,
+    pub p2: Radians,
 }
 
 // The polar clamp: a latitude beyond `RD` is pinned to it, and the longitude is then 0.
 fn clamped(lat: Radians, east_lon: Radians) -> Position
-    ensures { λ r. ⌜ r ≡ clampedOf lat «east_lon» ⌝ }
+    ensures { λ r. ⌜ r ≡ clampedPlace lat «east_lon» ⌝ }
 {
     if lat.0 > RD {
         Position {
@@ -145,9 +145,9 @@ fn clamped(lat: Radians, east_lon: Radians) -> Position
 }
 
 // The sines and cosines of 0 to 6 times the longitude.
-struct Multiples {
-    sp: [f32; 7],
-    cp: [f32; 7],
+pub struct Multiples {
+    pub sp: [f32; 7],
+    pub cp: [f32; 7],
 }
 
 // The m-th of each, by the rule for the sum of two angles.
@@ -193,12 +193,12 @@ fn powers(ar: f32) -> [f32; 7]
 
 // What the expansion takes of a point: the sine and the cosine of its latitude, the multiples of
 // its longitude and the powers of the ratio of radii.
-struct Place {
-    c: f32,
-    s: f32,
-    sp: [f32; 7],
-    cp: [f32; 7],
-    aor: [f32; 7],
+pub struct Place {
+    pub c: f32,
+    pub s: f32,
+    pub sp: [f32; 7],
+    pub cp: [f32; 7],
+    pub aor: [f32; 7],
 }
 
 // The point as the expansion takes it: pinned near the poles, `height_m` metres up.
@@ -227,9 +227,9 @@ fn at(t: &[f32; 49], n: usize, m: usize) -> f32
 }
 
 // `p[n][m]` and `dp[n][m]`.
-struct Element {
-    p: f32,
-    dp: f32,
+pub struct Element {
+    pub p: f32,
+    pub dp: f32,
 }
 
 // They follow from the degrees below; `ct` is `CT[n][m]`.
@@ -271,14 +271,14 @@ fn whole(m: usize) -> f32
 }
 
 // A degree's three sums.
-struct Sums {
-    sumr: f32,
-    sumt: f32,
-    sump: f32,
+pub struct Sums {
+    pub sumr: f32,
+    pub sumt: f32,
+    pub sump: f32,
 }
 
-// All orders of the degree n, summed: `p[n][m]` and `dp[n][m]` are stored, and the terms of the order
-// m added to the sums.
+// All orders of the degree n, summed: `p[n][m]` and `dp[n][m]` are stored, and the terms of the
+// order m added to the sums.
 fn orders(x: Place, n: usize, p: &mut [f32; 49], dp: &mut [f32; 49]) -> Sums
     requires { ⌜ (1 ≤ n) × (n < 7) ⌝ }
     ensures { λ r. ⌜ state (now (p .exit)) (now (dp .exit)) r ≡ ordersOf x n (now (p .entry)) (now (dp .entry)) ⌝ }
@@ -310,16 +310,19 @@ fn orders(x: Place, n: usize, p: &mut [f32; 49], dp: &mut [f32; 49]) -> Sums
 }
 
 // The field's three sums.
-struct Field {
-    bv: f32,
-    bn: f32,
-    bphi: f32,
+pub struct Field {
+    pub bv: f32,
+    pub bn: f32,
+    pub bphi: f32,
 }
 
 // The degree n: its sums, weighted, go into the field's.
 fn degree(x: Place, n: usize, p: &mut [f32; 49], dp: &mut [f32; 49], b: Field) -> Field
     requires { ⌜ (1 ≤ n) × (n < 7) ⌝ }
-    ensures { λ r. ⌜ state (now (p .exit)) (now (dp .exit)) r ≡ degreeOf x n (state (now (p .entry)) (now (dp .entry)) b) ⌝ }
+    ensures { λ r. ⌜ (
+        let before = state (now (p .entry)) (now (dp .entry)) b in
+        state (now (p .exit)) (now (dp .exit)) r ≡ degreeOf x n before
+        ) ⌝ }
 {
     let v = orders(x, n, p, dp);
     let fn_ = whole(n + 1);
@@ -356,7 +359,8 @@ pub struct Une {
     pub east: f32,
 }
 
-// The magnetic field at a position: east longitude from 0 to 2 PI, height in metres.
+// The magnetic field, up, north and east, in gauss, at a latitude and an east longitude and at a
+// height in metres.
 pub fn magfin(lat: Radians, east_lon: Radians, height_m: f32) -> Une
     ensures { λ r. ⌜ r ≡ magfinOf lat «east_lon» «height_m» ⌝ }
 {
@@ -376,7 +380,7 @@ pub struct MagneticVars {
     pub east_lon: Radians,
 }
 
-// The east longitude, 0 to 2 PI, of one that is negative west.
+// A longitude, negative west, as an east longitude: a full turn is added where it is below 0.
 pub fn east(lon: Radians) -> Radians
     ensures { λ r. ⌜ r ≡ eastOf lon ⌝ }
 {
@@ -396,7 +400,8 @@ fn gob(lat: Radians) -> f32
     if cosine <= 0.000001 { 0.000001 } else { cosine }
 }
 
-// Gyrofrequency and dip angle at a control point, from the field at 300 km over it.
+// Gyrofrequency in MHz, Rawer's modified dip and the east longitude at a control point, from the
+// field 300 km over it.
 pub fn magvar(lat: Radians, lon: Radians) -> MagneticVars
     ensures { λ r. ⌜ r ≡ magvarOf lat lon ⌝ }
 {

@@ -44,9 +44,9 @@ fn stop(at: u64) {
     io::write_all(STDOUT_FILENO, &text[..n]);
 }
 
-// Call by call: the worksheet is always the one that the calls read so far leave (the contract says: that
-// some calls leave). Nothing says that the input ends, so the turns are counted down from a number that
-// no run uses up.
+// Call by call: the worksheet is always the one that the calls read so far leave (the contract
+// says: that some calls leave). Nothing says that the input ends, so the turns are counted down
+// from a number that no run uses up.
 fn answer_all(w: Worksheet, f2: &[u8], file: &[u8]) -> Worksheet
     ensures { λ r. ⌜ ((cs : List Called) × (r ≡ run (pair (now (f2 .entry)) (now (file .entry))) cs w .sheet)) ⌝ }
 {

@@ -1,10 +1,7 @@
-// The clocks: the times of clocks.bin, in three sections. A row is little-endian words: what is asked,
-// number and place of the refusal, the times.
+// The clocks: the times of clocks.bin, in three sections. A row is little-endian words: what is
+// asked, number and place of the refusal, the times.
 use crate::files;
-use crate::tally::Tally;
-use crate::tally::counted;
-use crate::tally::is_float;
-use crate::tally::none;
+use crate::row::is_float;
 use base::angle::Degrees;
 use base::refusal::Refusal;
 use base::words;
@@ -13,6 +10,10 @@ use maps::ionosphere::clocks::Direction;
 use maps::ionosphere::clocks::LocalTime;
 use maps::ionosphere::clocks::Moved;
 use maps::ionosphere::clocks::Times;
+use tally::Tally;
+use tally::counted;
+use tally::none;
+use tally::print_line;
 
 fn degrees(row: &[u8], at: usize) -> Degrees {
     Degrees(words::float(row, at))
@@ -109,9 +110,9 @@ fn rows(fd: i32, section: u32) -> Tally {
 pub fn replay() {
     let fd = files::opened(b"clocks.bin");
     if fd >= 0 {
-        files::print_line(b"cngtim", rows(fd, 0));
-        files::print_line(b"geotim", rows(fd, 1));
-        files::print_line(b"geotim_clck", rows(fd, 2));
+        print_line(b"cngtim", rows(fd, 0));
+        print_line(b"geotim", rows(fd, 1));
+        print_line(b"geotim_clck", rows(fd, 2));
         libc::close(fd);
     }
 }

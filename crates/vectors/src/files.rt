@@ -1,10 +1,6 @@
 // The files: damaged month files, month records, index tables, every word of two pairs of files and
 // every blended coefficient, in what `oracle files` writes.
-use crate::tally;
-use crate::tally::Tally;
-use crate::tally::counted;
-use crate::tally::is_float;
-use crate::tally::none;
+use crate::row::is_float;
 use base::blend::COFION;
 use base::blend::PLANE;
 use base::files::cofion;
@@ -20,14 +16,12 @@ use base::refusal::Verdict;
 use base::words::float;
 use base::words::integer;
 use base::words::word;
-use libc::STDOUT_FILENO;
+use tally::Tally;
+use tally::counted;
+use tally::none;
+use tally::print_line;
 ghost use Prim.Native.Nat.{_≤_};
 ghost use lib.ListN.{length};
-
-pub fn print_line(name: &[u8], t: Tally) {
-    io::write_all(STDOUT_FILENO, name);
-    tally::print(t);
-}
 
 // The next word of a file; 0 where it has ended.
 pub fn next(fd: i32) -> u32 {

@@ -1,12 +1,12 @@
-// Replays the Rust side's answers in data/ and prints of each kind how many were compared and how many
-// differ.
+// Replays the Rust side's answers in data/ and prints of each kind how many were compared and how
+// many differ.
 mod clocks;
 mod files;
 mod numbers;
 mod routes;
+mod row;
 mod sheets;
 mod tables;
-mod tally;
 
 fn main() {
     numbers::replay();

@@ -1,16 +1,17 @@
-// The arithmetic: the answers of data/numbers.bin, function by function. A row is three little-endian words of
-// 64 bits: the function's number, the argument and the answer, as oracle/ writes them. A row of
-// function 0 holds the name of the function that follows.
-use crate::tally;
-use crate::tally::counted;
-use crate::tally::none;
+// The arithmetic: the answers of data/numbers.bin, function by function. A row is three
+// little-endian words of 64 bits: the function's number, the argument and the answer, as oracle/
+// writes them. A row of function 0 holds the name of the function that follows.
+use crate::files;
+use crate::row::print_name;
 use base::angle::Degrees;
 use base::angle::Radians;
 use base::constants;
 use base::elementary;
 use base::number;
-use libc::STDOUT_FILENO;
 use maps::inputs::MagneticPole;
+use tally::counted;
+use tally::none;
+use tally::print_line;
 ghost use Prim.Native.Nat.{_+_, _<_, _^_};
 
 fn wide(x: u8) -> u64
@@ -157,7 +158,7 @@ fn rows(fd: i32) {
                 if part.compared > 0 {
                     tally::print(part);
                 }
-                tally::print_name(&row, 8);
+                print_name(&row, 8);
                 part = none();
             } else {
                 let right = is_right(f, word(&row, 8), word(&row, 16));
@@ -167,17 +168,13 @@ fn rows(fd: i32) {
         }
     }
     tally::print(part);
-    io::write_all(STDOUT_FILENO, b"numbers");
-    tally::print(all);
+    print_line(b"numbers", all);
 }
 
 pub fn replay() {
-    let path = b"numbers.bin";
-    let fd = os::open_read(path);
-    if fd < 0 {
-        os::fail(path);
-        return;
+    let fd = files::opened(b"numbers.bin");
+    if fd >= 0 {
+        rows(fd);
+        libc::close(fd);
     }
-    rows(fd);
-    libc::close(fd);
 }

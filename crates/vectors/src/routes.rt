@@ -1,19 +1,20 @@
-// The paths: distance, bearings and control points of each route of data/routes.bin, and the magnetic
-// field at each point. A row is 49 little-endian words: the route's seven numbers, six figures, the
-// number of points and seven figures for each of five. A row that starts with ffffffff holds the name
-// of the routes that follow.
-use crate::tally;
-use crate::tally::counted;
-use crate::tally::is_float;
-use crate::tally::none;
+// The paths: distance, bearings and control points of each route of data/routes.bin, and the
+// magnetic field at each point. A row is 49 little-endian words: the route's seven numbers, six
+// figures, the number of points and seven figures for each of five. A row that starts with ffffffff
+// holds the name of the routes that follow.
+use crate::files;
+use crate::row::is_float;
+use crate::row::print_name;
 use base::angle::Degrees;
 use base::words;
-use libc::STDOUT_FILENO;
 use maps::geometry;
 use maps::geometry::ControlPoint;
 use maps::geometry::PathGeometry;
 use maps::inputs::MagneticPole;
 use maps::magnetic;
+use tally::counted;
+use tally::none;
+use tally::print_line;
 ghost use Prim.Native.Nat.{_+_, _*_, _<_, _≤_};
 ghost use lib.ListN.{length};
 
@@ -135,7 +136,7 @@ fn rows(fd: i32) {
             if part.compared > 0 {
                 tally::print(part);
             }
-            tally::print_name(&row, 4);
+            print_name(&row, 4);
             part = none();
         } else {
             let right = is_right(&row);
@@ -144,8 +145,7 @@ fn rows(fd: i32) {
         }
     }
     tally::print(part);
-    io::write_all(STDOUT_FILENO, b"routes");
-    tally::print(all);
+    print_line(b"routes", all);
 }
 
 fn is_heading(row: &[u8; 196]) -> bool {
@@ -157,12 +157,9 @@ fn is_right(row: &[u8; 196]) -> bool {
 }
 
 pub fn replay() {
-    let path = b"routes.bin";
-    let fd = os::open_read(path);
-    if fd < 0 {
-        os::fail(path);
-        return;
+    let fd = files::opened(b"routes.bin");
+    if fd >= 0 {
+        rows(fd);
+        libc::close(fd);
     }
-    rows(fd);
-    libc::close(fd);
 }

@@ -1,16 +1,11 @@
 // The sheets: all 151 figures of each sheet of sheets.bin, over the files that it holds; and the
 // refusals of refused-sheets.bin, which leave the buffer as it was.
 use crate::files;
-use crate::tally;
-use crate::tally::Tally;
-use crate::tally::counted;
-use crate::tally::is_float;
-use crate::tally::none;
+use crate::row::is_float;
 use base::angle::Degrees;
 use base::month_file::MONTH_FILE;
 use base::month_file::RECORD;
 use base::words;
-use libc::STDOUT_FILENO;
 use maps::figures;
 use maps::figures::FIGURES;
 use maps::figures::Shown;
@@ -19,6 +14,10 @@ use maps::inputs::Inputs;
 use maps::inputs::MagneticPole;
 use maps::inputs::Route;
 use maps::inputs::inputs_in;
+use tally::Tally;
+use tally::counted;
+use tally::none;
+use tally::print_line;
 use worksheet::showing::drawn;
 ghost use Prim.Native.Nat.{_+_, _*_, _<_, _≤_};
 ghost use lib.ListN.{length};
@@ -74,13 +73,23 @@ fn is_sheet(row: &[u8; 664], record: &[u8; RECORD], month: &[u8; MONTH_FILE]) ->
     t.number == 0 && t.place == word(row, 14) && is_figures(&out, row)
 }
 
+fn next_record(fd: i32) -> [u8; RECORD] {
+    let mut record = [0u8; RECORD];
+    io::read_full(fd, &mut record);
+    record
+}
+
+fn next_month(fd: i32) -> [u8; MONTH_FILE] {
+    let mut month = [0u8; MONTH_FILE];
+    io::read_full(fd, &mut month);
+    month
+}
+
 // A pair of files and the sheets made of it.
 fn section(fd: i32, t: Tally) -> Tally {
     let mut t = t;
-    let mut record = [0u8; RECORD];
-    io::read_full(fd, &mut record);
-    let mut month = [0u8; MONTH_FILE];
-    io::read_full(fd, &mut month);
+    let record = next_record(fd);
+    let month = next_month(fd);
     let mut left = files::next(fd);
     while left > 0 {
         let mut row = [0u8; 664];
@@ -98,8 +107,7 @@ fn replay_sheets(fd: i32) {
         t = section(fd, t);
         left -= 1;
     }
-    io::write_all(STDOUT_FILENO, b"sheets");
-    tally::print(t);
+    print_line(b"sheets", t);
 }
 
 // Inputs in range.
@@ -185,17 +193,14 @@ fn is_refused(fd: i32, record: &[u8; RECORD], month: [u8; MONTH_FILE]) -> bool {
 
 fn replay_refused(fd: i32) {
     let mut t = none();
-    let mut record = [0u8; RECORD];
-    io::read_full(fd, &mut record);
-    let mut month = [0u8; MONTH_FILE];
-    io::read_full(fd, &mut month);
+    let record = next_record(fd);
+    let month = next_month(fd);
     let mut left = files::next(fd);
     while left > 0 {
         t = counted(t, is_refused(fd, &record, month));
         left -= 1;
     }
-    io::write_all(STDOUT_FILENO, b"refused sheets");
-    tally::print(t);
+    print_line(b"refused sheets", t);
 }
 
 pub fn replay() {

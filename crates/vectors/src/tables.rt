@@ -1,12 +1,13 @@
 // The tables: the answers of tables.bin over two pairs of files, cut and damaged, and of what is
 // handed back every byte, which words.bin has.
 use crate::files;
-use crate::tally::Tally;
-use crate::tally::counted;
-use crate::tally::none;
 use base::month_file::RECORD;
 use base::tables;
 use base::words;
+use tally::Tally;
+use tally::counted;
+use tally::none;
+use tally::print_line;
 ghost use Prim.Native.Nat.{_≤_};
 
 // A row's answer: the refusal, the part's place in its file, and its first word in words.bin.
@@ -130,7 +131,7 @@ fn replay_pair(daw_path: &[u8], month_path: &[u8], fd: i32, words_fd: i32) {
     if !files::load(month_path, &mut month) {
         return;
     }
-    files::print_line(b"tables", rows(fd, &daw[RECORD..15872], month, &all));
+    print_line(b"tables", rows(fd, &daw[RECORD..15872], month, &all));
 }
 
 pub fn replay() {

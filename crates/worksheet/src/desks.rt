@@ -198,8 +198,8 @@ fn fresh_sheet(i: Inputs) -> Worksheet
     }
 }
 
-// A worksheet with all desks closed and nothing to take back, and the verdict on its inputs. What stands
-// beside a refusal holds the refused inputs and is no worksheet to use.
+// A worksheet with all desks closed and nothing to take back, and the verdict on its inputs. What
+// stands beside a refusal holds the refused inputs and is no worksheet to use.
 pub fn open(i: Inputs) -> Outcome
     ensures { λ r. ⌜ r ≡ openOf i ⌝ }
 {
@@ -209,15 +209,16 @@ pub fn open(i: Inputs) -> Outcome
     }
 }
 
-// The same of 14 little-endian words; bytes that are not there count as 0, and bytes after the words are
-// not looked at.
+// The worksheet of 14 little-endian words, as `open` makes it of their inputs; bytes that are not
+// there count as 0, and later ones are not looked at.
 pub fn opened(words: &[u8]) -> Outcome
     ensures { λ r. ⌜ r ≡ openedOf (now (words .entry)) ⌝ }
 {
     open(inputs_in(words))
 }
 
-// A fresh draft for a desk, a copy of the worksheet's inputs.
+// A fresh draft for a desk, a copy of the worksheet's inputs. Refuses 14 for a desk that is not 1
+// to 4, then 15 where the desk has a draft; the worksheet stays.
 pub fn begin(w: Worksheet, desk: u32) -> Outcome
     ensures { λ r. ⌜ r ≡ beginOf desk w ⌝ }
 {
@@ -236,7 +237,8 @@ fn edited_draft(e: Edit, d: Draft) -> Draft
     }
 }
 
-// A desk's draft with the changed fields in the place of its own; a stale one stays stale.
+// A desk's draft with the changed fields in the place of its own; a stale one stays stale. Refuses
+// 14, 16 where there is no draft, then the changed fields; the worksheet stays.
 pub fn change(w: Worksheet, desk: u32, e: Edit) -> Outcome
     ensures { λ r. ⌜ r ≡ changeOf desk e w ⌝ }
 {
@@ -245,8 +247,8 @@ pub fn change(w: Worksheet, desk: u32, e: Edit) -> Outcome
     decided(check, with_draft(w, desk, edited_draft(e, d)), w)
 }
 
-// The draft's inputs become the worksheet's, whose own become the earlier set; the desk closes and
-// every other open draft turns stale.
+// A desk's draft becomes the inputs and these the earlier set; the desk closes and every other open
+// draft turns stale. Refuses 14, 16, then 17 where the draft is stale; the worksheet stays.
 pub fn commit(w: Worksheet, desk: u32) -> Outcome
     ensures { λ r. ⌜ r ≡ commitOf desk w ⌝ }
 {
@@ -263,7 +265,7 @@ fn without_draft(w: Worksheet, desk: u32) -> Worksheet
     with_draft(w, desk, Draft::Closed)
 }
 
-// The draft goes; nothing else moves.
+// A desk's draft goes; nothing else moves. Refuses 14, then 16 where there is no draft.
 pub fn cancel(w: Worksheet, desk: u32) -> Outcome
     ensures { λ r. ⌜ r ≡ cancelOf desk w ⌝ }
 {
@@ -281,7 +283,8 @@ fn set_of(e: Earlier, i: Inputs) -> Inputs
     }
 }
 
-// The earlier set returns and none is left; every open draft turns stale.
+// The earlier set returns and none is left; every open draft turns stale. Refuses 18 where there is
+// no earlier set; the worksheet stays.
 pub fn take_back(w: Worksheet) -> Outcome
     ensures { λ r. ⌜ r ≡ takeBackOf w ⌝ }
 {

@@ -13,6 +13,7 @@ use maps::inputs::Inputs;
 use maps::inputs::MagneticPole;
 use maps::inputs::Route;
 ghost use mathlib.Core.Path.{_≡_};
+ghost use Rattle.worksheet.specs.declared.inputs.Edit.the-variants.{Sunspot, Hour, Path, Psc, Pole};
 ghost use Rattle.worksheet.specs.Inputs.{sunspotCheck, factorCheck, flagCheck, routeCheck, factorsCheck, poleCheck, inputsCheck, editCheck, edited};
 
 // A change, with all its numbers; a path is fields 4 to 8, the flag included.
@@ -101,56 +102,93 @@ pub(crate) fn edit_check(e: Edit) -> Verdict
     }
 }
 
+// The inputs with one part changed, and every other field as it was.
+fn with_sunspot(x: f32, i: Inputs) -> Inputs
+    ensures { λ r. ⌜ r ≡ edited (Sunspot x) i ⌝ }
+{
+    let route = i.route;
+    let psc = i.psc;
+    let pole = i.pole;
+    Inputs {
+        month: i.month,
+        ssn: x,
+        gmt: i.gmt,
+        route,
+        psc,
+        pole,
+    }
+}
+
+fn with_hour(x: f32, i: Inputs) -> Inputs
+    ensures { λ r. ⌜ r ≡ edited (Hour x) i ⌝ }
+{
+    let route = i.route;
+    let psc = i.psc;
+    let pole = i.pole;
+    Inputs {
+        month: i.month,
+        ssn: i.ssn,
+        gmt: x,
+        route,
+        psc,
+        pole,
+    }
+}
+
+fn with_path(p: Route, i: Inputs) -> Inputs
+    ensures { λ r. ⌜ r ≡ edited (Path p) i ⌝ }
+{
+    let psc = i.psc;
+    let pole = i.pole;
+    Inputs {
+        month: i.month,
+        ssn: i.ssn,
+        gmt: i.gmt,
+        route: p,
+        psc,
+        pole,
+    }
+}
+
+fn with_psc(p: Factors, i: Inputs) -> Inputs
+    ensures { λ r. ⌜ r ≡ edited (Psc p) i ⌝ }
+{
+    let route = i.route;
+    let pole = i.pole;
+    Inputs {
+        month: i.month,
+        ssn: i.ssn,
+        gmt: i.gmt,
+        route,
+        psc: p,
+        pole,
+    }
+}
+
+fn with_pole(p: MagneticPole, i: Inputs) -> Inputs
+    ensures { λ r. ⌜ r ≡ edited (Pole p) i ⌝ }
+{
+    let route = i.route;
+    let psc = i.psc;
+    Inputs {
+        month: i.month,
+        ssn: i.ssn,
+        gmt: i.gmt,
+        route,
+        psc,
+        pole: p,
+    }
+}
+
 // The inputs with the changed fields in the place of theirs.
 pub(crate) fn apply(e: Edit, i: Inputs) -> Inputs
     ensures { λ r. ⌜ r ≡ edited e i ⌝ }
 {
-    let month = i.month;
-    let ssn = i.ssn;
-    let gmt = i.gmt;
-    let route = i.route;
-    let psc = i.psc;
-    let pole = i.pole;
     match e {
-        Edit::Sunspot(x) => Inputs {
-            month: month,
-            ssn: x,
-            gmt: gmt,
-            route: route,
-            psc: psc,
-            pole: pole,
-        },
-        Edit::Hour(x) => Inputs {
-            month: month,
-            ssn: ssn,
-            gmt: x,
-            route: route,
-            psc: psc,
-            pole: pole,
-        },
-        Edit::Path(p) => Inputs {
-            month: month,
-            ssn: ssn,
-            gmt: gmt,
-            route: p,
-            psc: psc,
-            pole: pole,
-        },
-        Edit::Psc(p) => Inputs {
-            month: month,
-            ssn: ssn,
-            gmt: gmt,
-            route: route,
-            psc: p,
-            pole: pole,
-        },
-        Edit::Pole(p) => Inputs {
-            month: month,
-            ssn: ssn,
-            gmt: gmt,
-            route: route,
-            psc: psc,
-            pole: p,
-        },
+        Edit::Sunspot(x) => with_sunspot(x, i),
+        Edit::Hour(x) => with_hour(x, i),
+        Edit::Path(p) => with_path(p, i),
+        Edit::Psc(p) => with_psc(p, i),
+        Edit::Pole(p) => with_pole(p, i),
     }
 }

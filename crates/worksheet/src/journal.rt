@@ -44,10 +44,17 @@ fn told(o: Outcome) -> Next
     }
 }
 
-// Makes a call on a worksheet, over a lent record, month file and figures buffer; only a showing reads
-// the files and writes the buffer.
+// Makes a call on a worksheet, over a lent record, month file and figures buffer; only a showing
+// reads the files and writes the buffer.
 pub fn make(w: Worksheet, call: Call, f2: &[u8], file: &[u8], out: &mut [f32]) -> Next
-    ensures { λ r. ⌜ (let s = step (pair (now (f2 .entry)) (now (file .entry))) (called call (now (out .entry))) w in (r ≡ nextOf s) × (now (out .exit) ≡ bufferAfter (s .answer) (now (out .entry)))) ⌝ }
+    ensures answer { λ r. ⌜ (
+        let s = step (pair (now (f2 .entry)) (now (file .entry))) (called call (now (out .entry))) w in
+        r ≡ nextOf s
+        ) ⌝ }
+    ensures buffer { λ _. ⌜ (
+        let s = step (pair (now (f2 .entry)) (now (file .entry))) (called call (now (out .entry))) w in
+        now (out .exit) ≡ bufferAfter (s .answer) (now (out .entry))
+        ) ⌝ }
 {
     match call {
         Call::Begin(desk) => told(desks::begin(w, desk)),

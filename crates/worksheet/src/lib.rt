@@ -1,5 +1,5 @@
-// The planner's worksheet: one set of inputs, four desks that draft changes to it, its showings, and the
-// calls that all of these are.
+// The planner's worksheet: one set of inputs, four desks that draft changes to it, its showings,
+// and the calls that all of these are.
 pub mod desks;
 pub mod inputs;
 pub mod journal;

@@ -1,4 +1,5 @@
-// A showing: the figures of the worksheet's inputs or of a desk's draft.
+// A showing: the figures of the worksheet's inputs or of a desk's draft. `f2` is the F2 record and
+// `file` the month file; that they are of the inputs' month is the caller's word.
 use crate::desks::Worksheet;
 use crate::desks::desk_check;
 use crate::desks::draft_at;
@@ -19,7 +20,8 @@ ghost use lib.Ieee.{nan};
 ghost use Rattle.base.specs.Fill.{fill};
 ghost use Rattle.worksheet.specs.Showing.{pair, inputsShown, askedCheck, judgedCheck, drawnOf, drawnBuffer, showOf, showBuffer};
 
-// The inputs that a showing of the desk is of: 0 is the worksheet. A stale draft is shown all the same.
+// The inputs that a showing of the desk is of: 0 is the worksheet. A stale draft is shown all the
+// same.
 fn inputs_shown(w: Worksheet, desk: u32) -> Inputs
     ensures { λ r. ⌜ r ≡ inputsShown desk w ⌝ }
 {
@@ -63,7 +65,11 @@ fn put(out: &mut [f32], all: &[f32; FIGURES])
 // The figures of inputs, which nothing judges here, into a lent buffer: 12 where it has not 151
 // numbers, then the refusals of the record and the month file. Refused, the buffer stays as it is.
 pub fn drawn(i: Inputs, f2: &[u8], file: &[u8], out: &mut [f32]) -> Shown
-    ensures { λ r. ⌜ (r ≡ drawnOf (pair (now (f2 .entry)) (now (file .entry)) i) i (now (out .entry))) × (now (out .exit) ≡ drawnBuffer (pair (now (f2 .entry)) (now (file .entry)) i) i (now (out .entry))) ⌝ }
+    ensures answer { λ r. ⌜ r ≡ drawnOf (pair (now (f2 .entry)) (now (file .entry)) i) i (now (out .entry)) ⌝ }
+    ensures buffer { λ _. ⌜ (
+        let files = pair (now (f2 .entry)) (now (file .entry)) in
+        now (out .exit) ≡ drawnBuffer (files i) i (now (out .entry))
+        ) ⌝ }
 {
     if out.len() != FIGURES {
         return Shown::Refused(Refusal::Figures);
@@ -79,11 +85,14 @@ pub fn drawn(i: Inputs, f2: &[u8], file: &[u8], out: &mut [f32]) -> Shown
     }
 }
 
-// The number of points, with the figures in the buffer; a refusal leaves the buffer as it was lent.
-// Desk 0 is the worksheet. `f2` is the F2 record and `file` the month file; that they are of the
-// inputs' month is the caller's word.
+// The number of points, with the figures of a desk's draft, of the worksheet for desk 0, in the
+// buffer. Refuses 14, 16, the 14 fields, 12, 8, 9, 10, 11; the buffer stays as it was lent.
 pub fn show(w: Worksheet, desk: u32, f2: &[u8], file: &[u8], out: &mut [f32]) -> Shown
-    ensures { λ r. ⌜ (r ≡ showOf (pair (now (f2 .entry)) (now (file .entry))) desk (now (out .entry)) w) × (now (out .exit) ≡ showBuffer (pair (now (f2 .entry)) (now (file .entry))) desk (now (out .entry)) w) ⌝ }
+    ensures answer { λ r. ⌜ r ≡ showOf (pair (now (f2 .entry)) (now (file .entry))) desk (now (out .entry)) w ⌝ }
+    ensures buffer { λ _. ⌜ (
+        let files = pair (now (f2 .entry)) (now (file .entry)) in
+        now (out .exit) ≡ showBuffer files desk (now (out .entry)) w
+        ) ⌝ }
 {
     let check = judged_check(w, desk);
     match check {

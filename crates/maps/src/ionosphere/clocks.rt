@@ -1,5 +1,5 @@
-// Local and universal time: CNGTIM's shift by a longitude with its change of day, and GEOTIM's times
-// of one hour.
+// Local and universal time: CNGTIM's shift by a longitude with its change of day, and GEOTIM's
+// times of one hour.
 use base::angle::Degrees;
 use base::angle::Radians;
 use base::number::from_i32;
@@ -14,7 +14,11 @@ use base::refusal::then;
 ghost use mathlib.Core.Path.{_≡_};
 ghost use lib.IntN.{_+ℤ_};
 ghost use lib.Ieee.{binary32, ofInt};
-ghost use Rattle.maps.specs.Clocks.{fiswOf, thetaOf, wholeOf, afterShift, cngdayOf, forLoop, wraps, cngtimOf, timeAt, geotimOf, timeCheck, hoursCheck, movedIf, timesIf, localIf, movedOf, timesOf, localTimeOf};
+ghost use Rattle.base.specs.Refusal.{unlessRefused};
+ghost use Rattle.maps.specs.declared.ionosphere.clocks.Moved.the-variants.{To, Refused as NotMoved};
+ghost use Rattle.maps.specs.declared.ionosphere.clocks.Times.the-variants.{Hours, Refused as NoTimes};
+ghost use Rattle.maps.specs.declared.ionosphere.clocks.LocalTime.the-variants.{At, Refused as NoLocalTime};
+ghost use Rattle.maps.specs.Clocks.{fiswOf, thetaOf, wholeOf, afterShift, cngdayOf, forLoop, wraps, cngtimOf, timeAt, geotimOf, timeCheck, hoursCheck, movedOf, timesOf, localTimeOf};
 
 // From universal time to local time, or back: the Rust's `isw` of 1 and -1.
 pub enum Direction {
@@ -183,7 +187,7 @@ fn hours_check(hour: u32, tlong: Degrees, rlong: Degrees) -> Verdict
 }
 
 fn moved_if(verdict: Verdict, shifted: Shifted) -> Moved
-    ensures { λ r. ⌜ r ≡ movedIf verdict shifted ⌝ }
+    ensures { λ r. ⌜ r ≡ unlessRefused verdict (To shifted) NotMoved ⌝ }
 {
     match verdict {
         Verdict::Accepted => Moved::To(shifted),
@@ -192,7 +196,7 @@ fn moved_if(verdict: Verdict, shifted: Shifted) -> Moved
 }
 
 fn times_if(verdict: Verdict, hours: HourTimes) -> Times
-    ensures { λ r. ⌜ r ≡ timesIf verdict hours ⌝ }
+    ensures { λ r. ⌜ r ≡ unlessRefused verdict (Hours hours) NoTimes ⌝ }
 {
     match verdict {
         Verdict::Accepted => Times::Hours(hours),
@@ -201,7 +205,7 @@ fn times_if(verdict: Verdict, hours: HourTimes) -> Times
 }
 
 fn local_if(verdict: Verdict, time: f32) -> LocalTime
-    ensures { λ r. ⌜ r ≡ localIf verdict time ⌝ }
+    ensures { λ r. ⌜ r ≡ unlessRefused verdict (At time) NoLocalTime ⌝ }
 {
     match verdict {
         Verdict::Accepted => LocalTime::At(time),
@@ -217,9 +221,8 @@ pub fn cngtim(time: f32, lon: Degrees, direction: Direction) -> Moved
     moved_if(time_check(time, lon), cngtim_of(time, lon, direction))
 }
 
-// The universal time and the local times at both ends of a path for a whole hour, which is the
-// transmitter's local time or universal time. Refuses an hour above 24, then the transmitter's and
-// then the receiver's longitude outside -180 to 180 degrees.
+// Universal time and both ends' local times at a whole hour, universal or the transmitter's.
+// Refuses an hour above 24, then a longitude outside -180 to 180 degrees, the transmitter's first.
 pub fn geotim(hour: u32, local: bool, tlong: Degrees, rlong: Degrees) -> Times
     ensures { λ r. ⌜ r ≡ timesOf hour local tlong rlong ⌝ }
 {
@@ -227,7 +230,7 @@ pub fn geotim(hour: u32, local: bool, tlong: Degrees, rlong: Degrees) -> Times
     times_if(hours_check(hour, tlong, rlong), hours)
 }
 
-// The local time at one place for a universal time. Refuses as `cngtim` does.
+// The local time, in hours, at one place for a universal time. Refuses as `cngtim` does.
 pub fn geotim_clck(gmt: f32, lon: Degrees) -> LocalTime
     ensures { λ r. ⌜ r ≡ localTimeOf gmt lon ⌝ }
 {

@@ -1,5 +1,5 @@
-// TIMVAR, EF1VAR and F2VAR: the layers at a control point. ESIND: sporadic E. And the ground.
-// What `layer_parameters` of ionosphere.rs has in one body is a function here for each of its steps.
+// TIMVAR, EF1VAR and F2VAR: the layers at a control point. ESIND: sporadic E. And the ground. What
+// `layer_parameters` of ionosphere.rs has in one body is a function here for each of its steps.
 use crate::geometry::ControlPoint;
 use crate::inputs::Factors;
 use crate::ionosphere::noisy::noisy;
@@ -77,35 +77,35 @@ pub struct Monthly {
 }
 
 // What TIMVAR has before EF1VAR: the local mean time and the sun's zenith angle.
-struct Timvar {
-    clock: f32,
-    cycen: f32,
+pub struct Timvar {
+    pub clock: f32,
+    pub cycen: f32,
 }
 
 // A layer: its critical frequency, semithickness and height.
-struct Layer {
-    fi: f32,
-    yi: f32,
-    hi: f32,
+pub struct Layer {
+    pub fi: f32,
+    pub yi: f32,
+    pub hi: f32,
 }
 
 // What EF1VAR leaves.
-struct Ef1 {
-    e: Layer,
-    f1: Layer,
-    zenang: Degrees,
-    zenmax: Degrees,
+pub struct Ef1 {
+    pub e: Layer,
+    pub f1: Layer,
+    pub zenang: Degrees,
+    pub zenmax: Degrees,
 }
 
 // F1 where it may merge into F2: what it adds to the retardation, its height and semithickness.
-struct Merged {
-    rft: f32,
-    hi: f32,
-    yi: f32,
+pub struct Merged {
+    pub rft: f32,
+    pub hi: f32,
+    pub yi: f32,
 }
 
-// The ionosphere at one control point for one hour: of E, F1 and F2 the critical frequencies in MHz,
-// semithicknesses and heights of maximum in km.
+// The ionosphere at one control point for one hour: of E, F1 and F2 the critical frequencies in
+// MHz, semithicknesses and heights of maximum in km.
 pub struct LayerParams {
     pub fi: [f32; 3],
     pub yi: [f32; 3],
@@ -156,7 +156,8 @@ fn term(file: &[u8], a: usize, b: usize, ssn: f32) -> f32
     float(file, a) + float(file, b) * ssn
 }
 
-// What `layer_parameters` and `ground_constants` take of a month file at a sunspot number.
+// What `layer_parameters` and `ground_constants` take of a month file at a sunspot number, with the
+// month's row of the sun's table.
 pub fn monthly_of(file: &[u8], month: u32, ssn: f32) -> Monthly
     ensures { λ r. ⌜ r ≡ monthlyOf (now (file .entry)) month ssn ⌝ }
 {
@@ -174,7 +175,8 @@ pub fn monthly_of(file: &[u8], month: u32, ssn: f32) -> Monthly
     }
 }
 
-// TIMVAR's clock in hours. It is corrected once: 24 stays, 0 becomes 24.
+// TIMVAR's local clock, in hours, of a universal hour and a longitude. It is corrected once: 24
+// stays, 0 becomes 24.
 pub fn timvar_clck(gmt: f32, lon: Radians) -> f32
     ensures { λ r. ⌜ r ≡ clockOf gmt lon ⌝ }
 {
@@ -330,8 +332,8 @@ fn half_over(y: f32, rf: f32) -> f32
     0.5 * y * (rf - 2.0)
 }
 
-// Over the last two degrees before zenmax F1 rises into F2 and its retardation goes to zero. `hm` is
-// the height F2 would have alone, and `f1.fi` is what the Rust has as `fc1`.
+// Over the last two degrees before zenmax F1 rises into F2 and its retardation goes to zero. `hm`
+// is the height F2 would have alone, and `f1.fi` is what the Rust has as `fc1`.
 fn twilight(f1: Layer, ffec: f32, zmax: f32, z: f32, hm: f32, rat: f32, fc: f32, fi2: f32) -> Merged
     ensures { λ r. ⌜ r ≡ twilightOf f1 ffec zmax z hm rat fc fi2 ⌝ }
 {
@@ -436,7 +438,7 @@ fn retarded(
     }
 }
 
-// TIMVAR with EF1VAR, then F2VAR, at one control point.
+// The parameters of the layers E, F1 and F2 at one control point: TIMVAR with EF1VAR, then F2VAR.
 pub fn layer_parameters(
     m: Monthly,
     ssn: f32,
@@ -477,7 +479,8 @@ pub fn layer_parameters(
     }
 }
 
-// Sporadic E. The deciles run against the numbers of the maps: 3, 2, 1.
+// Sporadic E: the frequencies of maps 3, 2 and 1, in this order, times the factor, and the height,
+// 110 km.
 pub fn esind(g: Gammas, psc3: f32) -> EsParams
     ensures { λ r. ⌜ r ≡ esindOf g psc3 ⌝ }
 {
@@ -498,7 +501,8 @@ fn ground_at(wld: f32) -> Ground
     }
 }
 
-// The ground at a place, from the land-mass map; the longitude is the one that `magvar` gives.
+// The ground's conductivity and permittivity at a place, from the land-mass map; the longitude is
+// the one that `magvar` gives.
 pub fn ground_constants(m: Monthly, fakmap: &LandMap, lat: Radians, east_lon: Radians) -> Ground
     ensures { λ r. ⌜ r ≡ groundOf m (now (fakmap .entry)) lat «east_lon» ⌝ }
 {

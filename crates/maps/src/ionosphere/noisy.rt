@@ -91,7 +91,8 @@ struct Wave {
 }
 
 fn wave_of(x: f32) -> Wave
-    ensures { λ r. ⌜ (r .sine ≡ sin32Of x) × (r .cosine ≡ cos32Of x) ⌝ }
+    ensures sine { λ r. ⌜ r .sine ≡ sin32Of x ⌝ }
+    ensures cosine { λ r. ⌜ r .cosine ≡ cos32Of x ⌝ }
 {
     Wave {
         sine: sin32(x),
@@ -100,8 +101,8 @@ fn wave_of(x: f32) -> Wave
 }
 
 // A map of lm columns, each summed over ln sines of half the longitude, and they over sines of the
-// latitude counted from the south pole, which is p. Both waves are given, which leaves this so short
-// that it is compiled once for each pair of limits, its loops unrolled.
+// latitude counted from the south pole, which is p. Both waves are given, which leaves this so
+// short that it is compiled once for each pair of limits, its loops unrolled.
 fn noisy_sum(
     lm: usize,
     ln: usize,
@@ -113,15 +114,18 @@ fn noisy_sum(
     angle: Wave,
 ) -> f32
     requires { ⌜ (lm ≤ 29) × (ln ≤ 15) ⌝ }
-    ensures { λ r. ⌜ r ≡ latitudeSum (λ k. turnOf (angle .sine) (angle .cosine) k .sine) (zzOf (λ k. turnOf (half .sine) (half .cosine) k .sine) (now (plane .entry)) ln) lm ⊕ alf ⊕ bet ⊗ p ⌝ }
+    ensures { λ r. ⌜ (
+        let zz = zzOf (λ k. turnOf (half .sine) (half .cosine) k .sine) (now (plane .entry)) ln in
+        r ≡ latitudeSum (λ k. turnOf (angle .sine) (angle .cosine) k .sine) zz lm ⊕ alf ⊕ bet ⊗ p
+        ) ⌝ }
 {
     let sx = sines(half.sine, half.cosine, ln);
     let zz = columns(&sx, plane, ln, lm);
     latitude_sum(&zz, angle.sine, angle.cosine, lm) + alf + bet * p
 }
 
-// At `xla` and `ceg`, in degrees; `alf` and `bet` are what the file has for the map, and `ratio_map` says that
-// it is the shorter one, of the height ratio.
+// The value of a Fourier map at `xla` and `ceg`, in degrees; `alf` and `bet` are what the file has
+// for the map, `ratio_map` says that it is the shorter one, of the height ratio.
 pub fn noisy(plane: &Plane, alf: f32, bet: f32, ratio_map: bool, xla: f32, ceg: f32) -> f32
     ensures { λ r. ⌜ r ≡ noisyOf (now (plane .entry)) alf bet «ratio_map» xla ceg ⌝ }
 {

@@ -11,10 +11,10 @@ use base::number::widen;
 ghost use mathlib.Core.Path.{_≡_};
 ghost use Prim.Native.Nat.{_+_, _-_, _%_, _≤_, _<_};
 ghost use lib.Ieee.{Float};
-ghost use Rattle.base.specs.Fill.{fill, run};
+ghost use Rattle.base.specs.Fill.{fill, tabulate};
 ghost use Rattle.base.specs.Index.{mapWord};
 ghost use Rattle.maps.specs.Virtim.{GoodTable};
-ghost use Rattle.maps.specs.Versy.{powerOf, geographicOf, wavesOf, rungOf, zeros, elements, gammaOf, sumOf, sumsOf, threeOf, threeAt, gammasOf};
+ghost use Rattle.maps.specs.Versy.{sxPower, geographicOf, wavesOf, rungOf, zeros, elements, gammaOf, sumOf, sumsOf, threeOf, threeAt, gammasOf};
 
 // A map's geographic functions at a place.
 type Basis = [f64; 76];
@@ -44,7 +44,7 @@ fn waves(gob: f32, clg: f32) -> [f64; 16]
 // The powers 0 to k of sx.
 fn powers(g: &mut Basis, sx: f64, k: usize)
     requires { ⌜ (1 ≤ k) × (k ≤ 75) ⌝ }
-    ensures { λ _. ⌜ now (g .exit) ≡ fill (powerOf sx) 0 (now (g .entry)) (k + 1) ⌝ }
+    ensures { λ _. ⌜ now (g .exit) ≡ fill (sxPower sx) 0 (now (g .entry)) (k + 1) ⌝ }
 {
     g[0] = 1.0;
     let mut power = sx;
@@ -78,7 +78,11 @@ fn rung(g: &mut Basis, sx: f64, c: f64, s: f64, below: usize, end: usize)
 // the one before it ends the ladder, and what is past its end stays 0.
 fn basis(index: &IndexTable, k: usize, sx: f64, waves: &[f64; 16], g: &mut Basis)
     requires { ⌜ GoodTable (now index) × (k < 6) × (now g ≡ zeros) ⌝ }
-    ensures { λ _. ⌜ ((gob clg : Float) → now (waves .entry) ≡ wavesOf gob clg → now (g .exit) ≡ run (geographicOf (mapWord (now (index .entry)) k) sx gob clg) 76) ⌝ }
+    ensures { λ _. ⌜ (
+        (gob clg : Float) →
+        now (waves .entry) ≡ wavesOf gob clg →
+        now (g .exit) ≡ tabulate (geographicOf (mapWord (now (index .entry)) k) sx gob clg) 76
+        ) ⌝ }
 {
     let mut below = word(index, k, 0);
     powers(g, sx, below);
@@ -114,7 +118,12 @@ fn together(
     n: usize,
 ) -> Sums
     requires { ⌜ (n ≤ 75) × (i + n < 318) × (j + n < 318) × (l + n < 318) ⌝ }
-    ensures { λ r. ⌜ r ≡ sumsOf (now (ab .entry)) i (elements (now (ga .entry))) j (elements (now (gb .entry))) l (elements (now (gc .entry))) n ⌝ }
+    ensures { λ r. ⌜ (
+        let x = elements (now (ga .entry)) in
+        let y = elements (now (gb .entry)) in
+        let z = elements (now (gc .entry)) in
+        r ≡ sumsOf (now (ab .entry)) i x j y l z n
+        ) ⌝ }
 {
     let mut a = ga[0] * widen(ab[i]);
     let mut b = gb[0] * widen(ab[j]);
@@ -147,8 +156,19 @@ fn two_further(
     n: usize,
     last: usize,
 ) -> Pair
-    requires { ⌜ (x ≡ sumOf (now ab) i (elements (now ga)) n) × (y ≡ sumOf (now ab) j (elements (now gb)) n) × (n ≤ last) × (last ≤ 75) × (i + last < 318) × (j + last < 318) ⌝ }
-    ensures { λ r. ⌜ r ≡ record { a = sumOf (now (ab .entry)) i (elements (now (ga .entry))) last; b = sumOf (now (ab .entry)) j (elements (now (gb .entry))) last } ⌝ }
+    requires { ⌜ (
+        (x ≡ sumOf (now ab) i (elements (now ga)) n)
+        × (y ≡ sumOf (now ab) j (elements (now gb)) n)
+        × (n ≤ last)
+        × (last ≤ 75)
+        × (i + last < 318)
+        × (j + last < 318)
+        ) ⌝ }
+    ensures { λ r. ⌜ (
+        let sa = sumOf (now (ab .entry)) i (elements (now (ga .entry))) last in
+        let sb = sumOf (now (ab .entry)) j (elements (now (gb .entry))) last in
+        r ≡ record { a = sa; b = sb }
+        ) ⌝ }
 {
     let mut a = x;
     let mut b = y;
@@ -183,7 +203,8 @@ struct Triple {
 }
 
 fn least(a: usize, b: usize) -> usize
-    ensures { λ r. ⌜ (r ≤ a) × (r ≤ b) ⌝ }
+    ensures first { λ r. ⌜ r ≤ a ⌝ }
+    ensures second { λ r. ⌜ r ≤ b ⌝ }
 {
     if a < b { a } else { b }
 }
@@ -199,7 +220,12 @@ fn three_series(
     gc: &Basis,
 ) -> Triple
     requires { ⌜ GoodTable (now index) × (k ≤ 3) ⌝ }
-    ensures { λ r. ⌜ r ≡ threeOf (now (ab .entry)) (now (index .entry)) k (elements (now (ga .entry))) (elements (now (gb .entry))) (elements (now (gc .entry))) ⌝ }
+    ensures { λ r. ⌜ (
+        let x = elements (now (ga .entry)) in
+        let y = elements (now (gb .entry)) in
+        let z = elements (now (gc .entry)) in
+        r ≡ threeOf (now (ab .entry)) (now (index .entry)) k x y z
+        ) ⌝ }
 {
     let i = start_of(k);
     let j = start_of(k + 1);
@@ -221,7 +247,11 @@ fn three_series(
 // The maps k, k + 1 and k + 2 at a place, sx being the first two maps' and sz the third's.
 fn three(ab: &TimeMaps, index: &IndexTable, k: usize, sx: f64, sz: f64, waves: &[f64; 16]) -> Triple
     requires { ⌜ GoodTable (now index) × (k ≤ 3) ⌝ }
-    ensures { λ r. ⌜ ((gob clg : Float) → now (waves .entry) ≡ wavesOf gob clg → r ≡ threeAt (now (ab .entry)) (now (index .entry)) k sx sz gob clg) ⌝ }
+    ensures { λ r. ⌜ (
+        (gob clg : Float) →
+        now (waves .entry) ≡ wavesOf gob clg →
+        r ≡ threeAt (now (ab .entry)) (now (index .entry)) k sx sz gob clg
+        ) ⌝ }
 {
     let mut ga = [0.0f64; 76];
     basis(index, k, sx, waves, &mut ga);

@@ -11,8 +11,11 @@ ghost use Rattle.base.specs.Index.{mapWord};
 ghost use Rattle.base.specs.Blend.{IC};
 ghost use Rattle.maps.specs.Virtim.{GoodTable, hourWaves, waveIn, valueOf, timeMapOf, virtimOf};
 
+// The rows of the six maps: at an hour each is one coefficient.
+pub const AB_ROWS: usize = 318;
+
 // `AB`, the coefficients of the six maps at an hour, one map after the other.
-pub type TimeMaps = [f32; 318];
+pub type TimeMaps = [f32; AB_ROWS];
 
 // Where the run of each map begins among the 2,604 of `COFION`, counted from 1.
 const IA: [usize; 6] = [1, 276, 703, 978, 1966, 2407];
@@ -97,7 +100,10 @@ fn time_map(
     ab: &mut TimeMaps,
 )
     requires { ⌜ GoodTable (now index) × (k < 6) ⌝ }
-    ensures { λ _. ⌜ now (ab .exit) ≡ timeMapOf (waveIn (now (c .entry)) (now (s .entry))) (now (cof .entry)) (now (index .entry)) k (now (ab .entry)) ⌝ }
+    ensures { λ _. ⌜ (
+        let wave = waveIn (now (c .entry)) (now (s .entry)) in
+        now (ab .exit) ≡ timeMapOf wave (now (cof .entry)) (now (index .entry)) k (now (ab .entry))
+        ) ⌝ }
 {
     let first = IA[k] - 1;
     let width = IB[k];
@@ -119,7 +125,7 @@ pub(crate) fn virtim(cof: &SixMaps, index: &IndexTable, gmt: f32) -> TimeMaps
     let w = hour_waves(gmt);
     let c = w.c;
     let s = w.s;
-    let mut ab = [0.0f32; 318];
+    let mut ab = [0.0f32; AB_ROWS];
     let mut k = 0usize;
     while k < 6 {
         time_map(cof, index, k, &c, &s, &mut ab);

@@ -1,4 +1,5 @@
--- The worksheet is always the one that a run of the calls read so far leaves: each call adds itself to the run. `turns` falls, and a call has at most 28 bytes, so `at` stays small.
+-- `answer_all` leaves the worksheet that a run of the calls read so far leaves: each call adds
+-- itself to the run. `turns` falls, and a call has at most 28 bytes, so `at` stays small.
 use borrow.Author.Needs.{needs}
 use mathlib.Core.List.{List, [], _∷_, _++_}
 use mathlib.Core.Path.{_≡_, refl, sym, ap, _∙_}
@@ -7,7 +8,7 @@ use Prim.Native.Nat.{ℕ, _+_, _*_, _≤_}
 use Rattle.worksheet.specs.declared.desks.Worksheet.{Worksheet}
 use Rattle.worksheet.specs.Showing.{Source, pair}
 use Rattle.worksheet.specs.Journal.{Call, step, run}
-use Rattle.listing.proofs.Turns.{run-last}
+use Rattle.listing.proofs.pieces.Turns.{run-last}
 use Rattle.replay.proofs.answer_all.Statement.{statement}
 use Rattle.replay.proofs.answer_all.Tie as tie
 

@@ -1,4 +1,5 @@
--- The buffer is filled from `base` on: each turn sets one element, and both words are those of the definition.
+-- `blend` fills the buffer from `base` on with `blendAt`, by the loop's invariant that i elements
+-- are filled: both words of a turn are those of the definition.
 use borrow.Author.Needs.{needs}
 use Prim.Native.Nat.{_≤_, _-_}
 use mathlib.Core.Path.{_≡_, refl, sym}
@@ -7,7 +8,7 @@ use lib.ListN.{length}
 use Rattle.base.specs.Fill.{fill}
 use Rattle.base.specs.Words.{floatAt}
 use Rattle.base.specs.Blend.{blendAt}
-use Rattle.base.proofs.Fills.{fill-next}
+use Rattle.base.proofs.lists.Fills.{fill-next}
 use Rattle.base.proofs.blend.blend.Statement.{statement}
 use Rattle.base.proofs.blend.blend.Tie as tie
 

@@ -1,4 +1,4 @@
--- The source's operations are the definition's, in their order.
+-- `blended` is `blendOf`: the source's operations are the definition's, in their order.
 use mathlib.Core.Path.{refl}
 use Rattle.base.proofs.blend.blended.Statement.{statement}
 use Rattle.base.proofs.blend.blended.Tie as tie

@@ -1,8 +1,9 @@
--- A NaN's pattern gives a NaN, which the definition gives too; two numbers are blended.
+-- `blended_words` is `blendOf` of the two words' floats: a NaN's pattern gives a NaN, which the
+-- definition gives too, and two numbers are blended.
 use borrow.Author.Needs.{needs}
 use lib.Ieee.{binary32}
-use Rattle.base.proofs.Patterns.{no-nan-bits}
-use Rattle.base.proofs.Blends.{first-nan, second-nan}
+use Rattle.base.proofs.rounding.Patterns.{no-nan-bits}
+use Rattle.base.proofs.lists.Blends.{first-nan, second-nan}
 use Rattle.base.proofs.blend.blended_words.Statement.{statement}
 use Rattle.base.proofs.blend.blended_words.Tie as tie
 

@@ -1,7 +1,8 @@
--- Six calls fill the array, each from where the one before ended.
+-- `cofion_of` fills the array with `cofionOf`: six calls blend a map each, from where the one
+-- before ended.
 use borrow.Author.Needs.{needs}
 use native.Mathlib.Omega.{arith}
-use Rattle.base.proofs.Maps.{six-maps}
+use Rattle.base.proofs.lists.Maps.{six-maps}
 use Rattle.base.proofs.blend.cofion_of.Statement.{statement}
 use Rattle.base.proofs.blend.cofion_of.Tie as tie
 

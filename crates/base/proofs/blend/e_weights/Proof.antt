@@ -1,4 +1,4 @@
--- The source's literals are the floats nearest to the definition's decimals, by computation.
+-- `e_weights` is `eWeights`: the literals are the definition's decimals, by computation.
 use mathlib.Core.Path.{refl}
 use lib.Ieee.{round, ofBits}
 use Rattle.base.specs.Single.{decimal}

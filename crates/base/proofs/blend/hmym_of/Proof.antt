@@ -1,6 +1,6 @@
--- One call fills the array.
+-- `hmym_of` fills the array with `hmymOf`, by what one call of `blend` ensures.
 use borrow.Author.Needs.{needs}
-use Rattle.base.proofs.Maps.{height-map}
+use Rattle.base.proofs.lists.Maps.{height-map}
 use Rattle.base.proofs.blend.hmym_of.Statement.{statement}
 use Rattle.base.proofs.blend.hmym_of.Tie as tie
 

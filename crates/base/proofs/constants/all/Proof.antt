@@ -1,4 +1,5 @@
--- Each constant of the source is the float nearest to its decimal, by computation over the whole list.
+-- `all` is `constants`: each of the nine is the float nearest to its decimal, by computation over
+-- the whole list.
 use mathlib.Core.Path.{refl}
 use lib.Ieee.{round, ofBits}
 use Rattle.base.specs.Single.{decimal}

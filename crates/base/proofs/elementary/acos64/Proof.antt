@@ -5,8 +5,8 @@ use Prim.Native.Nat.{_-_}
 use lib.Ieee.{Float, binary64, le, round, ofBits}
 use Rattle.base.specs.Double.{_⊗_, fraction}
 use Rattle.base.specs.Elementary.{atanOf, acosOf}
-use Rattle.base.proofs.Patterns.{no-number}
-use Rattle.base.proofs.Picks.{cond-true, cond-false}
+use Rattle.base.proofs.rounding.Patterns.{no-number}
+use Rattle.base.proofs.verdicts.Picks.{cond-true, cond-false}
 use Rattle.base.proofs.elementary.acos64.Statement.{statement}
 use Rattle.base.proofs.elementary.acos64.Tie as tie
 

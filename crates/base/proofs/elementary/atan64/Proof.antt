@@ -5,7 +5,7 @@ use Prim.Native.Nat.{_-_}
 use lib.Ieee.{neg}
 use Rattle.base.specs.Number.{withSign}
 use Rattle.base.specs.Elementary.{atanFrom, atanOf}
-use Rattle.base.proofs.Picks.{cond-true, cond-false}
+use Rattle.base.proofs.verdicts.Picks.{cond-true, cond-false}
 use Rattle.base.proofs.elementary.atan64.Statement.{statement}
 use Rattle.base.proofs.elementary.atan64.Tie as tie
 

@@ -5,7 +5,7 @@ use Prim.Native.Nat.{_-_}
 use lib.Ieee.{Float, round, ofBits}
 use Rattle.base.specs.Double.{_⊖_, fraction}
 use Rattle.base.specs.Elementary.{atanFrom, halfPi}
-use Rattle.base.proofs.Picks.{cond-true, cond-false}
+use Rattle.base.proofs.verdicts.Picks.{cond-true, cond-false}
 use Rattle.base.proofs.elementary.atan_from.Statement.{statement}
 use Rattle.base.proofs.elementary.atan_from.Tie as tie
 

@@ -5,7 +5,7 @@ use mathlib.Core.List.{List}
 use lib.Ieee.{Float, round, ofBits}
 use Rattle.base.specs.Double.{_⊗_, fraction}
 use Rattle.base.specs.Elementary.{horner, atanSeries}
-use Rattle.base.proofs.Terms.{atan-tied}
+use Rattle.base.proofs.steps.Terms.{atan-tied}
 use Rattle.base.proofs.elementary.atan_series.Statement.{statement}
 use Rattle.base.proofs.elementary.atan_series.Tie as tie
 

@@ -1,4 +1,5 @@
--- `atan_within` is three halvings, the series and the product with 8, each callee by its definition.
+-- `atan_within` is three halvings, the series and the product with 8, each callee by its
+-- definition.
 use borrow.Author.Needs.{needs}
 use mathlib.Core.Path.{ap, _∙_}
 use Prim.Native.Nat.{_-_}

@@ -5,7 +5,7 @@ use mathlib.Core.List.{List}
 use lib.Ieee.{Float, round, ofBits}
 use Rattle.base.specs.Double.{_⊗_, fraction}
 use Rattle.base.specs.Elementary.{horner, cosSeries}
-use Rattle.base.proofs.Terms.{cos-tied}
+use Rattle.base.proofs.steps.Terms.{cos-tied}
 use Rattle.base.proofs.elementary.cos_series.Statement.{statement}
 use Rattle.base.proofs.elementary.cos_series.Tie as tie
 

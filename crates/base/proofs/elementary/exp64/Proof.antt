@@ -5,7 +5,7 @@ use mathlib.Core.Bool.{false}
 use lib.Ieee.{binary64, inf, div, neg, round, ofBits}
 use Rattle.base.specs.Double.{fraction}
 use Rattle.base.specs.Elementary.{expOf}
-use Rattle.base.proofs.Picks.{cond-true, cond-false}
+use Rattle.base.proofs.verdicts.Picks.{cond-true, cond-false}
 use Rattle.base.proofs.elementary.exp64.Statement.{statement}
 use Rattle.base.proofs.elementary.exp64.Tie as tie
 

@@ -1,8 +1,9 @@
--- `exponent` is f - 1075 as a float: std's conversion of the difference, turned where it is negative.
+-- `exponent` is f - 1075 as a float: std's conversion of the difference, turned where it is
+-- negative.
 use borrow.Author.Needs.{needs}
 use mathlib.Core.Path.{ap, _∙_}
 use lib.Ieee.{neg}
-use Rattle.base.proofs.Logs.{exponent-up, exponent-down}
+use Rattle.base.proofs.steps.Logs.{exponent-up, exponent-down}
 use Rattle.base.proofs.elementary.exponent.Statement.{statement}
 use Rattle.base.proofs.elementary.exponent.Tie as tie
 

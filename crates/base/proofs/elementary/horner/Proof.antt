@@ -1,4 +1,5 @@
--- `horner` is the sum from the highest term down: before each turn `s` is the sum of the terms from `i` on.
+-- `horner` is the sum from the highest term down: before each turn `s` is the sum of the terms from
+-- `i` on.
 use borrow.Author.Needs.{needs}
 use mathlib.Core.Path.{_≡_, ap, _∙_}
 use Prim.Native.Nat.{ℕ, suc, _<_, _-_}
@@ -7,7 +8,7 @@ use lib.ListN.{length, getD, drop}
 use lib.Ieee.{Float, nan}
 use Rattle.base.specs.Double.{_⊕_, _⊗_}
 use Rattle.base.specs.Elementary.{horner}
-use Rattle.base.proofs.Terms.{horner-none, horner-last, horner-next}
+use Rattle.base.proofs.steps.Terms.{horner-none, horner-last, horner-next}
 use Rattle.base.proofs.elementary.horner.Statement.{statement}
 use Rattle.base.proofs.elementary.horner.Tie as tie
 

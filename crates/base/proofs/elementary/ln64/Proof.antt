@@ -1,4 +1,5 @@
--- `ln64` is `lnOf`: NaN, the zeros, what is below zero and the infinity by their patterns, the rest by `ln_bits`.
+-- `ln64` is `lnOf`: NaN, the zeros, what is below zero and the infinity by their patterns, the rest
+-- by `ln_bits`.
 use mathlib.Core.Path.{_≡_, refl, sym, ap, _∙_}
 use mathlib.Core.Logic.{_⊎_, inl, inr}
 use mathlib.Core.Bool.{true}
@@ -7,8 +8,8 @@ use native.Mathlib.Nat.{eq-zero-or-pos}
 use native.Mathlib.Omega.{arith}
 use lib.Ieee.{inf, binary64, div, neg, ofBits, toBits}
 use Rattle.base.specs.Elementary.{lnOf}
-use Rattle.base.proofs.Patterns.{is-nan, no-nan, no-number, wide, read-back, by-bits, capped}
-use Rattle.base.proofs.Logs.{ln-nan, ln-plus-zero, ln-minus-zero, ln-infinity, ln-below-zero}
+use Rattle.base.proofs.rounding.Patterns.{is-nan, no-nan, no-number, wide, read-back, by-bits, capped}
+use Rattle.base.proofs.steps.Logs.{ln-nan, ln-plus-zero, ln-minus-zero, ln-infinity, ln-below-zero}
 use Rattle.base.proofs.elementary.ln64.Statement.{statement}
 use Rattle.base.proofs.elementary.ln64.Tie as tie
 

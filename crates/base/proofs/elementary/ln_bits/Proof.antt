@@ -1,9 +1,10 @@
--- `ln_bits` is `lnOf` of its pattern: a subnormal's digits are shifted up first (`subnormal-ln`), a normal number's are read off (`normal-ln`).
+-- `ln_bits` is `lnOf` of its pattern: a subnormal's digits are shifted up first (`subnormal-ln`), a
+-- normal number's are read off (`normal-ln`).
 use borrow.Author.Needs.{needs}
 use mathlib.Core.Path.{_∙_}
 use native.Mathlib.Omega.{arith}
-use Rattle.base.proofs.Sorts.{lead, no-wrap}
-use Rattle.base.proofs.Logs.{normal-ln, subnormal-ln}
+use Rattle.base.proofs.rounding.Sorts.{lead, no-wrap}
+use Rattle.base.proofs.steps.Logs.{normal-ln, subnormal-ln}
 use Rattle.base.proofs.elementary.ln_bits.Statement.{statement}
 use Rattle.base.proofs.elementary.ln_bits.Tie as tie
 

@@ -1,12 +1,13 @@
--- `ln_scaled` is `lnSum` of the exponent and of the digits, whose pattern m + 2 ^ 52 * 1022 is that of m / 2 ^ 52.
+-- `ln_scaled` is `lnSum` of the exponent and of the digits, whose pattern m + 2 ^ 52 * 1022 is that
+-- of m / 2 ^ 52.
 use borrow.Author.Needs.{needs}
 use mathlib.Core.Path.{ap, _∙_}
 use Prim.Native.Nat.{_+_, _*_, _^_}
 use native.Mathlib.Omega.{arith}
 use lib.Ieee.{Float, binary64, minus, ofInt, ofBits}
 use Rattle.base.specs.Elementary.{lnSum}
-use Rattle.base.proofs.Patterns.{no-nan-bits}
-use Rattle.base.proofs.Twos.{digits-bits}
+use Rattle.base.proofs.rounding.Patterns.{no-nan-bits}
+use Rattle.base.proofs.rounding.Twos.{digits-bits}
 use Rattle.base.proofs.elementary.ln_scaled.Statement.{statement}
 use Rattle.base.proofs.elementary.ln_scaled.Tie as tie
 

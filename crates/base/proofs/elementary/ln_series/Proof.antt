@@ -5,7 +5,7 @@ use mathlib.Core.List.{List}
 use lib.Ieee.{Float, round, ofBits}
 use Rattle.base.specs.Double.{_⊗_, fraction}
 use Rattle.base.specs.Elementary.{horner, lnSeries}
-use Rattle.base.proofs.Terms.{ln-tied}
+use Rattle.base.proofs.steps.Terms.{ln-tied}
 use Rattle.base.proofs.elementary.ln_series.Statement.{statement}
 use Rattle.base.proofs.elementary.ln_series.Tie as tie
 

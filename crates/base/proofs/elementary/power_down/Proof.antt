@@ -1,4 +1,5 @@
--- `power_down` is 1 / 2 ^ k: by the exponent's field, then by one digit below the normal numbers, then 0.
+-- `power_down` is 1 / 2 ^ k: by the exponent's field, then by one digit below the normal numbers,
+-- then 0.
 use borrow.Author.Needs.{needs}
 use mathlib.Core.Path.{_≡_, ap, _∙_}
 use Prim.Native.Nat.{ℕ, _-_, _*_, _%_, _^_, _≤_, _<_}
@@ -7,8 +8,8 @@ use native.Mathlib.Omega.{arith}
 use lib.Dec.{lit≤}
 use lib.Pow.{pow-lt}
 use lib.Ieee.{binary64, ofBits}
-use Rattle.base.proofs.Patterns.{no-nan-bits}
-use Rattle.base.proofs.Twos.{down-bits, down-low, down-zero}
+use Rattle.base.proofs.rounding.Patterns.{no-nan-bits}
+use Rattle.base.proofs.rounding.Twos.{down-bits, down-low, down-zero}
 use Rattle.base.proofs.elementary.power_down.Statement.{statement}
 use Rattle.base.proofs.elementary.power_down.Tie as tie
 

@@ -5,8 +5,8 @@ use Prim.Native.Nat.{_+_, _*_, _^_}
 use native.Mathlib.Omega.{arith}
 use mathlib.Core.Bool.{false}
 use lib.Ieee.{binary64, inf, div, ofBits}
-use Rattle.base.proofs.Patterns.{no-nan-bits}
-use Rattle.base.proofs.Twos.{up-bits, up-inf}
+use Rattle.base.proofs.rounding.Patterns.{no-nan-bits}
+use Rattle.base.proofs.rounding.Twos.{up-bits, up-inf}
 use Rattle.base.proofs.elementary.power_up.Statement.{statement}
 use Rattle.base.proofs.elementary.power_up.Tie as tie
 

@@ -1,11 +1,12 @@
--- The last two bits of the shifted number are those of the nearest whole number (`shifted-quarter`). Assumes nothing.
+-- `quarter` is `quarterOf` of the nearest whole number: the last two bits of the shifted number are
+-- those of the nearest (`shifted-quarter`).
 use borrow.Author.Needs.{needs}
 use mathlib.Core.Path.{sym, ap, _∙_, subst}
 use mathlib.Core.Bool.{not}
 use Prim.Native.Nat.{_%_}
 use lib.Dec.{T}
 use lib.Ieee.{Float, binary64, isNan, toBits}
-use Rattle.base.proofs.Turns.{shifted-no-nan, shifted-quarter}
+use Rattle.base.proofs.steps.Turns.{shifted-no-nan, shifted-quarter}
 use Rattle.base.proofs.elementary.quarter.Statement.{statement}
 use Rattle.base.proofs.elementary.quarter.Tie as tie
 

@@ -1,4 +1,4 @@
--- The source's literal is 3 × 2^51, by computation. Assumes nothing.
+-- `shifted` is one sum with 3 × 2 ^ 51, which the source's literal is by computation.
 use mathlib.Core.Path.{refl}
 use lib.Ieee.{round, ofBits}
 use Rattle.base.specs.Double.{fraction}

@@ -1,4 +1,4 @@
--- Up to 1000 in size by `split` and `sin_at`, beyond it 0 / 0. Assumes nothing.
+-- `sin64` is `sinOf`: up to 1000 in size by `split` and `sin_at`, and else 0 / 0.
 use borrow.Author.Needs.{needs}
 use mathlib.Core.Path.{_≡_, sym, ap, _∙_, subst}
 use mathlib.Core.Bool.{true}
@@ -7,8 +7,8 @@ use lib.Ieee.{Float, binary64, le, round, ofBits}
 use Rattle.base.specs.Double.{fraction}
 use Rattle.base.specs.Number.{absOf}
 use Rattle.base.specs.Elementary.{sinOf, sinAt}
-use Rattle.base.proofs.Patterns.{no-number}
-use Rattle.base.proofs.Picks.{cond-true, cond-false}
+use Rattle.base.proofs.rounding.Patterns.{no-number}
+use Rattle.base.proofs.verdicts.Picks.{cond-true, cond-false}
 use Rattle.base.proofs.elementary.sin64.Statement.{statement}
 use Rattle.base.proofs.elementary.sin64.Tie as tie
 

@@ -1,10 +1,11 @@
--- v in quarter turns is 1024 at most in size (`turns-small`), as `quarter` asks. Assumes nothing.
+-- `split` is the quarter and the rest of v by `turnsOf`: v in quarter turns is 1024 at most in size
+-- (`turns-small`), as `quarter` asks.
 use borrow.Author.Needs.{needs}
 use mathlib.Core.Path.{ap, _∙_}
 use lib.Ieee.{round, ofBits}
 use Rattle.base.specs.Double.{fraction}
 use Rattle.base.specs.Elementary.{turnsOf, reducedOf}
-use Rattle.base.proofs.Turns.{turns-small}
+use Rattle.base.proofs.steps.Turns.{turns-small}
 use Rattle.base.proofs.elementary.split.Statement.{statement}
 use Rattle.base.proofs.elementary.split.Tie as tie
 

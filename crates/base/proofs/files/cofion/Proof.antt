@@ -1,7 +1,7 @@
--- The array is filled where the files are accepted.
+-- `cofion` answers `filesCheck`, and fills the array with `cofionOf` or leaves it, by the verdict.
 use borrow.Author.Needs.{needs}
 use mathlib.Core.Path.{sym, _∙_}
-use Rattle.base.proofs.Readers.{files-record, files-length, written, left}
+use Rattle.base.proofs.layout.Readers.{files-record, files-length, written, left}
 use Rattle.base.proofs.files.cofion.Statement.{statement}
 use Rattle.base.proofs.files.cofion.Tie as tie
 

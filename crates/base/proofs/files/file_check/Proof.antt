@@ -1,4 +1,4 @@
--- The index table is judged where the walk is accepted.
+-- `file_check` is `fileCheck`, by the walk's verdict: where it accepts, the index table is judged.
 use borrow.Author.Needs.{needs}
 use mathlib.Core.Path.{_≡_, sym, ap, _∙_}
 use Rattle.base.specs.declared.refusal.Verdict.{Verdict}

@@ -1,8 +1,9 @@
--- A short record is refused first; otherwise the answer is the month file's own.
+-- `files_check` is `filesCheck`, by the record's length: a short record is refused first, and
+-- otherwise the answer is the month file's own.
 use borrow.Author.Needs.{needs}
 use borrow.Author.Tests.{lt-leb, le-leb}
 use mathlib.Core.Path.{sym, _∙_}
-use Rattle.base.proofs.Picks.{cond-true, cond-false}
+use Rattle.base.proofs.verdicts.Picks.{cond-true, cond-false}
 use Rattle.base.specs.Files.{filesCheck}
 use Rattle.base.proofs.files.files_check.Statement.{statement}
 use Rattle.base.proofs.files.files_check.Tie as tie

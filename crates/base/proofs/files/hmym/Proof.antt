@@ -1,7 +1,7 @@
--- The array is filled where the file is accepted.
+-- `hmym` answers `fileCheck`, and fills the array with `hmymOf` or leaves it, by the verdict.
 use borrow.Author.Needs.{needs}
 use mathlib.Core.Path.{sym, _∙_}
-use Rattle.base.proofs.Readers.{file-length, written, left}
+use Rattle.base.proofs.layout.Readers.{file-length, written, left}
 use Rattle.base.proofs.files.hmym.Statement.{statement}
 use Rattle.base.proofs.files.hmym.Tie as tie
 

@@ -1,9 +1,9 @@
--- The four arrays are filled where the files are accepted.
+-- `redmap` answers `filesCheck`, and fills the four arrays or leaves them, by the verdict.
 use borrow.Author.Needs.{needs}
 use mathlib.Core.Path.{_≡_, sym, _∙_}
 use Rattle.base.specs.declared.refusal.Verdict.the-variants.{Accepted}
 use Rattle.base.specs.Files.{filesCheck}
-use Rattle.base.proofs.Readers.{files-record, files-length, written, left}
+use Rattle.base.proofs.layout.Readers.{files-record, files-length, written, left}
 use Rattle.base.proofs.files.redmap.Statement.{statement}
 use Rattle.base.proofs.files.redmap.Tie as tie
 
@@ -31,19 +31,18 @@ returns c =
     let m = h .before .before in
     let i = m .before .before in
     let e = i .before .before .before .before .files-check .ensures in
-    let z = i .before .before .enum-told .given .1 in (
-      sym z ∙ e,
-      written e _ z (i .index-of .ensures),
-      written e _ z (m .cofion-of .ensures),
-      written e _ z (h .hmym-of .ensures),
-      written e _ z (c .fakmap-of .ensures),
-    )
+    let z = i .before .before .enum-told .given .1 in
+    let index = written e _ z (i .index-of .ensures) in
+    let cofion = written e _ z (m .cofion-of .ensures) in
+    let hmym = written e _ z (h .hmym-of .ensures) in
+    let fakmap = written e _ z (c .fakmap-of .ensures) in
+    (sym z ∙ e, (index, (cofion, (hmym, fakmap))))
 
 returns-2 : tie.Need-returns-2
 returns-2 c =
     let e = c .before .before .before .files-check .ensures in
     let z = c .before .verdict .given .1 in
-    (sym z ∙ e, left e _ _ z, left e _ _ z, left e _ _ z, left e _ _ z)
+    (sym z ∙ e, (left e _ _ z, (left e _ _ z, (left e _ _ z, left e _ _ z))))
 
 pub redmap-spec : {M : Type 1} → statement M
 redmap-spec =

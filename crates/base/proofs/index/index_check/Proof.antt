@@ -1,9 +1,10 @@
--- Before each turn the rest of the check is the whole of it: a map is bad, or the check goes on.
+-- `index_check` is `indexCheck`, by the loop's invariant that the rest of the check is the whole of
+-- it: a map is bad, or the check goes on.
 use borrow.Author.Needs.{needs}
 use mathlib.Core.Path.{sym}
 use Prim.Native.Nat.{_-_}
 use borrow.Author.Tests.{not-true, not-false}
-use Rattle.base.proofs.Ladders.{Checked, unchecked, bad-map, next-map, no-map}
+use Rattle.base.proofs.ladder.Ladders.{Checked, unchecked, bad-map, next-map, no-map}
 use Rattle.base.proofs.index.index_check.Statement.{statement}
 use Rattle.base.proofs.index.index_check.Tie as tie
 

@@ -1,8 +1,9 @@
--- Each test that fails makes the map bad, by the law that the unsigned tests are the signed ones; where all pass, the ladder decides.
+-- `is_good` is `goodMap`: each test that fails makes the map bad, as the unsigned tests are the
+-- signed ones, and where all pass the ladder decides.
 use borrow.Author.Needs.{needs}
 use mathlib.Core.Path.{_∙_}
 use native.Mathlib.Omega.{arith}
-use Rattle.base.proofs.Ladders.{fails-terms, fails-waves, fails-low, fails-high, ladder-decides}
+use Rattle.base.proofs.ladder.Ladders.{fails-terms, fails-waves, fails-low, fails-high, ladder-decides}
 use Rattle.base.proofs.index.is_good.Statement.{statement}
 use Rattle.base.proofs.index.is_good.Tie as tie
 

@@ -1,11 +1,12 @@
--- Before each turn the rest of the ladder is the whole of it: a word stops it, breaks it or goes on.
+-- `is_ladder` is `climbs`, by the loop's invariant that the rest of the ladder is the whole of it:
+-- a word stops it, breaks it or goes on.
 use borrow.Author.Needs.{needs}
 use mathlib.Core.Path.{refl, sym, _∙_, ap}
 use Prim.Native.Nat.{ℕ, _-_}
 use lib.IntN.{ℤ}
 use borrow.Author.Tests.{not-true, not-false}
 use Rattle.base.specs.Index.{climbs}
-use Rattle.base.proofs.Ladders.{Climbed, same-words, stops, falls, goes-up, ends-up}
+use Rattle.base.proofs.ladder.Ladders.{Climbed, same-words, stops, falls, goes-up, ends-up}
 use Rattle.base.proofs.index.is_ladder.Statement.{statement}
 use Rattle.base.proofs.index.is_ladder.Tie as tie
 

@@ -1,7 +1,7 @@
--- By the two tests: the unsigned words exceed each other as the signed ones do.
+-- `is_next` is `exceeds`, by its two tests: the unsigned words exceed each other as the signed do.
 use borrow.Author.Needs.{needs}
 use mathlib.Core.Path.{sym}
-use Rattle.base.proofs.Ladders.{exceeds-even, exceeds-odd, exceeds-not}
+use Rattle.base.proofs.ladder.Ladders.{exceeds-even, exceeds-odd, exceeds-not}
 use Rattle.base.proofs.index.is_next.Statement.{statement}
 use Rattle.base.proofs.index.is_next.Tie as tie
 

@@ -1,4 +1,4 @@
--- The word is the definition's, so the test is.
+-- `is_marker` is whether the word at `at` is n, by what `word` ensures.
 use borrow.Author.Needs.{needs}
 use mathlib.Core.Path.{ap}
 use Prim.Native.Nat.{ℕ}

@@ -1,10 +1,11 @@
--- The loop stands before the record k, and what is left of the walk is the whole walk: a record is passed at once, or the walk ends in it.
+-- `month_file_check` is `monthFileCheck`, by the loop's invariant that what is left of the walk is
+-- the whole walk: a record is passed at once, or the walk ends in it.
 use borrow.Author.Needs.{needs}
 use mathlib.Core.Path.{sym, _∙_}
 use mathlib.Core.Logic.{inl, inr}
 use Prim.Native.Nat.{_-_}
 use borrow.Author.Tests.{not-true, not-false}
-use Rattle.base.proofs.Walks.{Walked, first, ends-short, ends-open, ends-close, goes-on, ends}
+use Rattle.base.proofs.layout.Walks.{Walked, first, ends-short, ends-open, ends-close, goes-on, ends}
 use Rattle.base.proofs.month_file.month_file_check.Statement.{statement}
 use Rattle.base.proofs.month_file.month_file_check.Tie as tie
 

@@ -1,8 +1,9 @@
--- An accepted record lies within the file, so that the part can be taken; a refused one gives the part of no bytes at 0.
+-- `month_record` is the part `monthPart` of the file, by the verdict: an accepted record lies
+-- within the file, and a refused one gives no bytes at 0.
 use borrow.Author.Needs.{needs}
 use mathlib.Core.Path.{refl, sym, _∙_}
 use native.Mathlib.Omega.{arith}
-use Rattle.base.proofs.Records.{MonthThere, month-known, month-part, month-none, part-of}
+use Rattle.base.proofs.layout.Records.{MonthThere, month-known, month-part, month-none, part-of}
 use Rattle.base.proofs.month_file.month_record.Statement.{statement}
 use Rattle.base.proofs.month_file.month_record.Tie as tie
 

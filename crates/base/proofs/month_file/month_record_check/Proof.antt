@@ -1,4 +1,5 @@
--- The month is judged first, then the file's length.
+-- `month_record_check` is `monthRecordCheck`: the month is judged first, then the file's length, by
+-- what the calls ensure.
 use borrow.Author.Needs.{needs}
 use mathlib.Core.Path.{_∙_}
 use Rattle.base.specs.Refusal.{_then_}

@@ -1,6 +1,7 @@
--- The source's sizes are those of `sizes`, and their rule is one test over the whole list.
+-- `size` is `RecordSize`: the source's sizes are those of `sizes`, and their rule is one test over
+-- the whole list.
 use borrow.Author.Needs.{needs}
-use Rattle.base.proofs.Walks.{sized}
+use Rattle.base.proofs.layout.Walks.{sized}
 use Rattle.base.proofs.month_file.size.Statement.{statement}
 use Rattle.base.proofs.month_file.size.Tie as tie
 

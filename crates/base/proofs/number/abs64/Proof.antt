@@ -1,6 +1,6 @@
 -- `abs64` drops the sign's bit (`abs-bits`).
 use lib.Ieee.{binary64}
-use Rattle.base.proofs.Patterns.{is-nan, no-nan, abs-nan, abs-bits, abs-no-nan, held}
+use Rattle.base.proofs.rounding.Patterns.{is-nan, no-nan, abs-nan, abs-bits, abs-no-nan, held}
 use Rattle.base.proofs.number.abs64.Statement.{statement}
 use Rattle.base.proofs.number.abs64.Tie as tie
 

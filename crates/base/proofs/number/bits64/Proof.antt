@@ -2,7 +2,7 @@
 use borrow.Author.Needs.{needs}
 use mathlib.Core.Path.{sym, ap}
 use lib.Ieee.{binary64, toBits}
-use Rattle.base.proofs.Patterns.{is-nan, no-nan}
+use Rattle.base.proofs.rounding.Patterns.{is-nan, no-nan}
 use Rattle.base.proofs.number.bits64.Statement.{statement}
 use Rattle.base.proofs.number.bits64.Tie as tie
 

@@ -2,7 +2,7 @@
 use borrow.Author.Needs.{needs}
 use mathlib.Core.Path.{_∙_}
 use lib.Ieee.{binary64}
-use Rattle.base.proofs.Patterns.{no-number, no-nan-bits, nan-bits}
+use Rattle.base.proofs.rounding.Patterns.{no-number, no-nan-bits, nan-bits}
 use Rattle.base.proofs.number.float64.Statement.{statement}
 use Rattle.base.proofs.number.float64.Tie as tie
 

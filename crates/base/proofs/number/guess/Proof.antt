@@ -3,7 +3,7 @@ use borrow.Author.Needs.{needs}
 use Prim.Native.Nat.{_-_, _/_}
 use native.Mathlib.Omega.{arith}
 use lib.Ieee.{binary64}
-use Rattle.base.proofs.Patterns.{no-nan-bits}
+use Rattle.base.proofs.rounding.Patterns.{no-nan-bits}
 use Rattle.base.proofs.number.guess.Statement.{statement}
 use Rattle.base.proofs.number.guess.Tie as tie
 

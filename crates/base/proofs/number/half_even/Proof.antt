@@ -2,7 +2,7 @@
 use borrow.Author.Needs.{needs}
 use native.Mathlib.Omega.{arith}
 use Prim.Native.Nat.{_^_}
-use Rattle.base.proofs.Halves.{halfOf, half-small, half-pos, half-twice, half-up}
+use Rattle.base.proofs.rounding.Halves.{halfOf, half-small, half-pos, half-twice, half-up}
 use Rattle.base.proofs.number.half_even.Statement.{statement}
 use Rattle.base.proofs.number.half_even.Tie as tie
 

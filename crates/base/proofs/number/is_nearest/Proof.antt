@@ -1,11 +1,12 @@
--- `is_nearest` is true only of the nearest root: the three differences do not wrap where they are small, and `next-nearest` has what they leave.
+-- `is_nearest` is true only of the nearest root: the three differences do not wrap where they are
+-- small, and `next-nearest` has what they leave.
 use borrow.Author.Needs.{needs}
 use borrow.Author.Tests.{ltb-true}
 use mathlib.Core.Path.{_≡_}
 use mathlib.Core.Bool.{false≢true}
 use Prim.Native.Nat.{_+_, _*_, _/_, _%_, _^_}
 use native.Mathlib.Omega.{arith}
-use Rattle.base.proofs.Roots.{sizes, next-nearest}
+use Rattle.base.proofs.roots.Roots.{sizes, next-nearest}
 use Rattle.base.proofs.number.is_nearest.Statement.{statement}
 use Rattle.base.proofs.number.is_nearest.Tie as tie
 

@@ -1,8 +1,8 @@
 -- `is_negative` is the sign's bit, which only a NaN's value does not have.
 use mathlib.Core.Path.{sym, subst}
 use lib.Dec.{T}
-use Rattle.base.proofs.Patterns.{is-nan, no-nan}
-use Rattle.base.proofs.Signs.{sign-bit, nan-sign}
+use Rattle.base.proofs.rounding.Patterns.{is-nan, no-nan}
+use Rattle.base.proofs.rounding.Signs.{sign-bit, nan-sign}
 use Rattle.base.proofs.number.is_negative.Statement.{statement}
 use Rattle.base.proofs.number.is_negative.Tie as tie
 

@@ -1,13 +1,14 @@
--- `is_root` is true only of the root: then the digits of s are the nearest root of the number's digits (`is_nearest`), and its exponent is half of the number's.
+-- `is_root` is true only of the root: then the digits of s are the nearest root of the number's
+-- digits (`is_nearest`), and its exponent is half of the number's.
 use borrow.Author.Needs.{needs}
 use mathlib.Core.Path.{_≡_, _∙_}
 use mathlib.Core.Bool.{false≢true}
 use Prim.Native.Nat.{_+_, _/_, _%_, _^_}
 use native.Mathlib.Omega.{arith}
 use lib.Ieee.{binary64, toBits}
-use Rattle.base.proofs.Patterns.{no-nan, by-bits}
-use Rattle.base.proofs.Rooted.{at-most}
-use Rattle.base.proofs.Sorts.{bitsOf, normal-root}
+use Rattle.base.proofs.rounding.Patterns.{no-nan, by-bits}
+use Rattle.base.proofs.roots.Rooted.{at-most}
+use Rattle.base.proofs.rounding.Sorts.{bitsOf, normal-root}
 use Rattle.base.proofs.number.is_root.Statement.{statement}
 use Rattle.base.proofs.number.is_root.Tie as tie
 

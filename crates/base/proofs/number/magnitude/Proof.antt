@@ -6,8 +6,8 @@ use native.Mathlib.Nat.{le-trans, lt-of-lt-of-le}
 use lib.Pow.{pow-mono}
 use native.Mathlib.Omega.{arith}
 use lib.Dec.{lit≤}
-use Rattle.base.proofs.Rounding.{closest-le}
-use Rattle.base.proofs.Narrowing.{Narrows, zero-case, low-case, mid-case, inf-case}
+use Rattle.base.proofs.rounding.Rounding.{closest-le}
+use Rattle.base.proofs.rounding.Narrowing.{Narrows, zero-case, low-case, mid-case, inf-case}
 use Rattle.base.proofs.number.magnitude.Statement.{statement}
 use Rattle.base.proofs.number.magnitude.Tie as tie
 

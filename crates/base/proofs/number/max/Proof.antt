@@ -1,8 +1,8 @@
 -- `max` is `maxOf`, test by test.
 use mathlib.Core.Path.{sym, _∙_}
 use Rattle.base.specs.Number.{maxOf}
-use Rattle.base.proofs.Picks.{cond-true, cond-false}
-use Rattle.base.proofs.Signs.{nan-test}
+use Rattle.base.proofs.verdicts.Picks.{cond-true, cond-false}
+use Rattle.base.proofs.rounding.Signs.{nan-test}
 use Rattle.base.proofs.number.max.Statement.{statement}
 use Rattle.base.proofs.number.max.Tie as tie
 

@@ -1,8 +1,8 @@
 -- `min` is `minOf`, test by test.
 use mathlib.Core.Path.{sym, _∙_}
 use Rattle.base.specs.Number.{minOf}
-use Rattle.base.proofs.Picks.{cond-true, cond-false}
-use Rattle.base.proofs.Signs.{nan-test}
+use Rattle.base.proofs.verdicts.Picks.{cond-true, cond-false}
+use Rattle.base.proofs.rounding.Signs.{nan-test}
 use Rattle.base.proofs.number.min.Statement.{statement}
 use Rattle.base.proofs.number.min.Tie as tie
 

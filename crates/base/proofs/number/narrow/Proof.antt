@@ -1,11 +1,12 @@
--- `narrow` is `narrowOf`: the sign's bit is carried over, and `magnitude` rounds the size for either sign.
+-- `narrow` is `narrowOf`: the sign's bit is carried over, and `magnitude` rounds the size for
+-- either sign.
 use mathlib.Core.Path.{_≡_, sym, ap, _∙_}
 use Prim.Native.Nat.{_+_, _*_, _/_, _^_}
 use native.Mathlib.Omega.{arith}
 use lib.Ieee.{Float, nan, binary32, binary64, toBits}
 use Rattle.base.specs.Number.{narrowOf}
-use Rattle.base.proofs.Narrowing.{either-sign}
-use Rattle.base.proofs.Patterns.{is-nan, no-nan, no-nan-bits, no-number, wide, read-back, capped}
+use Rattle.base.proofs.rounding.Narrowing.{either-sign}
+use Rattle.base.proofs.rounding.Patterns.{is-nan, no-nan, no-nan-bits, no-number, wide, read-back, capped}
 use Rattle.base.proofs.number.narrow.Statement.{statement}
 use Rattle.base.proofs.number.narrow.Tie as tie
 

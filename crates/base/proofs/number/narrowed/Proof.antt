@@ -1,5 +1,6 @@
--- `narrowed` is `narrowOf`: the bits with 29 digits cleared are those of the `f64` that has the same value as the `f32` of `mid-case`,
--- and two floats of one format with the same value are the same, since their bits are.
+-- `narrowed` is `narrowOf`: the bits with 29 digits cleared are those of the `f64` that has the
+-- same value as the `f32` of `mid-case`, and two floats of one format with the same value are the
+-- same, since their bits are.
 use borrow.Author.Needs.{needs}
 use mathlib.Core.Path.{_≡_, refl, sym, ap, _∙_, subst}
 use mathlib.Core.Logic.{inr}
@@ -16,10 +17,10 @@ use lib.Ieee.Exact.{HasValue, units-val}
 use lib.Ieee.Nearest.{closest, div-same}
 use lib.Ieee.Bits.{ofBits-toBits}
 use Rattle.base.specs.Number.{narrowOf}
-use Rattle.base.proofs.Halves.{half-up}
-use Rattle.base.proofs.Narrowing.{mid-case}
-use Rattle.base.proofs.Patterns.{is-nan, no-nan, no-nan-bits, wide, read-back}
-use Rattle.base.proofs.Rounding.{shifts, closest-le, closest-ge, units-fit, units-bits}
+use Rattle.base.proofs.rounding.Halves.{half-up}
+use Rattle.base.proofs.rounding.Narrowing.{mid-case}
+use Rattle.base.proofs.rounding.Patterns.{is-nan, no-nan, no-nan-bits, wide, read-back}
+use Rattle.base.proofs.rounding.Rounding.{shifts, closest-le, closest-ge, units-fit, units-bits}
 use Rattle.base.proofs.number.narrowed.Statement.{statement}
 use Rattle.base.proofs.number.narrowed.Tie as tie
 

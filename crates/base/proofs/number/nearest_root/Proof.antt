@@ -1,9 +1,10 @@
--- `nearest_root` is the nearest root, a binary digit a turn: the invariant `Turn` has the digits read so far as a square and a rest.
+-- `nearest_root` is the nearest root, a binary digit a turn: the invariant `Turn` has the digits
+-- read so far as a square and a rest.
 use Prim.Native.Nat.{_+_, _-_, _*_, _^_, _<_}
 use mathlib.Core.Path.{_≡_}
 use mathlib.Core.Logic.{⊎-elim}
 use native.Mathlib.Omega.{arith}
-use Rattle.base.proofs.Roots.{Turn, first, turn-one, turn-zero, moved, q-lt, last-lt, all, down, up}
+use Rattle.base.proofs.roots.Roots.{Turn, first, turn-one, turn-zero, moved, q-lt, last-lt, all, down, up}
 use Rattle.base.proofs.number.nearest_root.Statement.{statement}
 use Rattle.base.proofs.number.nearest_root.Tie as tie
 

@@ -1,8 +1,9 @@
--- `normal_root` is the root: the guess where it was found to be (`is_root`), and by `root_bits` where not.
+-- `normal_root` is the root: the guess where it was found to be (`is_root`), and by `root_bits`
+-- where not.
 use borrow.Author.Needs.{needs}
 use native.Mathlib.Omega.{arith}
 use lib.Ieee.{binary64}
-use Rattle.base.proofs.Patterns.{no-nan-bits}
+use Rattle.base.proofs.rounding.Patterns.{no-nan-bits}
 use Rattle.base.proofs.number.normal_root.Statement.{statement}
 use Rattle.base.proofs.number.normal_root.Tie as tie
 

@@ -1,8 +1,9 @@
--- `root_bits` is the pattern of `sqrtOf`: a subnormal's digits are shifted up first (`subnormal-root`), a normal number's are read off (`normal-root`).
+-- `root_bits` is the pattern of `sqrtOf`: a subnormal's digits are shifted up first
+-- (`subnormal-root`), a normal number's are read off (`normal-root`).
 use borrow.Author.Needs.{needs}
 use mathlib.Core.Path.{sym, subst}
 use native.Mathlib.Omega.{arith}
-use Rattle.base.proofs.Sorts.{Rooted, lead, no-wrap, subnormal-root, normal-root}
+use Rattle.base.proofs.rounding.Sorts.{Rooted, lead, no-wrap, subnormal-root, normal-root}
 use Rattle.base.proofs.number.root_bits.Statement.{statement}
 use Rattle.base.proofs.number.root_bits.Tie as tie
 

@@ -3,7 +3,7 @@ use borrow.Author.Needs.{needs}
 use mathlib.Core.Path.{sym, subst}
 use Prim.Native.Nat.{ℕ, _%_, _^_, _≤_}
 use native.Mathlib.Omega.{arith}
-use Rattle.base.proofs.Rooted.{at-most, root-small}
+use Rattle.base.proofs.roots.Rooted.{at-most, root-small}
 use Rattle.base.proofs.number.scaled_root.Statement.{statement}
 use Rattle.base.proofs.number.scaled_root.Tie as tie
 

@@ -3,8 +3,8 @@ use borrow.Author.Needs.{needs}
 use mathlib.Core.Path.{ap, _∙_}
 use lib.Ieee.{binary32, binary64}
 use Rattle.base.specs.Number.{narrowOf, sqrtOf}
-use Rattle.base.proofs.DoubleRounding.{sqrt-narrow}
-use Rattle.base.proofs.Patterns.{held}
+use Rattle.base.proofs.rounding.DoubleRounding.{sqrt-narrow}
+use Rattle.base.proofs.rounding.Patterns.{held}
 use Rattle.base.proofs.number.sqrt32.Statement.{statement}
 use Rattle.base.proofs.number.sqrt32.Tie as tie
 

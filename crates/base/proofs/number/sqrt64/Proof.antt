@@ -1,4 +1,5 @@
--- `sqrt64` is `sqrtOf binary64`: a normal number's by `normal_root`, NaN's, the zeros', the infinity's and that of what is below zero by their patterns, a subnormal number's by `root_bits`.
+-- `sqrt64` is `sqrtOf binary64`: a normal number's by `normal_root`, NaN's, the zeros', the
+-- infinity's and that of what is below zero by their patterns, a subnormal number's by `root_bits`.
 use borrow.Author.Needs.{needs}
 use mathlib.Core.Path.{_≡_, sym, ap, _∙_}
 use mathlib.Core.Logic.{_⊎_, inl, inr}
@@ -7,8 +8,8 @@ use native.Mathlib.Nat.{eq-zero-or-pos}
 use native.Mathlib.Omega.{arith}
 use lib.Ieee.{binary64, ofBits, toBits}
 use Rattle.base.specs.Number.{sqrtOf}
-use Rattle.base.proofs.Patterns.{is-nan, no-nan, no-nan-bits, no-number, wide, read-back, by-bits, capped}
-use Rattle.base.proofs.Sorts.{fixed, plus-zero, minus-zero, infinity, nan-root, below-zero}
+use Rattle.base.proofs.rounding.Patterns.{is-nan, no-nan, no-nan-bits, no-number, wide, read-back, by-bits, capped}
+use Rattle.base.proofs.rounding.Sorts.{fixed, plus-zero, minus-zero, infinity, nan-root, below-zero}
 use Rattle.base.proofs.number.sqrt64.Statement.{statement}
 use Rattle.base.proofs.number.sqrt64.Tie as tie
 

@@ -1,12 +1,13 @@
--- `to_i32` is `toSigned 31`: in the range std's conversion gives it, and outside an end of the range does.
+-- `to_i32` is `toSigned 31`: in the range std's conversion gives it, and outside an end of the
+-- range does.
 use mathlib.Core.Path.{_≡_, sym, ap, _∙_, subst}
 use lib.IntN.{ℤ}
 use lib.Ieee.{ofBits, neg, toSigned}
 use mir.Syntax.{w32, w64}
 use mir.Val.{SFits, toZ, ofZ}
 use mir.Facts.{toZ-ofZ}
-use Rattle.base.proofs.Patterns.{is-nan}
-use Rattle.base.proofs.Signs.{signed-nan, signed-low, signed-high, signed-in, signed-fits, signed-back, wide-low, wide-high}
+use Rattle.base.proofs.rounding.Patterns.{is-nan}
+use Rattle.base.proofs.rounding.Signs.{signed-nan, signed-low, signed-high, signed-in, signed-fits, signed-back, wide-low, wide-high}
 use Rattle.base.proofs.number.to_i32.Statement.{statement}
 use Rattle.base.proofs.number.to_i32.Tie as tie
 

@@ -1,10 +1,11 @@
--- `to_u64` is `toUnsigned 64`: in the range std's conversion gives it, and outside an end of the range does.
+-- `to_u64` is `toUnsigned 64`: in the range std's conversion gives it, and outside an end of the
+-- range does.
 use borrow.Author.Needs.{needs}
 use mathlib.Core.Path.{sym, subst}
 use lib.Dec.{T}
 use lib.Ieee.{ofBits, neg}
-use Rattle.base.proofs.Patterns.{is-nan}
-use Rattle.base.proofs.Signs.{unsigned-nan, unsigned-low, unsigned-high}
+use Rattle.base.proofs.rounding.Patterns.{is-nan}
+use Rattle.base.proofs.rounding.Signs.{unsigned-nan, unsigned-low, unsigned-high}
 use Rattle.base.proofs.number.to_u64.Statement.{statement}
 use Rattle.base.proofs.number.to_u64.Tie as tie
 

@@ -1,9 +1,9 @@
--- The ends of the range are the decimals, by computation.
+-- `hour_check` is `hourCheck`: the ends of the range are the decimals, by computation.
 use borrow.Author.Needs.{needs}
 use lib.Ieee.{ofBits, round}
 use Rattle.base.specs.Single.{decimal}
 use Rattle.base.specs.Ranges.{hourCheck}
-use Rattle.base.proofs.Refusals.{by-test}
+use Rattle.base.proofs.verdicts.Refusals.{by-test}
 use Rattle.base.proofs.ranges.hour_check.Statement.{statement}
 use Rattle.base.proofs.ranges.hour_check.Tie as tie
 

@@ -1,4 +1,4 @@
--- By the two tests.
+-- `is_month` is `isMonth`, by its two tests.
 use borrow.Author.Tests.{le-leb, lt-leb}
 use Rattle.base.proofs.ranges.is_month.Statement.{statement}
 use Rattle.base.proofs.ranges.is_month.Tie as tie

@@ -1,4 +1,4 @@
--- By the two tests.
+-- `is_to` is `isTo`, by its two tests.
 use Rattle.base.proofs.ranges.is_to.Statement.{statement}
 use Rattle.base.proofs.ranges.is_to.Tie as tie
 

@@ -1,9 +1,9 @@
--- The ends of the range are the decimals, by computation.
+-- `latitude_check` is `latitudeCheck`: the ends of the range are the decimals, by computation.
 use borrow.Author.Needs.{needs}
 use lib.Ieee.{ofBits, round, neg}
 use Rattle.base.specs.Single.{decimal, minusDecimal}
 use Rattle.base.specs.Ranges.{latitudeCheck}
-use Rattle.base.proofs.Refusals.{by-test}
+use Rattle.base.proofs.verdicts.Refusals.{by-test}
 use Rattle.base.proofs.ranges.latitude_check.Statement.{statement}
 use Rattle.base.proofs.ranges.latitude_check.Tie as tie
 

@@ -1,9 +1,9 @@
--- The ends of the range are the decimals, by computation.
+-- `longitude_check` is `longitudeCheck`: the ends of the range are the decimals, by computation.
 use borrow.Author.Needs.{needs}
 use lib.Ieee.{ofBits, round, neg}
 use Rattle.base.specs.Single.{decimal, minusDecimal}
 use Rattle.base.specs.Ranges.{longitudeCheck}
-use Rattle.base.proofs.Refusals.{by-test}
+use Rattle.base.proofs.verdicts.Refusals.{by-test}
 use Rattle.base.proofs.ranges.longitude_check.Statement.{statement}
 use Rattle.base.proofs.ranges.longitude_check.Tie as tie
 

@@ -1,7 +1,7 @@
--- By the verdict on the test.
+-- `month_check` is `monthCheck`, by what `is_month` and `refuse_unless` ensure.
 use borrow.Author.Needs.{needs}
 use Rattle.base.specs.Ranges.{monthCheck}
-use Rattle.base.proofs.Refusals.{by-test}
+use Rattle.base.proofs.verdicts.Refusals.{by-test}
 use Rattle.base.proofs.ranges.month_check.Statement.{statement}
 use Rattle.base.proofs.ranges.month_check.Tie as tie
 

@@ -1,4 +1,4 @@
--- By the test.
+-- `refuse_unless` is `refuseUnless`, by whether the test is true.
 use Rattle.base.proofs.refusal.refuse_unless.Statement.{statement}
 use Rattle.base.proofs.refusal.refuse_unless.Tie as tie
 

@@ -1,4 +1,4 @@
--- By the first verdict.
+-- `then` is `_then_`, by the first verdict's two cases.
 use borrow.Author.Needs.{needs}
 use mathlib.Core.Path.{sym, ap}
 use Rattle.base.specs.declared.refusal.Verdict.{Verdict}

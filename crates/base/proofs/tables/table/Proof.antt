@@ -1,10 +1,11 @@
--- An accepted table lies within the file that holds it, so that the part can be taken; a refused one gives the part of no bytes at 0.
+-- `table` is the part `tablePart` of the file that holds it, by the verdict: an accepted table lies
+-- within that file, and a refused one gives no bytes at 0.
 use borrow.Author.Needs.{needs}
 use mathlib.Core.Path.{refl, sym, _∙_}
 use native.Mathlib.Omega.{arith}
-use Rattle.base.proofs.Records.{part-of}
-use Rattle.base.proofs.Walks.{accepted-length}
-use Rattle.base.proofs.Parts.{TableThere, Placed, placed, table-known, table-part, table-none, file-none, file-f2, file-month}
+use Rattle.base.proofs.layout.Records.{part-of}
+use Rattle.base.proofs.layout.Walks.{accepted-length}
+use Rattle.base.proofs.layout.Parts.{TableThere, Placed, placed, table-known, table-part, table-none, file-none, file-f2, file-month}
 use Rattle.base.proofs.tables.table.Statement.{statement}
 use Rattle.base.proofs.tables.table.Tie as tie
 

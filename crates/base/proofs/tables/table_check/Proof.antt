@@ -1,7 +1,7 @@
--- By the three tests, in their order.
+-- `table_check` is `tableCheck`, by the number, the record's length and the walk, in this order.
 use borrow.Author.Needs.{needs}
 use mathlib.Core.Path.{sym, _∙_}
-use Rattle.base.proofs.Parts.{table-high, table-short, table-walk}
+use Rattle.base.proofs.layout.Parts.{table-high, table-short, table-walk}
 use Rattle.base.proofs.tables.table_check.Statement.{statement}
 use Rattle.base.proofs.tables.table_check.Tie as tie
 

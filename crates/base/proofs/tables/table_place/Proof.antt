@@ -1,12 +1,13 @@
--- The source's rows are the parts' starts and sizes, by computation over the whole table; a reading of one is a reading of the other.
+-- `table_place` is start and size of `partOf`: the source's rows are those of the parts, by
+-- computation over the whole table.
 use borrow.Author.Needs.{needs}
 use mathlib.Core.Path.{_≡_, sym, ap, _∙_}
 use mathlib.Core.List.{List, [], _∷_, map}
 use Prim.Native.Nat.{ℕ}
 use lib.ListN.{getD, List·getD-map}
 use Rattle.base.specs.MonthFile.{Part}
-use Rattle.base.specs.Tables.{numbered, absent, bytesIn, partOf}
-use Rattle.base.proofs.Parts.{no-part}
+use Rattle.base.specs.Tables.{numbered, noSuchTable, bytesIn, partOf}
+use Rattle.base.proofs.layout.Parts.{no-part}
 use Rattle.base.proofs.tables.table_place.Statement.{statement}
 use Rattle.base.proofs.tables.table_place.Tie as tie
 
@@ -22,7 +23,7 @@ rows = map row (map bytesIn numbered)
 
 of-rows : (k : ℕ) → partOf k ≡ of-row (getD rows k [])
 unfolding partOf
-of-rows k = sym (List·getD-map bytesIn numbered k absent) ∙ List·getD-map of-row rows k []
+of-rows k = sym (List·getD-map bytesIn numbered k noSuchTable) ∙ List·getD-map of-row rows k []
 
 returns : tie.Need-returns
 returns c =

@@ -1,4 +1,4 @@
--- The bits are the word's.
+-- `float` is `floatAt`: the bits are the word's, by what `word` and `float32` ensure.
 use borrow.Author.Needs.{needs}
 use mathlib.Core.Path.{_∙_, ap}
 use lib.Ieee.{binary32, ofBits}

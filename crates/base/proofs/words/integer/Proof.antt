@@ -1,4 +1,4 @@
--- The number is the word, as it is signed.
+-- `integer` is `integerAt`: the number is the word, signed, by what `word` and `signed` ensure.
 use borrow.Author.Needs.{needs}
 use mathlib.Core.Path.{_∙_, ap}
 use mir.Facts.{toZ-ofZ}

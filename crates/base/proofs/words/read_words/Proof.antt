@@ -1,12 +1,12 @@
--- The array is filled with the words, all of it.
+-- `read_words` fills the array with the words. The loop's invariant: the first i are filled.
 use borrow.Author.Needs.{needs}
 use Prim.Native.Nat.{ℕ, _+_, _*_, _≤_, _-_}
-use mathlib.Core.Path.{_≡_, refl, sym, _∙_}
+use mathlib.Core.Path.{_≡_, refl, sym}
 use native.Mathlib.Omega.{arith}
 use lib.ListN.{length}
 use Rattle.base.specs.Fill.{fill}
 use Rattle.base.specs.Words.{wordAt}
-use Rattle.base.proofs.Fills.{fill-first, fill-all}
+use Rattle.base.proofs.lists.Fills.{fill-first, filled}
 use Rattle.base.proofs.words.read_words.Statement.{statement}
 use Rattle.base.proofs.words.read_words.Tie as tie
 
@@ -27,11 +27,7 @@ loop-again c =
     (search needs, search needs, rw (c .whole-word .ensures, so-far) (sym (fill-first _ _ _)))
 
 returns : tie.Need-returns Inv-loop μ-loop
-returns c =
-    let l = c .before .loop in
-    let a = c .before .before .before .before .args in
-    let e : l .i ≡ length (a .out .now) = omega arith in
-    (rw e at (l .inv .2)) ∙ fill-all _ _ _ refl
+returns c = filled _ _ (c .before .loop .inv .2) (omega arith)
 
 pub read-words-spec : {M : Type 1} → statement M
 read-words-spec =

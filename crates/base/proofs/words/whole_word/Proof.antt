@@ -1,4 +1,4 @@
--- The four bytes are there, and the definition reads the same.
+-- `whole_word` is `wordAt`: the four bytes are there, and the definition reads the same.
 use borrow.Author.Needs.{needs}
 use native.Mathlib.Omega.{arith}
 use Rattle.base.specs.Words.{wordAt}

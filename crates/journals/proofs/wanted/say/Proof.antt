@@ -1,4 +1,4 @@
--- `say` is safe and ends.
+-- `say` is safe and ends: i rises at each turn, up to the text's length.
 use borrow.Author.Needs.{needs}
 use Prim.Native.Nat.{_≤_, _-_}
 use lib.ListN.{length}

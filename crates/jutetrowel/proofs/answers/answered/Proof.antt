@@ -1,4 +1,4 @@
--- Number and place of the verdict.
+-- `answered` is `answerOf`: number and place are those of the verdict.
 use borrow.Author.Needs.{needs}
 use Rattle.jutetrowel.specs.Answers.{answerOf}
 use Rattle.jutetrowel.proofs.answers.answered.Statement.{statement}

@@ -1,4 +1,4 @@
--- Number and place of the refusal.
+-- `no_span` is the span of a refusal: its number and place beside an empty part.
 use borrow.Author.Needs.{needs}
 use Rattle.jutetrowel.specs.Answers.{spanOf}
 use Rattle.jutetrowel.proofs.answers.no_span.Statement.{statement}

@@ -1,4 +1,4 @@
--- Number and place of the showing.
+-- `numbers_of` is `shownNumbers`: number and place of what `shown_as` gives.
 use borrow.Author.Needs.{needs}
 use mathlib.Core.Path.{ap}
 use Rattle.jutetrowel.specs.declared.answers.Showing.{Showing}

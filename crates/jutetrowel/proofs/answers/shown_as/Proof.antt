@@ -1,4 +1,4 @@
--- By the answer's case.
+-- `shown_as` is `showingOf`, by whether the showing gives points or a refusal.
 use borrow.Author.Needs.{needs}
 use mathlib.Core.Path.{sym, ap, _∙_}
 use Rattle.jutetrowel.specs.Answers.{showingOf}

@@ -1,12 +1,12 @@
--- The clock of these numbers.
+-- `jt_cngtim_to_universal` answers `movedOf` of its numbers: what `cngtim` ensures, in `clock_of`.
 use borrow.Author.Needs.{needs}
 use mathlib.Core.Path.{ap, _∙_}
-use Rattle.jutetrowel.specs.Clocks.{clockOf}
+use Rattle.jutetrowel.specs.Clocks.{clockAnswer}
 use Rattle.jutetrowel.proofs.clocks.jt_cngtim_to_universal.Statement.{statement}
 use Rattle.jutetrowel.proofs.clocks.jt_cngtim_to_universal.Tie as tie
 
 returns : tie.Need-returns
-returns c = c .clock-of .ensures ∙ ap clockOf (c .before .cngtim .ensures)
+returns c = c .clock-of .ensures ∙ ap clockAnswer (c .before .cngtim .ensures)
 
 pub jt-cngtim-to-universal-spec : {M : Type 1} → statement M
 jt-cngtim-to-universal-spec =

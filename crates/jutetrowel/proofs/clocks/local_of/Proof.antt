@@ -1,23 +1,23 @@
--- By the answer's case.
+-- `local_of` is `localAnswer`, by whether there is a time or a refusal.
 use borrow.Author.Needs.{needs}
 use mathlib.Core.Path.{sym, ap, _∙_}
 use lib.Ieee.{binary32, ofBits, round}
 use Rattle.base.specs.Single.{decimal}
-use Rattle.jutetrowel.specs.Clocks.{localOf}
+use Rattle.jutetrowel.specs.Clocks.{localAnswer}
 use Rattle.jutetrowel.proofs.clocks.local_of.Statement.{statement}
 use Rattle.jutetrowel.proofs.clocks.local_of.Tie as tie
 
 returns : tie.Need-returns
-unfolding localOf
-returns c = sym (ap localOf (c .before .local .given .1))
+unfolding localAnswer
+returns c = sym (ap localAnswer (c .before .local .given .1))
 
 returns-2 : tie.Need-returns-2
-unfolding localOf decimal round ofBits
+unfolding localAnswer decimal round ofBits
 returns-2 c =
     let n = c .before .number .ensures in
     let p = c .place .ensures in
     (λ t. record { time = ofBits binary32 0; number = n t; place = p t })
-    ∙ sym (ap localOf (c .before .before .before .local2 .given .1))
+    ∙ sym (ap localAnswer (c .before .before .before .local2 .given .1))
 
 pub local-of-spec : {M : Type 1} → statement M
 local-of-spec =

@@ -1,4 +1,5 @@
--- The call that was made, which reads no files.
+-- `jt_begin` is `Made` of a begin: what `made` ensures, for any source, since a begin reads no
+-- files.
 use borrow.Author.Needs.{needs}
 use Rattle.worksheet.specs.Journal.{step}
 use Rattle.jutetrowel.specs.Calls.{wordsLeft}

@@ -1,4 +1,5 @@
--- The call that was made, which reads no files.
+-- `jt_cancel` is `Made` of a cancel: what `made` ensures, for any source, since a cancel reads no
+-- files.
 use borrow.Author.Needs.{needs}
 use Rattle.worksheet.specs.Journal.{step}
 use Rattle.jutetrowel.specs.Calls.{wordsLeft}

@@ -1,8 +1,8 @@
--- The change that was made, with these numbers.
+-- `jt_change_factors` is `Made` of the change to these factors: what `made` ensures (`changed`).
 use borrow.Author.Needs.{needs}
 use mathlib.Core.Path.{ap}
 use Rattle.worksheet.specs.declared.inputs.Edit.the-variants.{Psc}
-use Rattle.jutetrowel.proofs.Crossed.{changed}
+use Rattle.jutetrowel.proofs.crossing.Crossed.{changed}
 use Rattle.jutetrowel.proofs.desks.jt_change_factors.Statement.{statement}
 use Rattle.jutetrowel.proofs.desks.jt_change_factors.Tie as tie
 

@@ -1,8 +1,8 @@
--- The change that was made, with these numbers.
+-- `jt_change_path` is `Made` of the change to this route: what `made` ensures (`changed`).
 use borrow.Author.Needs.{needs}
 use mathlib.Core.Path.{ap}
 use Rattle.worksheet.specs.declared.inputs.Edit.the-variants.{Path}
-use Rattle.jutetrowel.proofs.Crossed.{changed}
+use Rattle.jutetrowel.proofs.crossing.Crossed.{changed}
 use Rattle.jutetrowel.proofs.desks.jt_change_path.Statement.{statement}
 use Rattle.jutetrowel.proofs.desks.jt_change_path.Tie as tie
 

@@ -1,7 +1,8 @@
--- The change that was made, with these numbers.
+-- `jt_change_sunspot` is `Made` of the change to this sunspot number: what `made` ensures
+-- (`changed`).
 use borrow.Author.Needs.{needs}
 use mathlib.Core.Path.{refl}
-use Rattle.jutetrowel.proofs.Crossed.{changed}
+use Rattle.jutetrowel.proofs.crossing.Crossed.{changed}
 use Rattle.jutetrowel.proofs.desks.jt_change_sunspot.Statement.{statement}
 use Rattle.jutetrowel.proofs.desks.jt_change_sunspot.Tie as tie
 

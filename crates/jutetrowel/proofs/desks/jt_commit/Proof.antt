@@ -1,4 +1,5 @@
--- The call that was made, which reads no files.
+-- `jt_commit` is `Made` of a commit: what `made` ensures, for any source, since a commit reads no
+-- files.
 use borrow.Author.Needs.{needs}
 use Rattle.worksheet.specs.Journal.{step}
 use Rattle.jutetrowel.specs.Calls.{wordsLeft}

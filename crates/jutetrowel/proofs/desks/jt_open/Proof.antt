@@ -1,4 +1,4 @@
--- The outcome of the words, settled.
+-- `jt_open` answers and leaves what `openedOf` of the words gives: the outcome, settled.
 use borrow.Author.Needs.{needs}
 use mathlib.Core.Path.{ap, _∙_}
 use Rattle.worksheet.specs.declared.desks.Outcome.{Outcome}

@@ -1,4 +1,5 @@
--- The showing of the worksheet that the words hold.
+-- `jt_show` is the step of a showing of the worksheet that the words hold, by what `load` and
+-- `show` ensure.
 use borrow.Author.Needs.{needs}
 use mathlib.Core.Path.{ap, _∙_}
 use Rattle.worksheet.specs.Showing.{showOf, showBuffer}

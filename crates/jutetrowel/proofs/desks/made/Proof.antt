@@ -1,4 +1,5 @@
--- The step of the worksheet that the words hold, by what was handed back of it.
+-- `made` is the step of the worksheet that the words hold, by whether `make` hands back a verdict
+-- or a showing.
 use borrow.Author.Needs.{needs}
 use mathlib.Core.List.{[]}
 use mathlib.Core.Path.{ap, _∙_}
@@ -8,7 +9,7 @@ use Rattle.worksheet.specs.Journal.{step}
 use Rattle.worksheet.specs.Calls.{called, nextOf}
 use Rattle.jutetrowel.specs.Words.{worksheetOf}
 use Rattle.jutetrowel.specs.Calls.{wordsLeft}
-use Rattle.jutetrowel.proofs.Crossed.{told-crosses, shown-crosses}
+use Rattle.jutetrowel.proofs.crossing.Crossed.{told-crosses, shown-crosses}
 use Rattle.jutetrowel.proofs.desks.made.Statement.{statement}
 use Rattle.jutetrowel.proofs.desks.made.Tie as tie
 

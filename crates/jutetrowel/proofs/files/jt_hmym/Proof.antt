@@ -1,4 +1,4 @@
--- The verdict becomes a number and a place.
+-- `jt_hmym` is `hmym`, its verdict answered as a number and a place.
 use borrow.Author.Needs.{needs}
 use mathlib.Core.Path.{ap, _∙_}
 use Rattle.jutetrowel.specs.Answers.{answerOf}

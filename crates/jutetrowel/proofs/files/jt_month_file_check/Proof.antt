@@ -1,4 +1,4 @@
--- By the check's answer.
+-- `jt_month_file_check` is `month_file_check`, its verdict answered as a number and a place.
 use borrow.Author.Needs.{needs}
 use mathlib.Core.Path.{ap, _∙_}
 use Rattle.jutetrowel.specs.Answers.{answerOf}

@@ -1,9 +1,10 @@
--- By the check: an accepted month has its part from the first byte of its record.
+-- `jt_month_record` is the span of `monthPart`, by the check: an accepted month has its part from
+-- the first byte of its record.
 use borrow.Author.Needs.{needs}
 use mathlib.Core.Path.{sym, ap, _∙_}
 use native.Mathlib.Omega.{arith}
 use Rattle.base.specs.MonthFile.{emptyPart, monthStart, monthRecordCheck}
-use Rattle.base.proofs.Records.{MonthThere, month-known, month-part, month-none}
+use Rattle.base.proofs.layout.Records.{MonthThere, month-known, month-part, month-none}
 use Rattle.base.specs.declared.refusal.Verdict.{Verdict}
 use Rattle.jutetrowel.specs.Answers.{spanOf}
 use Rattle.jutetrowel.proofs.files.jt_month_record.Statement.{statement}

@@ -1,9 +1,9 @@
--- By the check: an accepted table has its number's part.
+-- `jt_table` is the span of `tablePart`, by the check: an accepted table has its number's part.
 use borrow.Author.Needs.{needs}
 use mathlib.Core.Path.{sym, ap, _∙_}
 use Rattle.base.specs.MonthFile.{emptyPart}
 use Rattle.base.specs.Tables.{partOf, tableCheck}
-use Rattle.base.proofs.Parts.{table-part, table-none}
+use Rattle.base.proofs.layout.Parts.{table-part, table-none}
 use Rattle.base.specs.declared.refusal.Verdict.{Verdict}
 use Rattle.jutetrowel.specs.Answers.{spanOf}
 use Rattle.jutetrowel.proofs.files.jt_table.Statement.{statement}

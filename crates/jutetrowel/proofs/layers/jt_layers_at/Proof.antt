@@ -1,4 +1,5 @@
--- The fields become inputs and a place, and the layers numbers.
+-- `jt_layers_at` is `layersAtOf` of its numbers: they become inputs and a place, and the layers
+-- numbers.
 use borrow.Author.Needs.{needs}
 use Rattle.jutetrowel.proofs.layers.jt_layers_at.Statement.{statement}
 use Rattle.jutetrowel.proofs.layers.jt_layers_at.Tie as tie

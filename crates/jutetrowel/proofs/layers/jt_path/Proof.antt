@@ -1,4 +1,4 @@
--- The ends become degrees, and the path numbers.
+-- `jt_path` is `pathOf` of its numbers: the ends become degrees, and the path numbers.
 use borrow.Author.Needs.{needs}
 use Rattle.jutetrowel.proofs.layers.jt_path.Statement.{statement}
 use Rattle.jutetrowel.proofs.layers.jt_path.Tie as tie

@@ -1,4 +1,4 @@
--- Number and place of the verdict, and the fields.
+-- `layers_as` is `layersAs`: number and place of the verdict, and the fields as they are.
 use borrow.Author.Needs.{needs}
 use Rattle.jutetrowel.specs.Layers.{layersAs}
 use Rattle.jutetrowel.proofs.layers.layers_as.Statement.{statement}

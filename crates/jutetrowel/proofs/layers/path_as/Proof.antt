@@ -1,4 +1,4 @@
--- Field by field, three of them by a call.
+-- `path_as` is `measuredOf`, field by field, three of them by a call.
 use borrow.Author.Needs.{needs}
 use Rattle.jutetrowel.specs.Layers.{measuredOf}
 use Rattle.jutetrowel.proofs.layers.path_as.Statement.{statement}

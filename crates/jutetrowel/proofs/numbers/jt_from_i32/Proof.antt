@@ -1,4 +1,5 @@
--- `jt_from_i32` is `from_i32`.
+-- `jt_from_i32` is the `f32` of its number, as `from_i32` ensures: an `i32` is read back as the
+-- number that it holds.
 use borrow.Author.Needs.{needs}
 use mathlib.Core.Path.{ap, _∙_}
 use lib.Ieee.{binary32, ofInt}

@@ -1,15 +1,15 @@
--- The fields become inputs, and the answer a struct.
+-- `jt_figures` is `drawnOf` of its numbers: they become inputs, and the answer a struct.
 use borrow.Author.Needs.{needs}
 use mathlib.Core.Path.{_≡_, ap, _∙_}
 use Rattle.maps.specs.declared.inputs.Inputs.{Inputs}
 use Rattle.worksheet.specs.Showing.{pair, drawnOf, drawnBuffer}
 use Rattle.jutetrowel.specs.Answers.{showingOf}
-use Rattle.jutetrowel.specs.Fields.{inputsOf}
+use Rattle.jutetrowel.specs.Fields.{inputsTyped}
 use Rattle.jutetrowel.proofs.sheets.jt_figures.Statement.{statement}
 use Rattle.jutetrowel.proofs.sheets.jt_figures.Tie as tie
 
 returns : tie.Need-returns
-unfolding inputsOf
+unfolding inputsTyped
 returns c =
     let d = c .before .before .before .drawn .ensures in
     let p = c .before .before .before .before .before in

@@ -1,4 +1,5 @@
--- The showing of the worksheet that the words open.
+-- `jt_sheet` is the step of a showing of the worksheet that the words open, by what `opened` and
+-- `show` ensure.
 use borrow.Author.Needs.{needs}
 use mathlib.Core.Path.{ap, _∙_}
 use Rattle.worksheet.specs.declared.desks.Outcome.{Outcome}

@@ -1,4 +1,4 @@
--- The words are filled with the others one by one.
+-- `copy` fills the words with the others. The loop's invariant: the first k are filled.
 use borrow.Author.Needs.{needs}
 use mathlib.Core.Path.{_≡_, refl, sym, ap, _∙_}
 use mathlib.Core.List.{List}
@@ -6,7 +6,7 @@ use Prim.Native.Nat.{ℕ, _+_, _≤_, _-_}
 use native.Mathlib.Omega.{arith}
 use lib.ListN.{length, set}
 use Rattle.base.specs.Fill.{fill}
-use Rattle.base.proofs.Fills.{fill-next}
+use Rattle.base.proofs.lists.Fills.{fill-next}
 use Rattle.jutetrowel.specs.Words.{wordIn}
 use Rattle.jutetrowel.proofs.words.copy.Statement.{statement}
 use Rattle.jutetrowel.proofs.words.copy.Tie as tie

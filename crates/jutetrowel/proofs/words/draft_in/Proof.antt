@@ -1,8 +1,8 @@
--- By the set's first word.
+-- `draft_in` is `draftIn`, by the set's first word.
 use borrow.Author.Needs.{needs}
 use borrow.Author.Tests.{eq-eqb, ne-eqb}
 use mathlib.Core.Path.{sym, ap, _∙_}
-use Rattle.base.proofs.Picks.{cond-true, cond-false}
+use Rattle.base.proofs.verdicts.Picks.{cond-true, cond-false}
 use Rattle.worksheet.specs.declared.desks.Draft.the-variants.{Fresh, Stale}
 use Rattle.jutetrowel.specs.Words.{draftIn}
 use Rattle.jutetrowel.proofs.words.draft_in.Statement.{statement}

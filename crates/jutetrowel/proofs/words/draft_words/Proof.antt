@@ -1,4 +1,4 @@
--- By the draft.
+-- `draft_words` is `draftWords`, by the draft's case.
 use borrow.Author.Needs.{needs}
 use mathlib.Core.Path.{sym, ap, _∙_}
 use Rattle.jutetrowel.specs.Words.{draftWords}

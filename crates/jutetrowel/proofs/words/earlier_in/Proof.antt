@@ -1,8 +1,8 @@
--- By the set's first word.
+-- `earlier_in` is `earlierIn`, by the set's first word.
 use borrow.Author.Needs.{needs}
 use borrow.Author.Tests.{eq-eqb, ne-eqb}
 use mathlib.Core.Path.{sym, ap, _∙_}
-use Rattle.base.proofs.Picks.{cond-true, cond-false}
+use Rattle.base.proofs.verdicts.Picks.{cond-true, cond-false}
 use Rattle.worksheet.specs.declared.desks.Earlier.the-variants.{Set}
 use Rattle.jutetrowel.specs.Words.{earlierIn}
 use Rattle.jutetrowel.proofs.words.earlier_in.Statement.{statement}

@@ -1,4 +1,4 @@
--- By whether there is one.
+-- `earlier_words` is `earlierWords`, by whether there is an earlier set.
 use borrow.Author.Needs.{needs}
 use mathlib.Core.Path.{sym, ap, _∙_}
 use Rattle.jutetrowel.specs.Words.{earlierWords}

@@ -1,4 +1,4 @@
--- The set's 14 words, copied and read.
+-- `inputs_in` is `inputsIn`: the set's 14 words, copied and read.
 use borrow.Author.Needs.{needs}
 use mathlib.Core.List.{List}
 use mathlib.Core.Path.{ap, _∙_}
@@ -6,7 +6,7 @@ use Prim.Native.Nat.{ℕ}
 use lib.ListN.{getD}
 use Rattle.maps.specs.Inputs.{inputsFrom}
 use Rattle.jutetrowel.specs.Words.{inputsIn}
-use Rattle.jutetrowel.proofs.Stored.{fields-read}
+use Rattle.jutetrowel.proofs.crossing.Stored.{fields-read}
 use Rattle.jutetrowel.proofs.words.inputs_in.Statement.{statement}
 use Rattle.jutetrowel.proofs.words.inputs_in.Tie as tie
 

@@ -1,4 +1,4 @@
--- Set by set.
+-- `load` is `worksheetOf`, set by set.
 use borrow.Author.Needs.{needs}
 use Rattle.jutetrowel.specs.Words.{worksheetOf}
 use Rattle.jutetrowel.proofs.words.load.Statement.{statement}

@@ -1,4 +1,4 @@
--- What the set is, and the words of the fields copied behind it.
+-- `set_words` is `setWords`: what the set is, and the words of the fields copied behind it.
 use borrow.Author.Needs.{needs}
 use mathlib.Core.List.{List}
 use mathlib.Core.Path.{ap, _∙_}
@@ -6,7 +6,7 @@ use Prim.Native.Nat.{ℕ, _+_}
 use lib.ListN.{replicate}
 use Rattle.base.specs.Fill.{fill}
 use Rattle.jutetrowel.specs.Words.{wordIn}
-use Rattle.jutetrowel.proofs.Stored.{set-written}
+use Rattle.jutetrowel.proofs.crossing.Stored.{set-written}
 use Rattle.jutetrowel.proofs.words.set_words.Statement.{statement}
 use Rattle.jutetrowel.proofs.words.set_words.Tie as tie
 

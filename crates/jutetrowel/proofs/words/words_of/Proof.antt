@@ -1,6 +1,6 @@
--- The six sets, copied one after the other, are appended.
+-- `words_of` is `sheetWords`: the six sets, copied one after the other, are appended.
 use borrow.Author.Needs.{needs}
-use Rattle.jutetrowel.proofs.Stored.{six-sets}
+use Rattle.jutetrowel.proofs.crossing.Stored.{six-sets}
 use Rattle.jutetrowel.proofs.words.words_of.Statement.{statement}
 use Rattle.jutetrowel.proofs.words.words_of.Tie as tie
 

@@ -1,8 +1,8 @@
--- By the digit's size.
+-- `glyph` is `glyphOf`, by whether the digit is below 10.
 use borrow.Author.Needs.{needs}
 use borrow.Author.Tests.{lt-ltb, le-ltb}
 use mathlib.Core.Path.{sym}
-use Rattle.base.proofs.Picks.{cond-true, cond-false}
+use Rattle.base.proofs.verdicts.Picks.{cond-true, cond-false}
 use Rattle.listing.specs.Answer.{glyphOf}
 use Rattle.listing.proofs.answer.glyph.Statement.{statement}
 use Rattle.listing.proofs.answer.glyph.Tie as tie

@@ -1,4 +1,4 @@
--- Digit by digit.
+-- `hex` is `hexOf`, digit by digit.
 use borrow.Author.Needs.{needs}
 use Rattle.listing.specs.Answer.{hexOf}
 use Rattle.listing.proofs.answer.hex.Statement.{statement}

@@ -1,10 +1,10 @@
--- Word, number, line feed, and the lines.
+-- `points_text` puts `pointsText`: word, number, line feed and the lines, joined, which fit.
 use borrow.Author.Needs.{needs}
 use native.Mathlib.Omega.{arith}
 use Rattle.listing.specs.Answer.{pointsText}
-use Rattle.listing.proofs.HexLines.{length-lines}
-use Rattle.listing.proofs.Places.{at-most-10}
-use Rattle.listing.proofs.Puts.{joined, counts}
+use Rattle.listing.proofs.pieces.HexLines.{length-lines}
+use Rattle.listing.proofs.digits.Places.{at-most-10}
+use Rattle.listing.proofs.pieces.Puts.{joined, counts}
 use Rattle.listing.proofs.answer.points_text.Statement.{statement}
 use Rattle.listing.proofs.answer.points_text.Tie as tie
 

@@ -1,10 +1,10 @@
--- The digits, then the line feed.
+-- `put_line` puts `lineOf`: the eight digits and the line feed, joined.
 use borrow.Author.Needs.{needs}
 use mathlib.Core.Path.{ap, _∙_}
 use native.Mathlib.Omega.{arith}
 use Rattle.listing.specs.Answer.{hexOf, lineOf}
-use Rattle.listing.proofs.HexLines.{length-line}
-use Rattle.listing.proofs.Puts.{put-as, joined}
+use Rattle.listing.proofs.pieces.HexLines.{length-line}
+use Rattle.listing.proofs.pieces.Puts.{put-as, joined}
 use Rattle.listing.proofs.answer.put_line.Statement.{statement}
 use Rattle.listing.proofs.answer.put_line.Tie as tie
 

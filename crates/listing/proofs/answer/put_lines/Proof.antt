@@ -1,11 +1,12 @@
--- What is owed after k turns are the lines from number k on.
+-- `put_lines` puts `linesOf`. The loop's invariant: what is owed after k turns are the lines from
+-- number k on.
 use borrow.Author.Needs.{needs}
 use Prim.Native.Nat.{_+_, _≤_, _-_}
 use lib.ListN.{length, getD, drop}
 use lib.Ieee.{nan}
 use Rattle.listing.specs.Answer.{lineOf, linesOf}
-use Rattle.listing.proofs.HexLines.{lines-from, no-lines}
-use Rattle.listing.proofs.Puts.{Owed, owing, renamed, paid, room, settled}
+use Rattle.listing.proofs.pieces.HexLines.{lines-from, no-lines}
+use Rattle.listing.proofs.pieces.Puts.{Owed, owing, renamed, paid, room, settled}
 use Rattle.listing.proofs.answer.put_lines.Statement.{statement}
 use Rattle.listing.proofs.answer.put_lines.Tie as tie
 

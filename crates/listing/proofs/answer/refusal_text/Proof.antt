@@ -1,11 +1,11 @@
--- Word, number, blank, place, line feed.
+-- `refusal_text` puts `refusalText`: word, number, blank, place and line feed, joined, which fit.
 use borrow.Author.Needs.{needs}
 use mathlib.Core.Path.{ap}
 use native.Mathlib.Omega.{arith}
 use Rattle.listing.specs.Text.{decimalOf}
 use Rattle.listing.specs.Answer.{refusalText}
-use Rattle.listing.proofs.Places.{at-most-20}
-use Rattle.listing.proofs.Puts.{put-as, joined, counts}
+use Rattle.listing.proofs.digits.Places.{at-most-20}
+use Rattle.listing.proofs.pieces.Puts.{put-as, joined, counts}
 use Rattle.listing.proofs.answer.refusal_text.Statement.{statement}
 use Rattle.listing.proofs.answer.refusal_text.Tie as tie
 

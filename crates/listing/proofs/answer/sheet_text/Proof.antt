@@ -1,11 +1,11 @@
--- By what a showing gives.
+-- `sheet_text` puts `sheetText`, by whether the showing gives points or a refusal.
 use borrow.Author.Needs.{needs}
 use mathlib.Core.Path.{sym, ap, _∙_}
 use native.Mathlib.Omega.{arith}
 use Rattle.maps.specs.declared.figures.Shown.{Shown}
 use Rattle.listing.specs.Answer.{sheetText}
-use Rattle.listing.proofs.HexLines.{length-lines}
-use Rattle.listing.proofs.Puts.{counts}
+use Rattle.listing.proofs.pieces.HexLines.{length-lines}
+use Rattle.listing.proofs.pieces.Puts.{counts}
 use Rattle.listing.proofs.answer.sheet_text.Statement.{statement}
 use Rattle.listing.proofs.answer.sheet_text.Tie as tie
 

@@ -1,4 +1,4 @@
--- By what a showing gives.
+-- `shown_text` puts `shownText`, by whether the showing gives points or a refusal.
 use borrow.Author.Needs.{needs}
 use mathlib.Core.Path.{sym, ap, _∙_}
 use Rattle.maps.specs.declared.figures.Shown.{Shown}

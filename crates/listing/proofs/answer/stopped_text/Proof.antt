@@ -1,9 +1,9 @@
--- Words, number, line feed.
+-- `stopped_text` puts `stoppedText`: words, number and line feed, joined, which fit.
 use borrow.Author.Needs.{needs}
 use native.Mathlib.Omega.{arith}
 use Rattle.listing.specs.Answer.{stoppedText}
-use Rattle.listing.proofs.Places.{at-most-20}
-use Rattle.listing.proofs.Puts.{joined, counts}
+use Rattle.listing.proofs.digits.Places.{at-most-20}
+use Rattle.listing.proofs.pieces.Puts.{joined, counts}
 use Rattle.listing.proofs.answer.stopped_text.Statement.{statement}
 use Rattle.listing.proofs.answer.stopped_text.Tie as tie
 

@@ -1,9 +1,9 @@
--- By the verdict.
+-- `verdict_text` puts `verdictText`, by the verdict.
 use borrow.Author.Needs.{needs}
 use mathlib.Core.Path.{sym, ap, _∙_}
 use native.Mathlib.Omega.{arith}
 use Rattle.listing.specs.Answer.{verdictText}
-use Rattle.listing.proofs.Puts.{counts}
+use Rattle.listing.proofs.pieces.Puts.{counts}
 use Rattle.listing.proofs.answer.verdict_text.Statement.{statement}
 use Rattle.listing.proofs.answer.verdict_text.Tie as tie
 

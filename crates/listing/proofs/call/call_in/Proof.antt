@@ -1,4 +1,5 @@
--- By the operation's number: each arm is its row of the table of calls, and a number that has no arm is 0 or past the table's end.
+-- `call_in` is `callIn`, by the operation's number: each arm is its row of the table of calls, and
+-- a number that has no arm is 0 or past the table's end.
 use borrow.Author.Needs.{needs}
 use mathlib.Core.Path.{_≡_, sym, ap, _∙_}
 use mathlib.Core.List.{List}

@@ -1,4 +1,4 @@
--- The desk's word and the edit.
+-- `change_in` is `changeIn`: the desk's word and the edit.
 use borrow.Author.Needs.{needs}
 use Rattle.listing.specs.Calls.{changeIn}
 use Rattle.listing.proofs.call.change_in.Statement.{statement}

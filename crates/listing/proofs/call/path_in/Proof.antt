@@ -1,4 +1,4 @@
--- Field by field.
+-- `path_in` is `pathEdit`, field by field.
 use borrow.Author.Needs.{needs}
 use Rattle.listing.specs.Calls.{pathEdit}
 use Rattle.listing.proofs.call.path_in.Statement.{statement}

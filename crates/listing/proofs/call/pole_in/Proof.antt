@@ -1,4 +1,4 @@
--- Field by field.
+-- `pole_in` is `poleEdit`, field by field.
 use borrow.Author.Needs.{needs}
 use Rattle.listing.specs.Calls.{poleEdit}
 use Rattle.listing.proofs.call.pole_in.Statement.{statement}

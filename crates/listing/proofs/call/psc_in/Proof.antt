@@ -1,4 +1,4 @@
--- Field by field.
+-- `psc_in` is `pscEdit`, field by field.
 use borrow.Author.Needs.{needs}
 use Rattle.listing.specs.Calls.{pscEdit}
 use Rattle.listing.proofs.call.psc_in.Statement.{statement}

@@ -1,4 +1,5 @@
--- The source's sizes are those of the table of calls, by computation over the whole table; so is that none is above 24.
+-- The source's sizes are those of the table of calls, by computation over the whole table; so is
+-- that none is above 24.
 use borrow.Author.Needs.{needs}
 use mathlib.Core.Path.{sym, ap}
 use mathlib.Core.Bool.{Bool}
@@ -7,7 +8,7 @@ use Prim.Native.Nat.{ℕ, _*_}
 use native.Mathlib.Omega.{arith}
 use lib.Dec.{leb, leb→le}
 use lib.ListN.{getD, List·getD-map, List·getD-eq-default}
-use Rattle.base.proofs.Entries.{at as entry}
+use Rattle.base.proofs.lists.Entries.{at as entry}
 use Rattle.listing.specs.Calls.{Operation, unknown, operations, sizeOf}
 use Rattle.listing.proofs.call.size_of.Statement.{statement}
 use Rattle.listing.proofs.call.size_of.Tie as tie

@@ -1,10 +1,11 @@
--- The last factor of two goes to the nearest.
+-- `halved` is n over 2^s to the nearest: n over all factors of two but the last, halved to the
+-- nearest.
 use borrow.Author.Needs.{needs}
 use mathlib.Core.Path.{sym, ap, _∙_}
 use Prim.Native.Nat.{ℕ, _+_, _/_, _%_, _^_}
 use native.Mathlib.Omega.{arith}
 use Rattle.listing.specs.Decimal.{nearestOf}
-use Rattle.listing.proofs.Quotients.{nearest-none, to-nearest}
+use Rattle.listing.proofs.digits.Quotients.{nearest-none, to-nearest}
 use Rattle.listing.proofs.decimal.halved.Statement.{statement}
 use Rattle.listing.proofs.decimal.halved.Tie as tie
 

@@ -1,7 +1,7 @@
--- By whether there is a digit here, and whether there is one after it.
+-- `leading` is `leadingOf`, by whether there is a digit here, and whether there is one after it.
 use borrow.Author.Needs.{needs}
 use mathlib.Core.Path.{sym, _∙_}
-use Rattle.base.proofs.Picks.{cond-true, cond-false}
+use Rattle.base.proofs.verdicts.Picks.{cond-true, cond-false}
 use Rattle.listing.specs.Decimal.{leadingOf}
 use Rattle.listing.proofs.decimal.leading.Statement.{statement}
 use Rattle.listing.proofs.decimal.leading.Tie as tie

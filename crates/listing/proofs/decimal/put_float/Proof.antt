@@ -1,11 +1,12 @@
--- The fields are those of the float's bits, which are read back as the float.
+-- `put_float` puts `decimalText`: the fields are those of the float's bits, which are read back as
+-- the float.
 use borrow.Author.Needs.{needs}
 use mathlib.Core.Path.{ap, _∙_}
 use Prim.Native.Nat.{ℕ}
 use lib.Ieee.{binary32, ofBits}
-use Rattle.base.proofs.Patterns.{read-back}
+use Rattle.base.proofs.rounding.Patterns.{read-back}
 use Rattle.listing.specs.Decimal.{decimalText}
-use Rattle.listing.proofs.Puts.{put-as}
+use Rattle.listing.proofs.pieces.Puts.{put-as}
 use Rattle.listing.proofs.decimal.put_float.Statement.{statement}
 use Rattle.listing.proofs.decimal.put_float.Tie as tie
 

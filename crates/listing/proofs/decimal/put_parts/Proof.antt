@@ -1,13 +1,13 @@
--- By the exponent's field.
+-- `put_parts` puts `decimalText` of the float with these fields, by the exponent's field.
 use borrow.Author.Needs.{needs}
 use mathlib.Core.Path.{_≡_, sym, ap, _∙_}
 use Prim.Native.Nat.{ℕ}
 use native.Mathlib.Omega.{arith}
 use lib.Ieee.{binary32, ofFields}
-use Rattle.base.proofs.Picks.{cond-true, cond-false}
+use Rattle.base.proofs.verdicts.Picks.{cond-true, cond-false}
 use Rattle.listing.specs.Decimal.{decimalText}
-use Rattle.listing.proofs.Puts.{put-as}
-use Rattle.listing.proofs.Values.{large, no-number, infinite}
+use Rattle.listing.proofs.pieces.Puts.{put-as}
+use Rattle.listing.proofs.digits.Values.{large, no-number, infinite}
 use Rattle.listing.proofs.decimal.put_parts.Statement.{statement}
 use Rattle.listing.proofs.decimal.put_parts.Tie as tie
 

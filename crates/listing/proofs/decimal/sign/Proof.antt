@@ -1,16 +1,16 @@
--- By the flag.
+-- `sign` is `signText`, by the flag.
 use mathlib.Core.Path.{sym}
-use Rattle.base.proofs.Picks.{cond-true, cond-false}
-use Rattle.listing.specs.Decimal.{signOf}
+use Rattle.base.proofs.verdicts.Picks.{cond-true, cond-false}
+use Rattle.listing.specs.Decimal.{signText}
 use Rattle.listing.proofs.decimal.sign.Statement.{statement}
 use Rattle.listing.proofs.decimal.sign.Tie as tie
 
 returns : tie.Need-returns
-unfolding signOf
+unfolding signText
 returns c = sym (cond-true _ _ (c .if1 .taken))
 
 returns-2 : tie.Need-returns-2
-unfolding signOf
+unfolding signText
 returns-2 c = sym (cond-false _ _ (c .if1 .left))
 
 pub sign-spec : {M : Type 1} → statement M

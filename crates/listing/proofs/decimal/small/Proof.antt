@@ -1,11 +1,12 @@
--- By whether there is a leading one.
+-- `small` is `decimalText` of a float below 2^24, by whether it has a leading one that its bits do
+-- not hold.
 use borrow.Author.Needs.{needs}
 use mathlib.Core.Path.{sym, ap, _∙_}
 use Prim.Native.Nat.{ℕ}
 use native.Mathlib.Omega.{arith}
 use lib.Ieee.{binary32, ofFields}
 use Rattle.listing.specs.Decimal.{textOf, decimalText}
-use Rattle.listing.proofs.Values.{lowest, middle}
+use Rattle.listing.proofs.digits.Values.{lowest, middle}
 use Rattle.listing.proofs.decimal.small.Statement.{statement}
 use Rattle.listing.proofs.decimal.small.Tie as tie
 

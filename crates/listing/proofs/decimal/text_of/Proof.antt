@@ -1,4 +1,4 @@
--- Place by place.
+-- `text_of` is `textOf`, place by place.
 use borrow.Author.Needs.{needs}
 use Rattle.listing.specs.Decimal.{textOf}
 use Rattle.listing.proofs.decimal.text_of.Statement.{statement}

@@ -1,7 +1,7 @@
 -- The source's names are those of the rows of specs/Page.antt, by computation over the whole table.
 use borrow.Author.Needs.{needs}
 use Rattle.listing.specs.Page.{nameText}
-use Rattle.listing.proofs.Rows.{name-at}
+use Rattle.listing.proofs.pieces.Rows.{name-at}
 use Rattle.listing.proofs.page.name.Statement.{statement}
 use Rattle.listing.proofs.page.name.Tie as tie
 

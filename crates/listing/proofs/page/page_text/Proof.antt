@@ -1,9 +1,9 @@
--- Fields, path, points.
+-- `page_text` puts `pageText`: fields, path and points, joined, which fit.
 use borrow.Author.Needs.{needs}
 use native.Mathlib.Omega.{arith}
 use Rattle.listing.specs.Page.{pageText}
-use Rattle.listing.proofs.Puts.{joined, counts}
-use Rattle.listing.proofs.Rows.{length-fields, length-rows, length-points}
+use Rattle.listing.proofs.pieces.Puts.{joined, counts}
+use Rattle.listing.proofs.pieces.Rows.{length-fields, length-rows, length-points}
 use Rattle.listing.proofs.page.page_text.Statement.{statement}
 use Rattle.listing.proofs.page.page_text.Tie as tie
 

@@ -1,10 +1,10 @@
--- Word, number, line feed, and the lines.
+-- `put_point` puts `pointText`: word, number, line feed and the lines, joined, which fit.
 use borrow.Author.Needs.{needs}
 use Prim.Native.Nat.{_+_}
 use native.Mathlib.Omega.{arith}
 use Rattle.listing.specs.Page.{pointText}
-use Rattle.listing.proofs.Places.{at-most-20}
-use Rattle.listing.proofs.Puts.{joined}
+use Rattle.listing.proofs.digits.Places.{at-most-20}
+use Rattle.listing.proofs.pieces.Puts.{joined}
 use Rattle.listing.proofs.page.put_point.Statement.{statement}
 use Rattle.listing.proofs.page.put_point.Tie as tie
 

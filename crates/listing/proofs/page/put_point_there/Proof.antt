@@ -1,10 +1,10 @@
--- By whether the point is there.
+-- `put_point_there` puts `thereText`, by whether the point is there.
 use borrow.Author.Needs.{needs}
 use borrow.Author.Tests.{lt-ltb, le-ltb}
 use mathlib.Core.Path.{sym}
-use Rattle.base.proofs.Picks.{cond-true, cond-false}
+use Rattle.base.proofs.verdicts.Picks.{cond-true, cond-false}
 use Rattle.listing.specs.Page.{thereText}
-use Rattle.listing.proofs.Puts.{put-as, nothing}
+use Rattle.listing.proofs.pieces.Puts.{put-as, nothing}
 use Rattle.listing.proofs.page.put_point_there.Statement.{statement}
 use Rattle.listing.proofs.page.put_point_there.Tie as tie
 

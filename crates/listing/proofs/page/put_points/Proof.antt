@@ -1,12 +1,12 @@
--- After p turns the first p points stand there.
+-- `put_points` puts the five points. The loop's invariant: after p turns the first p stand there.
 use borrow.Author.Needs.{needs}
 use mathlib.Core.Path.{_≡_, subst}
 use Prim.Native.Nat.{ℕ, _≤_, _-_}
 use native.Mathlib.Omega.{arith}
 use Rattle.listing.specs.Text.{Put}
 use Rattle.listing.specs.Page.{firstPoints}
-use Rattle.listing.proofs.Puts.{put-as, joined}
-use Rattle.listing.proofs.Rows.{no-points, next-point, length-points}
+use Rattle.listing.proofs.pieces.Puts.{put-as, joined}
+use Rattle.listing.proofs.pieces.Rows.{no-points, next-point, length-points}
 use Rattle.listing.proofs.page.put_points.Statement.{statement}
 use Rattle.listing.proofs.page.put_points.Tie as tie
 

@@ -1,9 +1,9 @@
--- Name, number, unit, line feed.
+-- `put_row` puts `rowText`: name, number, unit and line feed, joined, which fit.
 use borrow.Author.Needs.{needs}
 use native.Mathlib.Omega.{arith}
 use Rattle.listing.specs.Page.{rowText}
-use Rattle.listing.proofs.Puts.{put-as, joined}
-use Rattle.listing.proofs.Rows.{length-unit, length-value}
+use Rattle.listing.proofs.pieces.Puts.{put-as, joined}
+use Rattle.listing.proofs.pieces.Rows.{length-unit, length-value}
 use Rattle.listing.proofs.page.put_row.Statement.{statement}
 use Rattle.listing.proofs.page.put_row.Tie as tie
 

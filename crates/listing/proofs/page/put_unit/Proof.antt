@@ -1,10 +1,10 @@
--- By whether the first letter is a blank.
+-- `put_unit` puts `unitIn`, by whether the first letter is a blank.
 use borrow.Author.Needs.{needs}
 use borrow.Author.Tests.{eq-eqb, ne-eqb}
 use mathlib.Core.Path.{sym}
-use Rattle.base.proofs.Picks.{cond-true, cond-false}
+use Rattle.base.proofs.verdicts.Picks.{cond-true, cond-false}
 use Rattle.listing.specs.Page.{unitIn}
-use Rattle.listing.proofs.Puts.{put-as, joined, nothing}
+use Rattle.listing.proofs.pieces.Puts.{put-as, joined, nothing}
 use Rattle.listing.proofs.page.put_unit.Statement.{statement}
 use Rattle.listing.proofs.page.put_unit.Tie as tie
 

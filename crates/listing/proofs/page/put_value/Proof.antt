@@ -1,11 +1,11 @@
--- Decimals, two blanks, bits.
+-- `put_value` puts `valueText`: decimals, two blanks and bits, joined, which fit.
 use borrow.Author.Needs.{needs}
 use mathlib.Core.Path.{ap, _∙_}
 use native.Mathlib.Omega.{arith}
 use Rattle.listing.specs.Answer.{hexOf}
 use Rattle.listing.specs.Page.{valueText}
-use Rattle.listing.proofs.Puts.{put-as, joined}
-use Rattle.listing.proofs.Values.{length-decimal}
+use Rattle.listing.proofs.pieces.Puts.{put-as, joined}
+use Rattle.listing.proofs.digits.Values.{length-decimal}
 use Rattle.listing.proofs.page.put_value.Statement.{statement}
 use Rattle.listing.proofs.page.put_value.Tie as tie
 

@@ -1,12 +1,13 @@
--- What is owed after k letters is the word in what follows them.
+-- `put_word` puts `lettersIn`. The loop's invariant: what is owed after k letters is the word in
+-- what follows them.
 use borrow.Author.Needs.{needs}
 use mathlib.Core.List.{[], _∷_}
 use Prim.Native.Nat.{_+_, _≤_, _-_}
 use native.Mathlib.Omega.{arith}
 use lib.ListN.{length, getD, drop}
 use Rattle.listing.specs.Page.{lettersIn}
-use Rattle.listing.proofs.Puts.{Owed, owing, renamed, paid, room, settled}
-use Rattle.listing.proofs.Rows.{word-next, word-end, word-none, length-word}
+use Rattle.listing.proofs.pieces.Puts.{Owed, owing, renamed, paid, room, settled}
+use Rattle.listing.proofs.pieces.Rows.{word-next, word-end, word-none, length-word}
 use Rattle.listing.proofs.page.put_word.Statement.{statement}
 use Rattle.listing.proofs.page.put_word.Tie as tie
 

@@ -1,6 +1,6 @@
 -- The source's units are those of the rows of specs/Page.antt, by computation over the whole table.
 use borrow.Author.Needs.{needs}
-use Rattle.listing.proofs.Rows.{unit-at}
+use Rattle.listing.proofs.pieces.Rows.{unit-at}
 use Rattle.listing.proofs.page.unit.Statement.{statement}
 use Rattle.listing.proofs.page.unit.Tie as tie
 

@@ -1,4 +1,4 @@
--- What the showing of the opened worksheet gives, as a page.
+-- `page_answer` puts `pageAnswer`: what the showing of the opened worksheet gives, as a page.
 use borrow.Author.Needs.{needs}
 use mathlib.Core.Path.{_≡_, ap, ap₂, _∙_}
 use mathlib.Core.List.{List}

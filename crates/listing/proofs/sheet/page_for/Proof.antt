@@ -1,4 +1,4 @@
--- By what the showing gives.
+-- `page_for` puts `pageFor`, by whether the showing gives points or a refusal.
 use borrow.Author.Needs.{needs}
 use mathlib.Core.Path.{sym, ap, _∙_}
 use Rattle.maps.specs.declared.figures.Shown.{Shown}

@@ -1,4 +1,4 @@
--- The line of the refusal, which is short, put first.
+-- `put_refusal` puts `refusalText`: the line of the refusal, which is short, put first.
 use borrow.Author.Needs.{needs}
 use mathlib.Core.Path.{_≡_, ap, _∙_}
 use native.Mathlib.Omega.{arith}
@@ -8,8 +8,8 @@ use lib.ListN.{length, length-append}
 use Rattle.base.specs.declared.refusal.Refusal.{Refusal}
 use Rattle.base.specs.Refusal.{reportOf}
 use Rattle.listing.specs.Answer.{refusalText}
-use Rattle.listing.proofs.Places.{at-most-20}
-use Rattle.listing.proofs.Puts.{counts}
+use Rattle.listing.proofs.digits.Places.{at-most-20}
+use Rattle.listing.proofs.pieces.Puts.{counts}
 use Rattle.listing.proofs.sheet.put_refusal.Statement.{statement}
 use Rattle.listing.proofs.sheet.put_refusal.Tie as tie
 

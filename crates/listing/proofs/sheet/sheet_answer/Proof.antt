@@ -1,4 +1,4 @@
--- What the showing of the opened worksheet gives, as text.
+-- `sheet_answer` puts `sheetAnswer`: what the showing of the opened worksheet gives, as text.
 use borrow.Author.Needs.{needs}
 use mathlib.Core.Path.{_≡_, ap, ap₂, _∙_}
 use mathlib.Core.List.{List}

@@ -1,4 +1,4 @@
--- The last digit of the quotient.
+-- `digit` is `digitOf`: the last digit of the quotient.
 use borrow.Author.Needs.{needs}
 use mathlib.Core.Path.{ap}
 use Prim.Native.Nat.{ℕ, _+_, _%_}

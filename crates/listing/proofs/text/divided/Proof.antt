@@ -1,9 +1,10 @@
--- What is left to divide by stays owed: n over b to the power of the turns left is n over the whole power from the start.
+-- `divided` is n over b^k. The loop's invariant: n over b to the power of the turns left is n over
+-- the whole power from the start.
 use borrow.Author.Needs.{needs}
 use mathlib.Core.Path.{_≡_, refl, sym, ap, _∙_}
 use Prim.Native.Nat.{ℕ, _/_, _^_, _≤_}
 use native.Mathlib.Omega.{arith}
-use Rattle.listing.proofs.Quotients.{by-none, by-one-more}
+use Rattle.listing.proofs.digits.Quotients.{by-none, by-one-more}
 use Rattle.listing.proofs.text.divided.Statement.{statement}
 use Rattle.listing.proofs.text.divided.Tie as tie
 

@@ -1,9 +1,9 @@
--- By whether the place is the lowest.
+-- `has_digit` is `hasDigit`, by whether the place is the lowest.
 use borrow.Author.Needs.{needs}
 use borrow.Author.Tests.{eq-eqb, ne-eqb}
 use mathlib.Core.Path.{sym, ap, _∙_}
 use lib.Dec.{ltb}
-use Rattle.base.proofs.Picks.{cond-true, cond-false}
+use Rattle.base.proofs.verdicts.Picks.{cond-true, cond-false}
 use Rattle.listing.specs.Text.{hasDigit}
 use Rattle.listing.proofs.text.has_digit.Statement.{statement}
 use Rattle.listing.proofs.text.has_digit.Tie as tie

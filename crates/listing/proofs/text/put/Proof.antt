@@ -1,10 +1,11 @@
--- Byte by byte: at every turn the buffer is as it was but for the first bytes of the piece.
+-- `put` puts the piece byte by byte. The loop's invariant: the buffer is as it was but for the
+-- first bytes of the piece.
 use borrow.Author.Needs.{needs}
 use mathlib.Core.Path.{_≡_, _∙_}
 use Prim.Native.Nat.{_+_, _≤_, _-_}
 use native.Mathlib.Omega.{arith}
 use lib.ListN.{length, getD, length-set}
-use Rattle.listing.proofs.Puts.{begun, begin, go-on, complete}
+use Rattle.listing.proofs.pieces.Puts.{begun, begin, go-on, complete}
 use Rattle.listing.proofs.text.put.Statement.{statement}
 use Rattle.listing.proofs.text.put.Tie as tie
 

@@ -1,10 +1,11 @@
--- What is owed with k places to go are the digits of those.
+-- `put_number` puts `decimalOf`. The loop's invariant: what is owed with k places to go are the
+-- digits of those.
 use borrow.Author.Needs.{needs}
 use Prim.Native.Nat.{_≤_, _-_}
 use native.Mathlib.Omega.{arith}
 use Rattle.listing.specs.Text.{digitAt, digitsBelow, decimalOf}
-use Rattle.listing.proofs.Places.{next-place, no-place}
-use Rattle.listing.proofs.Puts.{Owed, owing, renamed, paid, room, settled}
+use Rattle.listing.proofs.digits.Places.{next-place, no-place}
+use Rattle.listing.proofs.pieces.Puts.{Owed, owing, renamed, paid, room, settled}
 use Rattle.listing.proofs.text.put_number.Statement.{statement}
 use Rattle.listing.proofs.text.put_number.Tie as tie
 

@@ -1,13 +1,13 @@
--- By whether there is a digit.
+-- `put_place` puts `digitAt`, by whether there is a digit.
 use borrow.Author.Needs.{needs}
 use mathlib.Core.Path.{_≡_, sym, ap, _∙_}
 use mathlib.Core.List.{[], _∷_}
 use Prim.Native.Nat.{ℕ}
 use native.Mathlib.Omega.{arith}
 use lib.ListN.{length}
-use Rattle.base.proofs.Picks.{cond-true, cond-false}
+use Rattle.base.proofs.verdicts.Picks.{cond-true, cond-false}
 use Rattle.listing.specs.Text.{digitAt}
-use Rattle.listing.proofs.Puts.{put-as, nothing}
+use Rattle.listing.proofs.pieces.Puts.{put-as, nothing}
 use Rattle.listing.proofs.text.put_place.Statement.{statement}
 use Rattle.listing.proofs.text.put_place.Tie as tie
 

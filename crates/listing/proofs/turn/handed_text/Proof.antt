@@ -1,4 +1,4 @@
--- By the answer's case.
+-- `handed_text` puts `handedText`, by the answer's case.
 use borrow.Author.Needs.{needs}
 use mathlib.Core.Path.{sym, ap, _∙_}
 use Rattle.worksheet.specs.declared.journal.Answer.{Answer}

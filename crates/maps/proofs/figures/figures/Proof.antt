@@ -1,4 +1,5 @@
--- By the verdict: accepted, the tables are those of the files and give every figure; a refusal leaves the buffer.
+-- `figures` answers `shownOf` and leaves `figuresBuffer`, by the verdict: accepted, the tables are
+-- those of the files and give every figure, and a refusal leaves the buffer.
 use borrow.Author.Needs.{needs}
 use mathlib.Core.Path.{_≡_, sym, ap, _∙_}
 use Prim.Native.Nat.{ℕ}
@@ -6,11 +7,11 @@ use Rattle.base.specs.declared.refusal.Verdict.{Verdict}
 use Rattle.base.specs.Refusal.{writtenOver}
 use Rattle.base.specs.Index.{indexOf}
 use Rattle.base.specs.Blend.{cofionOf, hmymOf, fakmapOf}
-use Rattle.base.proofs.Readers.{files-index}
+use Rattle.base.proofs.layout.Readers.{files-index}
 use Rattle.maps.specs.declared.figures.Shown.{Shown}
 use Rattle.maps.specs.declared.figures.Shown.the-variants.{Points}
-use Rattle.maps.specs.Figures.{hourFrom, hourOf, figuresTo, routeOf, figuresOf, answerOf, shownOf, bufferAfter}
-use Rattle.maps.proofs.Checks.{written-is, good-same}
+use Rattle.maps.specs.Figures.{hourFrom, hourOf, figuresTo, sheetPath, figuresOf, pointsOr, shownOf, figuresBuffer}
+use Rattle.maps.proofs.sheet.Checks.{written-is, good-same}
 use Rattle.maps.proofs.figures.figures.Statement.{statement}
 use Rattle.maps.proofs.figures.figures.Tie as tie
 
@@ -21,10 +22,10 @@ fill-in-requires c κs =
     let a = b .before .before .before .before .before .before .before .args in
     let file = a .file .now in
     let e = sym (b .redmap .ensures .0) ∙ d .enum-told .given .1 in
-    (good-same file (files-index (a .f2 .now) file e) (written-is (indexOf file) _ e (b .redmap .ensures .1)), search needs)
+    (good-same file (files-index (a .f2 .now) file e) (written-is (indexOf file) _ e (b .redmap .ensures .1 .0)), search needs)
 
 returns : tie.Need-returns
-unfolding shownOf bufferAfter figuresOf hourOf
+unfolding shownOf figuresBuffer figuresOf hourOf
 returns c =
     let d = c .before .before .before .before .before .before in
     let b = d .before .before in
@@ -33,23 +34,23 @@ returns c =
     let f2 = a .f2 .now in
     let file = a .file .now in
     let e = sym (b .redmap .ensures .0) ∙ d .enum-told .given .1 in
-    let index = written-is (indexOf file) _ e (b .redmap .ensures .1) in
-    let cofion = written-is (cofionOf f2 file (i .ssn)) _ e (b .redmap .ensures .2) in
-    let hmym = written-is (hmymOf file (i .ssn)) _ e (b .redmap .ensures .3) in
-    let fakmap = written-is (fakmapOf file) _ e (b .redmap .ensures .4) in (
-      ap Points (c .fill-in .ensures .0) ∙ sym (ap (λ (v : Verdict). answerOf v (routeOf i .count)) e),
+    let index = written-is (indexOf file) _ e (b .redmap .ensures .1 .0) in
+    let cofion = written-is (cofionOf f2 file (i .ssn)) _ e (b .redmap .ensures .1 .1 .0) in
+    let hmym = written-is (hmymOf file (i .ssn)) _ e (b .redmap .ensures .1 .1 .1 .0) in
+    let fakmap = written-is (fakmapOf file) _ e (b .redmap .ensures .1 .1 .1 .1) in (
+      ap Points (c .fill-in .ensures .0) ∙ sym (ap (λ (v : Verdict). pointsOr v (sheetPath i .count)) e),
       c .fill-in .ensures .1
-          ∙ (λ t. figuresTo (hourFrom file (index t) (cofion t) (hmym t) (fakmap t) i) i (routeOf i) 5)
+          ∙ (λ t. figuresTo (hourFrom file (index t) (cofion t) (hmym t) (fakmap t) i) i (sheetPath i) 5)
           ∙ sym (ap (λ (v : Verdict). writtenOver v (figuresOf f2 file i) (a .out .now)) e),
     )
 
 returns-2 : tie.Need-returns-2
-unfolding shownOf bufferAfter
+unfolding shownOf figuresBuffer
 returns-2 c =
     let b = c .before .before .before in
     let a = b .before .before .before .before .before .before .before .args in
     let e = sym (b .redmap .ensures .0) ∙ c .before .verdict .given .1 in (
-      sym (ap (λ (v : Verdict). answerOf v (routeOf (a .i) .count)) e),
+      sym (ap (λ (v : Verdict). pointsOr v (sheetPath (a .i) .count)) e),
       sym (ap (λ (v : Verdict). writtenOver v (figuresOf (a .f2 .now) (a .file .now) (a .i)) (a .out .now)) e),
     )
 

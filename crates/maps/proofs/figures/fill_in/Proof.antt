@@ -1,4 +1,5 @@
--- What the points share is worked out once, and the figures are put together from it.
+-- `fill_in` answers the path's count and fills the buffer with `figuresTo`, by what its calls
+-- ensure: what the points share is worked out once.
 use borrow.Author.Needs.{needs}
 use mathlib.Core.Path.{_≡_, refl, ap}
 use Rattle.maps.specs.declared.geometry.PathGeometry.{PathGeometry}

@@ -1,4 +1,4 @@
--- The list is written out in the definition's order.
+-- `head` is `headOf`: the list is written out in the definition's order, its last number by a call.
 use borrow.Author.Needs.{needs}
 use mathlib.Core.Path.{_≡_, ap}
 use mathlib.Core.List.{List, [], _∷_}

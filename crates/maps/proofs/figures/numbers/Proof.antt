@@ -1,4 +1,4 @@
--- The list is written out in the definition's order.
+-- `numbers` is `numbersOf`: the list is written out in the definition's order.
 use borrow.Author.Needs.{needs}
 use Rattle.maps.specs.Figures.{numbersOf}
 use Rattle.maps.proofs.figures.numbers.Statement.{statement}

@@ -1,4 +1,5 @@
--- The buffer is filled with the other's elements one by one.
+-- `put` fills the buffer from `at` on with the list, by the loop's invariant that the first k
+-- numbers are put.
 use borrow.Author.Needs.{needs}
 use mathlib.Core.Path.{_≡_, refl, sym, ap, _∙_}
 use mathlib.Core.List.{List}
@@ -7,7 +8,7 @@ use native.Mathlib.Omega.{arith}
 use lib.ListN.{length, getD, set}
 use lib.Ieee.{Float, nan}
 use Rattle.base.specs.Fill.{fill}
-use Rattle.base.proofs.Fills.{fill-next}
+use Rattle.base.proofs.lists.Fills.{fill-next}
 use Rattle.maps.proofs.figures.put.Statement.{statement}
 use Rattle.maps.proofs.figures.put.Tie as tie
 

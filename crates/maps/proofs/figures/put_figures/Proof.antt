@@ -1,4 +1,5 @@
--- Each turn writes one row after those before it, so that at the end the buffer is the figures and nothing else.
+-- `put_figures` fills the buffer with `figuresTo`, by the loop's invariant that the buffer starts
+-- with the path's figures and p rows.
 use borrow.Author.Needs.{needs}
 use mathlib.Core.Path.{_≡_, refl, sym, ap, _∙_}
 use mathlib.Core.List.{List, [], _++_}
@@ -7,13 +8,13 @@ use native.Mathlib.Numerals.{add-one}
 use native.Mathlib.Omega.{arith}
 use lib.ListN.{length}
 use lib.Ieee.{Float}
-use Rattle.base.proofs.Fills.{length-fill}
-use Rattle.base.proofs.Maps.{Starts, start, whole}
+use Rattle.base.proofs.lists.Fills.{length-fill}
+use Rattle.base.proofs.lists.Maps.{Starts, start, whole}
 use Rattle.maps.specs.declared.inputs.Inputs.{Inputs}
 use Rattle.maps.specs.declared.geometry.PathGeometry.{PathGeometry}
-use Rattle.maps.specs.Figures.{Hour, hour, headOf, rowAt, figuresTo}
-use Rattle.maps.proofs.Alone.{row-length}
-use Rattle.maps.proofs.Written.{elements, starts-as, written}
+use Rattle.maps.specs.Figures.{SheetHour, hour, headOf, figureRow, figuresTo}
+use Rattle.maps.proofs.sheet.Alone.{row-length}
+use Rattle.maps.proofs.lists.Written.{elements, starts-as, written}
 use Rattle.maps.proofs.figures.put_figures.Statement.{statement}
 use Rattle.maps.proofs.figures.put_figures.Tie as tie
 
@@ -21,22 +22,22 @@ head-length : (g : PathGeometry) → length (headOf g) ≡ 6
 unfolding headOf
 head-length g = refl
 
-figures-first : (h : Hour) (i : Inputs) (g : PathGeometry) → headOf g ≡ figuresTo h i g 0
+figures-first : (h : SheetHour) (i : Inputs) (g : PathGeometry) → headOf g ≡ figuresTo h i g 0
 unfolding figuresTo
 figures-first h i g = refl
 
-figures-next : (h : Hour) (i : Inputs) (g : PathGeometry) (p : ℕ) → figuresTo h i g p ++ rowAt h i g p ≡ figuresTo h i g (p + 1)
+figures-next : (h : SheetHour) (i : Inputs) (g : PathGeometry) (p : ℕ) → figuresTo h i g p ++ figureRow h i g p ≡ figuresTo h i g (p + 1)
 unfolding figuresTo
 figures-next h i g p = sym (ap (figuresTo h i g) (add-one p))
 
 -- the buffer with one row more, and the room for it
 further :
-    (h : Hour) (i : Inputs) (g : PathGeometry) (p : ℕ) {o : List Float} → p < 5 →
-    Starts (6 + 29 * p + 29) (145 - 29 * (p + 1)) (figuresTo h i g p ++ rowAt h i g p) o →
+    (h : SheetHour) (i : Inputs) (g : PathGeometry) (p : ℕ) {o : List Float} → p < 5 →
+    Starts (6 + 29 * p + 29) (145 - 29 * (p + 1)) (figuresTo h i g p ++ figureRow h i g p) o →
     Starts (6 + 29 * (p + 1)) (145 - 29 * (p + 1)) (figuresTo h i g (p + 1)) o
 further h i g p l t = starts-as (omega arith) refl (figures-next h i g p) t
 
-room : (h : Hour) (i : Inputs) (g : PathGeometry) (p : ℕ) {o : List Float} → p < 5 →
+room : (h : SheetHour) (i : Inputs) (g : PathGeometry) (p : ℕ) {o : List Float} → p < 5 →
     Starts (6 + 29 * p) (145 - 29 * p) (figuresTo h i g p) o → Starts (6 + 29 * p) (29 + (145 - 29 * (p + 1))) (figuresTo h i g p) o
 room h i g p l t = starts-as refl (omega arith) refl t
 
@@ -83,7 +84,7 @@ loop-again c =
     let h = hour (a .ab .now) (a .index .now) (a .m) (a .hmym .now) (a .fakmap .now) in
     let e = c .before .before .put2 .ensures in
     let k = b .before .loop-test .taken in
-    let t = written _ (rowAt h (a .i) (a .g) (l .p)) 29 (b .row .ensures) (row-length h (a .i) (a .g) (l .p)) (room h (a .i) (a .g) (l .p) k (l .inv .2)) e in
+    let t = written _ (figureRow h (a .i) (a .g) (l .p)) 29 (b .row .ensures) (row-length h (a .i) (a .g) (l .p)) (room h (a .i) (a .g) (l .p) k (l .inv .2)) e in
     (search needs, ap length e ∙ length-fill _ _ _ _ ∙ l .inv .1, further h (a .i) (a .g) (l .p) k t)
 
 same-length : tie.Need-same-length Inv-loop μ-loop

@@ -3,7 +3,7 @@ use mathlib.Core.Path.{sym}
 use lib.Ieee.{round, ofBits}
 use Rattle.base.specs.Single.{decimal}
 use Rattle.maps.specs.Geometry.{atLeastMinimum}
-use Rattle.base.proofs.Picks.{cond-true, cond-false}
+use Rattle.base.proofs.verdicts.Picks.{cond-true, cond-false}
 use Rattle.maps.proofs.geometry.at_least_minimum.Statement.{statement}
 use Rattle.maps.proofs.geometry.at_least_minimum.Tie as tie
 

@@ -5,7 +5,7 @@ use lib.Ieee.{round, ofBits}
 use Rattle.base.specs.Single.{decimal}
 use Rattle.base.specs.Constants.{PI}
 use Rattle.maps.specs.Geometry.{circleLongitude}
-use Rattle.base.proofs.Picks.{cond-true, cond-false}
+use Rattle.base.proofs.verdicts.Picks.{cond-true, cond-false}
 use Rattle.maps.proofs.geometry.circle_longitude.Statement.{statement}
 use Rattle.maps.proofs.geometry.circle_longitude.Tie as tie
 

@@ -5,7 +5,7 @@ use borrow.Author.Tests.{eq-eqb, ne-eqb}
 use Rattle.base.specs.Single.{decimal}
 use Rattle.base.specs.Constants.{RZ}
 use Rattle.maps.specs.Geometry.{R1, distancesOf}
-use Rattle.base.proofs.Picks.{cond-true, cond-false}
+use Rattle.base.proofs.verdicts.Picks.{cond-true, cond-false}
 use Rattle.maps.proofs.geometry.distances.Statement.{statement}
 use Rattle.maps.proofs.geometry.distances.Tie as tie
 

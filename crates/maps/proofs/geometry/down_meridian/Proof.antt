@@ -5,7 +5,7 @@ use lib.Ieee.{round, ofBits}
 use Rattle.base.specs.Single.{decimal}
 use Rattle.base.specs.Constants.{PIO2}
 use Rattle.maps.specs.Geometry.{downMeridian}
-use Rattle.base.proofs.Picks.{cond-true, cond-false}
+use Rattle.base.proofs.verdicts.Picks.{cond-true, cond-false}
 use Rattle.maps.proofs.geometry.down_meridian.Statement.{statement}
 use Rattle.maps.proofs.geometry.down_meridian.Tie as tie
 

@@ -4,7 +4,7 @@ use mathlib.Core.Path.{sym, ap, _∙_}
 use lib.Ieee.{round, ofBits}
 use Rattle.base.specs.Single.{decimal}
 use Rattle.maps.specs.Geometry.{endLongitude}
-use Rattle.base.proofs.Picks.{cond-true, cond-false}
+use Rattle.base.proofs.verdicts.Picks.{cond-true, cond-false}
 use Rattle.maps.proofs.geometry.end_longitude.Statement.{statement}
 use Rattle.maps.proofs.geometry.end_longitude.Tie as tie
 

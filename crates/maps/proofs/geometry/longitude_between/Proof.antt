@@ -2,7 +2,7 @@
 use borrow.Author.Needs.{needs}
 use mathlib.Core.Path.{sym, ap, _∙_}
 use Rattle.maps.specs.Geometry.{turnedOf, dlongOf}
-use Rattle.base.proofs.Picks.{cond-true, cond-false}
+use Rattle.base.proofs.verdicts.Picks.{cond-true, cond-false}
 use Rattle.maps.proofs.geometry.longitude_between.Statement.{statement}
 use Rattle.maps.proofs.geometry.longitude_between.Tie as tie
 

@@ -1,10 +1,11 @@
--- `nudged` moves the receiver where both differences are close; each arm rewrites with the tests that led there.
+-- `nudged` moves the receiver where both differences are close; each arm rewrites with the tests
+-- that led there.
 use borrow.Author.Needs.{needs}
 use mathlib.Core.Path.{sym, ap, _∙_}
 use mathlib.Core.Bool.{Bool, _&&_}
 use lib.Ieee.{Float}
 use Rattle.maps.specs.Geometry.{close, nudgeOf, nudgedOf}
-use Rattle.base.proofs.Picks.{cond-true, cond-false}
+use Rattle.base.proofs.verdicts.Picks.{cond-true, cond-false}
 use Rattle.maps.proofs.geometry.nudged.Statement.{statement}
 use Rattle.maps.proofs.geometry.nudged.Tie as tie
 

@@ -1,4 +1,5 @@
--- `on_circle` hands the sine and the cosine of the new latitude on, which the definition's place has again.
+-- `on_circle` hands the sine and the cosine of the new latitude on, which the definition's place
+-- has again.
 use borrow.Author.Needs.{needs}
 use Rattle.maps.specs.Geometry.{placeOf, onCircle}
 use Rattle.maps.proofs.geometry.on_circle.Statement.{statement}

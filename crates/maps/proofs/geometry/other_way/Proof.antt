@@ -4,7 +4,7 @@ use lib.Ieee.{round, ofBits}
 use Rattle.base.specs.Single.{decimal}
 use Rattle.base.specs.Constants.{PI2}
 use Rattle.maps.specs.Geometry.{otherWay}
-use Rattle.base.proofs.Picks.{cond-true, cond-false}
+use Rattle.base.proofs.verdicts.Picks.{cond-true, cond-false}
 use Rattle.maps.proofs.geometry.other_way.Statement.{statement}
 use Rattle.maps.proofs.geometry.other_way.Tie as tie
 

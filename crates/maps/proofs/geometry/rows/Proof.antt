@@ -1,11 +1,11 @@
 -- `rows` is the list of its five rows.
 use borrow.Author.Needs.{needs}
-use Rattle.maps.specs.Geometry.{rowAt, rowsOf}
+use Rattle.maps.specs.Geometry.{controlRow, rowsOf}
 use Rattle.maps.proofs.geometry.rows.Statement.{statement}
 use Rattle.maps.proofs.geometry.rows.Tie as tie
 
 returns : tie.Need-returns
-unfolding rowAt rowsOf
+unfolding controlRow rowsOf
 returns c =
     rw (
       c .row5 .ensures,

@@ -1,4 +1,4 @@
--- One word, as a number.
+-- `degrees_in` is `degreesFrom`: one word as a number, by what `float32` ensures.
 use borrow.Author.Needs.{needs}
 use Rattle.maps.proofs.inputs.degrees_in.Statement.{statement}
 use Rattle.maps.proofs.inputs.degrees_in.Tie as tie

@@ -1,4 +1,4 @@
--- Field by field.
+-- `factors_in` is `factorsFrom`, field by field, by what `float32` ensures.
 use borrow.Author.Needs.{needs}
 use Rattle.maps.specs.Inputs.{factorsFrom}
 use Rattle.maps.proofs.inputs.factors_in.Statement.{statement}

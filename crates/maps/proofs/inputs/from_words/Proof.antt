@@ -1,4 +1,4 @@
--- Field by field.
+-- `from_words` is `inputsFrom` of the words, field by field, by what its calls ensure.
 use borrow.Author.Needs.{needs}
 use Rattle.maps.specs.Inputs.{inputsFrom}
 use Rattle.maps.proofs.inputs.from_words.Statement.{statement}

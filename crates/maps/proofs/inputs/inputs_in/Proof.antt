@@ -1,4 +1,4 @@
--- The words of the bytes, read as fields.
+-- `inputs_in` is `inputsFrom` of the bytes' words, by what `words_in` and `from_words` ensure.
 use borrow.Author.Needs.{needs}
 use mathlib.Core.Path.{_≡_, ap, _∙_}
 use mathlib.Core.List.{List}

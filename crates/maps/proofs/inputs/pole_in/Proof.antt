@@ -1,4 +1,4 @@
--- Field by field.
+-- `pole_in` is `poleFrom`, field by field, by what `degrees_in` ensures.
 use borrow.Author.Needs.{needs}
 use Rattle.maps.specs.Inputs.{poleFrom}
 use Rattle.maps.proofs.inputs.pole_in.Statement.{statement}

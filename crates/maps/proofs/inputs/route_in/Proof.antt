@@ -1,4 +1,4 @@
--- Field by field.
+-- `route_in` is `routeFrom`, field by field, by what `degrees_in` ensures.
 use borrow.Author.Needs.{needs}
 use Rattle.maps.specs.Inputs.{routeFrom}
 use Rattle.maps.proofs.inputs.route_in.Statement.{statement}

@@ -1,4 +1,4 @@
--- Word by word.
+-- `to_words` is `fieldWords`, word by word, by what `bits32` ensures.
 use borrow.Author.Needs.{needs}
 use Rattle.maps.specs.Inputs.{fieldWords}
 use Rattle.maps.proofs.inputs.to_words.Statement.{statement}

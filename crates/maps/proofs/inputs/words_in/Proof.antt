@@ -1,4 +1,4 @@
--- Word by word.
+-- `words_in` is `wordsTo` of the bytes' words, word by word, by what `word` ensures.
 use borrow.Author.Needs.{needs}
 use Rattle.maps.specs.Inputs.{wordsTo}
 use Rattle.maps.proofs.inputs.words_in.Statement.{statement}

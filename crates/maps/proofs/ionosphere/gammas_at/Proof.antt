@@ -1,4 +1,5 @@
--- The place's east longitude and cosine, and the maps there.
+-- `gammas_at` is `gammasAt`: the place's east longitude and cosine, and the maps there, by what the
+-- calls ensure.
 use borrow.Author.Needs.{needs}
 use mathlib.Core.Path.{refl}
 use Rattle.maps.specs.Ionosphere.{gammasAt}

@@ -1,14 +1,15 @@
--- The array is written where the files are accepted, from tables that are then theirs.
+-- `hour_maps` answers `filesCheck`, and writes `hourMapsOf` or leaves the array, by the verdict:
+-- accepted, the tables are those of the files.
 use borrow.Author.Needs.{needs}
 use mathlib.Core.Path.{_≡_, sym, ap, _∙_}
 use Rattle.base.specs.declared.refusal.Verdict.{Verdict}
 use Rattle.base.specs.Refusal.{writtenOver}
 use Rattle.base.specs.Index.{indexOf}
 use Rattle.base.specs.Blend.{cofionOf}
-use Rattle.base.proofs.Readers.{files-file, files-index}
+use Rattle.base.proofs.layout.Readers.{files-file, files-index}
 use Rattle.maps.specs.Virtim.{virtimOf}
 use Rattle.maps.specs.Ionosphere.{hourMapsOf}
-use Rattle.maps.proofs.Checks.{written-is, good-same}
+use Rattle.maps.proofs.sheet.Checks.{written-is, good-same}
 use Rattle.maps.proofs.ionosphere.hour_maps.Statement.{statement}
 use Rattle.maps.proofs.ionosphere.hour_maps.Tie as tie
 

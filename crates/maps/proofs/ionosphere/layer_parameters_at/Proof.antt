@@ -1,4 +1,5 @@
--- By the verdict of month and file: where both are accepted, the tables are the file's own.
+-- `layer_parameters_at` is `layersAtOf`, by the verdict of month and file: where both are accepted,
+-- the tables are the file's own.
 use borrow.Author.Needs.{needs}
 use mathlib.Core.Path.{_≡_, sym, ap, _∙_}
 use Rattle.base.specs.declared.refusal.Verdict.{Verdict}
@@ -9,7 +10,7 @@ use Rattle.maps.specs.declared.ionosphere.LayersAt.{LayersAt}
 use Rattle.maps.specs.declared.ionosphere.layers.LayerParams.{LayerParams}
 use Rattle.maps.specs.Layers.{monthlyOf}
 use Rattle.maps.specs.Ionosphere.{layersThere, layersIf, layersAtOf}
-use Rattle.maps.proofs.Checks.{written-is, good-same, layers-index}
+use Rattle.maps.proofs.sheet.Checks.{written-is, good-same, layers-index}
 use Rattle.maps.proofs.ionosphere.layer_parameters_at.Statement.{statement}
 use Rattle.maps.proofs.ionosphere.layer_parameters_at.Tie as tie
 
@@ -19,7 +20,7 @@ layers-there-requires c κs =
     let a = b .before .before .before .before .args in
     let file = a .file .now in
     let e = sym (b .layer-tables .ensures .0) ∙ c .before .before .before .enum-told .given .1 in
-    good-same file (layers-index (a .inputs .month) file e) (written-is (indexOf file) _ e (b .layer-tables .ensures .1))
+    good-same file (layers-index (a .inputs .month) file e) (written-is (indexOf file) _ e (b .layer-tables .ensures .1 .0))
 
 returns : tie.Need-returns
 unfolding layersAtOf
@@ -30,8 +31,8 @@ returns c =
     let file = a .file .now in
     let e = sym (b .layer-tables .ensures .0) ∙ c .before .before .before .before .enum-told .given .1 in
     let m = c .before .before .before .monthly-of .ensures in
-    let index = written-is (indexOf file) _ e (b .layer-tables .ensures .1) in
-    let hmym = written-is (hmymOf file (i .ssn)) _ e (b .layer-tables .ensures .2) in
+    let index = written-is (indexOf file) _ e (b .layer-tables .ensures .1 .0) in
+    let hmym = written-is (hmymOf file (i .ssn)) _ e (b .layer-tables .ensures .1 .1) in
     let there = layersThere i (monthlyOf file (i .month) (i .ssn)) (a .ab .now) (indexOf file) (hmymOf file (i .ssn)) (a .pole) (a .lat) (a .lon) in
     let f : LayerParams → LayersAt = λ (l : LayerParams). record { verdict = Accepted; params = l } in
     ap f (c .layers-there .ensures)

@@ -1,4 +1,5 @@
--- By the month's verdict: where it accepts, the file's own decides and both tables go by it.
+-- `layer_tables` answers `layersCheck`, and fills both tables or leaves them, by the month's
+-- verdict: where it accepts, the file's own decides.
 use borrow.Author.Needs.{needs}
 use mathlib.Core.Path.{_≡_, sym, ap, _∙_}
 use Rattle.base.specs.declared.refusal.Verdict.{Verdict}
@@ -17,10 +18,14 @@ returns c =
     let a = b .before .before .args in
     let file = a .file .now in
     let told = sym (b .month-check .ensures) ∙ c .before .before .before .before .enum-told .given .1 in
-    let e = sym (ap (λ (v : Verdict). v then fileCheck file) told) in (
+    let e = sym (ap (λ (v : Verdict). v then fileCheck file) told) in
+    let index = c .before .before .index .ensures .1 in
+    let hmym = c .hmym .ensures .1 in (
       c .hmym .ensures .0 ∙ e,
-      c .before .before .index .ensures .1 ∙ ap (λ (v : Verdict). writtenOver v (indexOf file) (a .index .now)) e,
-      c .hmym .ensures .1 ∙ ap (λ (v : Verdict). writtenOver v (hmymOf file (a .ssn)) (a .hmym .now)) e,
+      (
+        index ∙ ap (λ (v : Verdict). writtenOver v (indexOf file) (a .index .now)) e,
+        hmym ∙ ap (λ (v : Verdict). writtenOver v (hmymOf file (a .ssn)) (a .hmym .now)) e,
+      ),
     )
 
 returns-2 : tie.Need-returns-2
@@ -32,8 +37,10 @@ returns-2 c =
     let told = sym (b .month-check .ensures) ∙ c .before .verdict .given .1 in
     let e = sym (ap (λ (v : Verdict). v then fileCheck file) told) in (
       e,
-      ap (λ (v : Verdict). writtenOver v (indexOf file) (a .index .now)) e,
-      ap (λ (v : Verdict). writtenOver v (hmymOf file (a .ssn)) (a .hmym .now)) e,
+      (
+        ap (λ (v : Verdict). writtenOver v (indexOf file) (a .index .now)) e,
+        ap (λ (v : Verdict). writtenOver v (hmymOf file (a .ssn)) (a .hmym .now)) e,
+      ),
     )
 
 pub layer-tables-spec : {M : Type 1} → statement M

@@ -1,4 +1,5 @@
--- The same calls as for a control point of a path.
+-- `layers_there` is `layersThere`: the same calls as for a control point of a path are rewritten by
+-- what they ensure.
 use borrow.Author.Needs.{needs}
 use mathlib.Core.Path.{refl}
 use Rattle.maps.specs.Ionosphere.{layersThere}

@@ -1,4 +1,4 @@
--- Every field is written out.
+-- `no_layers` is `noLayers`: every field is written out, and the literal 0.0 is the decimal.
 use borrow.Author.Needs.{needs}
 use mathlib.Core.Path.{refl}
 use lib.Ieee.{round, ofBits}

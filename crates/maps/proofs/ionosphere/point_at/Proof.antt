@@ -1,4 +1,4 @@
--- Every field is written out.
+-- `point_at` is `pointAt`: every field is written out, the geomagnetic latitude by a call.
 use borrow.Author.Needs.{needs}
 use mathlib.Core.Path.{_≡_, ap}
 use lib.Ieee.{round, ofBits}

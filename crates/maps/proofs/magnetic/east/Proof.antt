@@ -3,7 +3,7 @@ use borrow.Author.Needs.{needs}
 use mathlib.Core.Path.{sym, ap, _∙_}
 use lib.Ieee.{round, ofBits}
 use Rattle.base.specs.Single.{_⊕_, decimal}
-use Rattle.base.proofs.Picks.{cond-true, cond-false}
+use Rattle.base.proofs.verdicts.Picks.{cond-true, cond-false}
 use Rattle.maps.specs.Magnetic.{o, eastOf}
 use Rattle.maps.proofs.magnetic.east.Statement.{statement}
 use Rattle.maps.proofs.magnetic.east.Tie as tie

@@ -2,7 +2,7 @@
 use borrow.Author.Needs.{needs}
 use borrow.Author.Tests.{eq-eqb, ne-eqb}
 use mathlib.Core.Path.{sym, _∙_}
-use Rattle.base.proofs.Picks.{cond-true, cond-false}
+use Rattle.base.proofs.verdicts.Picks.{cond-true, cond-false}
 use Rattle.maps.specs.Magnetic.{elementOf}
 use Rattle.maps.proofs.magnetic.element_of.Statement.{statement}
 use Rattle.maps.proofs.magnetic.element_of.Tie as tie

@@ -1,4 +1,5 @@
--- `expansion` is `expansionOf`. The loop's invariant: the two tables and the sums are what the loop of the definition has at n.
+-- `expansion` is `expansionOf`. The loop's invariant: the two tables and the sums are what the loop
+-- of the definition has at n.
 use borrow.Author.Needs.{needs}
 use Prim.Native.Nat.{_≤_, _-_}
 use mathlib.Core.Path.{_≡_, ap}
@@ -8,7 +9,7 @@ use Rattle.base.specs.Single.{decimal}
 use Rattle.maps.specs.declared.magnetic.Field.{Field}
 use Rattle.maps.specs.Loop.{loop}
 use Rattle.maps.specs.Magnetic.{o, State, state, degreeOf, expansionOf}
-use Rattle.maps.proofs.Loops.{loop-start, loop-turn}
+use Rattle.maps.proofs.lists.Loops.{loop-start, loop-turn}
 use Rattle.maps.proofs.magnetic.expansion.Statement.{statement}
 use Rattle.maps.proofs.magnetic.expansion.Tie as tie
 

@@ -4,7 +4,7 @@ use mathlib.Core.Path.{_≡_, sym, ap, _∙_}
 use mathlib.Core.Bool.{true, false}
 use lib.Ieee.{Float, le, round, ofBits}
 use Rattle.base.specs.Single.{decimal}
-use Rattle.base.proofs.Picks.{cond-true, cond-false}
+use Rattle.base.proofs.verdicts.Picks.{cond-true, cond-false}
 use Rattle.maps.specs.Magnetic.{gobOf}
 use Rattle.maps.proofs.magnetic.gob.Statement.{statement}
 use Rattle.maps.proofs.magnetic.gob.Tie as tie

@@ -1,7 +1,8 @@
--- `magfin` is `magfinOf`: its calls are rewritten by what they ensure, and the arrays have the sums of the closed form (`FieldSums`).
+-- `magfin` is `magfinOf`: its calls are rewritten by what they ensure, and the arrays have the sums
+-- of the closed form (`FieldSums`).
 use borrow.Author.Needs.{needs}
 use mathlib.Core.Path.{sym}
-use Rattle.maps.proofs.FieldSums.{magfin-arrays}
+use Rattle.maps.proofs.field.FieldSums.{magfin-arrays}
 use Rattle.maps.proofs.magnetic.magfin.Statement.{statement}
 use Rattle.maps.proofs.magnetic.magfin.Tie as tie
 

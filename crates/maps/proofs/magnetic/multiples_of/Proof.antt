@@ -1,4 +1,5 @@
--- `multiples_of` is `multiplesOf`. The loop's invariant: `v` is what the loop of the definition has at m.
+-- `multiples_of` is `multiplesOf`. The loop's invariant: `v` is what the loop of the definition has
+-- at m.
 use borrow.Author.Needs.{needs}
 use Prim.Native.Nat.{_≤_, _-_}
 use mathlib.Core.Path.{_≡_}
@@ -7,7 +8,7 @@ use lib.Ieee.{round, ofBits}
 use Rattle.base.specs.Single.{decimal}
 use Rattle.maps.specs.Loop.{loop}
 use Rattle.maps.specs.Magnetic.{o, multipleOf, multiplesOf}
-use Rattle.maps.proofs.Loops.{loop-start, loop-turn}
+use Rattle.maps.proofs.lists.Loops.{loop-start, loop-turn}
 use Rattle.maps.proofs.magnetic.multiples_of.Statement.{statement}
 use Rattle.maps.proofs.magnetic.multiples_of.Tie as tie
 

@@ -1,5 +1,6 @@
--- `orders` is `ordersOf`. The loop's invariant: the two tables and the sums are what the loop of the definition has at m. A turn is
--- `orderOf`: its calls are rewritten by what they ensure, the row with them.
+-- `orders` is `ordersOf`. The loop's invariant: the two tables and the sums are what the loop of
+-- the definition has at m. A turn is `orderOf`: its calls are rewritten by what they ensure, the
+-- row with them.
 use borrow.Author.Needs.{needs}
 use Prim.Native.Nat.{ℕ, _+_, _≤_, _-_}
 use mathlib.Core.Path.{_≡_, ap, _∙_}
@@ -8,8 +9,8 @@ use lib.Ieee.{round, ofBits}
 use Rattle.base.specs.Single.{decimal}
 use Rattle.maps.specs.declared.magnetic.Sums.{Sums}
 use Rattle.maps.specs.Loop.{loop}
-use Rattle.maps.specs.Magnetic.{o, State, state, rowOf, orderOf, ordersOf}
-use Rattle.maps.proofs.Loops.{loop-start, loop-turn}
+use Rattle.maps.specs.Magnetic.{o, State, state, tableRow, orderOf, ordersOf}
+use Rattle.maps.proofs.lists.Loops.{loop-start, loop-turn}
 use Rattle.maps.proofs.magnetic.orders.Statement.{statement}
 use Rattle.maps.proofs.magnetic.orders.Tie as tie
 
@@ -23,7 +24,7 @@ loop-holds : tie.Need-loop-holds Inv-loop μ-loop
 loop-holds c = (search needs, loop-start 0 _ _)
 
 loop-again : tie.Need-loop-again Inv-loop μ-loop
-unfolding rowOf orderOf
+unfolding tableRow orderOf
 loop-again c =
     let w = c .before .before .before .before .before .before .before in
     let q = w .before .before .before .before .before in
@@ -36,7 +37,7 @@ returns : tie.Need-returns Inv-loop μ-loop
 returns c = absurd (omega arith)
 
 returns-2 : tie.Need-returns-2 Inv-loop μ-loop
-unfolding rowOf orderOf ordersOf o decimal round ofBits
+unfolding tableRow orderOf ordersOf o decimal round ofBits
 returns-2 c =
     let w = c .before .before .before .before .before .before .before in
     let q = w .before .before .before .before .before in

@@ -1,4 +1,4 @@
--- `blends` is safe and ends.
+-- `blends` is safe and ends: k rises at each turn, up to 15.
 use borrow.Author.Needs.{needs}
 use Prim.Native.Nat.{_≤_, _-_}
 use Rattle.vectors.proofs.files.blends.Statement.{statement}

@@ -1,4 +1,4 @@
--- `cofions` is safe and ends.
+-- `cofions` is safe and ends: k rises at each turn, up to the array's length.
 use borrow.Author.Needs.{needs}
 use Prim.Native.Nat.{_≤_, _-_}
 use Rattle.vectors.proofs.files.cofions.Statement.{statement}

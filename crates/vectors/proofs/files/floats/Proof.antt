@@ -1,4 +1,4 @@
--- `floats` is safe and ends.
+-- `floats` is safe and ends: k rises at each turn, up to n.
 use borrow.Author.Needs.{needs}
 use Prim.Native.Nat.{_≤_, _-_}
 use Rattle.vectors.proofs.files.floats.Statement.{statement}

@@ -1,4 +1,4 @@
--- `heights` is safe and ends.
+-- `heights` is safe and ends: k rises at each turn, up to the array's length.
 use borrow.Author.Needs.{needs}
 use Prim.Native.Nat.{_≤_, _-_}
 use Rattle.vectors.proofs.files.heights.Statement.{statement}

@@ -1,4 +1,4 @@
--- `indexes` is safe and ends.
+-- `indexes` is safe and ends: k rises at each turn, up to 3160.
 use borrow.Author.Needs.{needs}
 use Prim.Native.Nat.{_≤_, _-_}
 use Rattle.vectors.proofs.files.indexes.Statement.{statement}

@@ -1,4 +1,4 @@
--- `integers` is safe and ends.
+-- `integers` is safe and ends: k rises at each turn, up to 60.
 use borrow.Author.Needs.{needs}
 use Prim.Native.Nat.{_≤_, _-_}
 use Rattle.vectors.proofs.files.integers.Statement.{statement}

@@ -1,4 +1,4 @@
--- `records` is safe and ends.
+-- `records` is safe and ends: k rises at each turn, up to 450.
 use borrow.Author.Needs.{needs}
 use Prim.Native.Nat.{_≤_, _-_}
 use Rattle.vectors.proofs.files.records.Statement.{statement}

@@ -1,4 +1,4 @@
--- `walks` is safe and ends.
+-- `walks` is safe and ends: k rises at each turn, up to 2204.
 use borrow.Author.Needs.{needs}
 use Prim.Native.Nat.{_≤_, _-_}
 use Rattle.vectors.proofs.files.walks.Statement.{statement}

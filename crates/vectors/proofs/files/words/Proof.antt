@@ -1,4 +1,4 @@
--- `words` is safe and ends.
+-- `words` is safe and ends: k rises at each turn, up to the eight bodies.
 use borrow.Author.Needs.{needs}
 use Prim.Native.Nat.{_≤_, _-_}
 use Rattle.vectors.proofs.files.words.Statement.{statement}

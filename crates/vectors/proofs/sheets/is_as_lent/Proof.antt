@@ -1,4 +1,4 @@
--- Every need by search; the loop counts to its end.
+-- `is_as_lent` is safe and ends: k rises at each turn, up to the buffer's length.
 use borrow.Author.Needs.{needs}
 use Prim.Native.Nat.{_-_, _≤_}
 use Rattle.vectors.proofs.sheets.is_as_lent.Statement.{statement}

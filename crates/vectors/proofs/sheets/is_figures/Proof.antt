@@ -1,4 +1,4 @@
--- Every need by search; the loop counts to its end.
+-- `is_figures` is safe and ends: k rises at each turn, up to the number of figures.
 use borrow.Author.Needs.{needs}
 use Prim.Native.Nat.{_-_, _≤_}
 use Rattle.vectors.proofs.sheets.is_figures.Statement.{statement}

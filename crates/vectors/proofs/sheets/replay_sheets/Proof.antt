@@ -1,4 +1,4 @@
--- Every need by search; the loop counts to its end.
+-- `replay_sheets` is safe and ends: `left` falls at each turn.
 use borrow.Author.Needs.{needs}
 use Prim.Native.Nat.{_-_, _≤_}
 use Rattle.vectors.proofs.sheets.replay_sheets.Statement.{statement}
@@ -24,6 +24,5 @@ replay-sheets-spec =
     (λ c. search needs)
     (λ c. search needs)
     (λ c. search needs)
-    (λ c κs. search needs)
     (λ c κs. search needs)
     (λ c. search needs))

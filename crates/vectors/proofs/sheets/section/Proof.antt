@@ -1,4 +1,4 @@
--- Every need by search; the loop counts to its end.
+-- `section` is safe and ends: `left` falls at each turn.
 use borrow.Author.Needs.{needs}
 use Prim.Native.Nat.{_-_, _≤_}
 use Rattle.vectors.proofs.sheets.section.Statement.{statement}
@@ -16,9 +16,7 @@ section-spec =
     (tie.spec
     Inv-loop
     μ-loop
-    (λ c. search needs)
     (λ c κs. search needs)
-    (λ c. search needs)
     (λ c κs. search needs)
     (λ c κs. search needs)
     (λ c. search needs)

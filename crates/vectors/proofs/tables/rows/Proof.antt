@@ -1,4 +1,4 @@
--- Every need by search; the loop counts to its end.
+-- `rows` is safe and ends: `left` falls at each turn.
 use borrow.Author.Needs.{needs}
 use Prim.Native.Nat.{_-_, _≤_}
 use Rattle.vectors.proofs.tables.rows.Statement.{statement}

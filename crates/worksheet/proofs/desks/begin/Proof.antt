@@ -1,9 +1,9 @@
--- Check and worksheet are the definition's, call by call.
+-- `begin` is `beginOf`: its check and its worksheet are the definition's, call by call.
 use borrow.Author.Needs.{needs}
 use mathlib.Core.Path.{_∙_, ap, ap₂}
 use Rattle.base.specs.Refusal.{_then_}
 use Rattle.worksheet.specs.Desks.{closedCheck, beginCheck, beginOf}
-use Rattle.worksheet.proofs.Verdicts.{decided-as}
+use Rattle.worksheet.proofs.checks.Verdicts.{decided-as}
 use Rattle.worksheet.proofs.desks.begin.Statement.{statement}
 use Rattle.worksheet.proofs.desks.begin.Tie as tie
 

@@ -1,9 +1,9 @@
--- Check and worksheet are the definition's, call by call.
+-- `cancel` is `cancelOf`: its check and its worksheet are the definition's, call by call.
 use borrow.Author.Needs.{needs}
 use mathlib.Core.Path.{_∙_, ap, ap₂}
 use Rattle.base.specs.Refusal.{_then_}
 use Rattle.worksheet.specs.Desks.{draftCheck, cancelCheck, cancelOf}
-use Rattle.worksheet.proofs.Verdicts.{decided-as}
+use Rattle.worksheet.proofs.checks.Verdicts.{decided-as}
 use Rattle.worksheet.proofs.desks.cancel.Statement.{statement}
 use Rattle.worksheet.proofs.desks.cancel.Tie as tie
 

@@ -1,10 +1,10 @@
--- Check and worksheet are the definition's, call by call.
+-- `change` is `changeOf`: its check and its worksheet are the definition's, call by call.
 use borrow.Author.Needs.{needs}
 use mathlib.Core.Path.{_∙_, ap, ap₂}
 use Rattle.worksheet.specs.declared.desks.Draft.{Draft}
 use Rattle.base.specs.Refusal.{_then_}
 use Rattle.worksheet.specs.Desks.{withDraft, draftCheck, editedDraft, changeCheck, changeOf}
-use Rattle.worksheet.proofs.Verdicts.{decided-as}
+use Rattle.worksheet.proofs.checks.Verdicts.{decided-as}
 use Rattle.worksheet.proofs.desks.change.Statement.{statement}
 use Rattle.worksheet.proofs.desks.change.Tie as tie
 

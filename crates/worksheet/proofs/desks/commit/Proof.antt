@@ -1,4 +1,4 @@
--- Check and worksheet are the definition's, call by call.
+-- `commit` is `commitOf`: its check and its worksheet are the definition's, call by call.
 use borrow.Author.Needs.{needs}
 use mathlib.Core.Path.{_∙_, ap, ap₂}
 use Rattle.maps.specs.declared.inputs.Inputs.{Inputs}
@@ -7,7 +7,7 @@ use Rattle.worksheet.specs.declared.desks.Draft.the-variants.{Closed}
 use Rattle.worksheet.specs.declared.desks.Earlier.the-variants.{Set}
 use Rattle.base.specs.Refusal.{_then_}
 use Rattle.worksheet.specs.Desks.{withDraft, inputsOf, movedTo, draftCheck, freshCheck, commitCheck, commitOf}
-use Rattle.worksheet.proofs.Verdicts.{decided-as}
+use Rattle.worksheet.proofs.checks.Verdicts.{decided-as}
 use Rattle.worksheet.proofs.desks.commit.Statement.{statement}
 use Rattle.worksheet.proofs.desks.commit.Tie as tie
 

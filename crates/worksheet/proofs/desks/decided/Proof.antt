@@ -1,4 +1,4 @@
--- By the verdict.
+-- `decided` is `outcome`, by the verdict's two cases.
 use borrow.Author.Needs.{needs}
 use mathlib.Core.Path.{sym, ap}
 use Rattle.base.specs.declared.refusal.Verdict.{Verdict}

@@ -1,7 +1,7 @@
--- By the verdict on the test.
+-- `desk_check` is `deskCheck`, by what `is_desk` and `refuse_unless` ensure.
 use borrow.Author.Needs.{needs}
 use Rattle.worksheet.specs.Desks.{deskCheck}
-use Rattle.base.proofs.Refusals.{by-test}
+use Rattle.base.proofs.verdicts.Refusals.{by-test}
 use Rattle.worksheet.proofs.desks.desk_check.Statement.{statement}
 use Rattle.worksheet.proofs.desks.desk_check.Tie as tie
 

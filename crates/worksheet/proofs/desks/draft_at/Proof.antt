@@ -1,4 +1,4 @@
--- Test by test, from the last desk.
+-- `draft_at` is `draftAt`, test by test from the last desk, by what `pick` ensures.
 use borrow.Author.Needs.{needs}
 use Rattle.worksheet.specs.Desks.{draftAt}
 use Rattle.worksheet.proofs.desks.draft_at.Statement.{statement}

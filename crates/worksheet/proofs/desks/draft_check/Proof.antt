@@ -1,4 +1,4 @@
--- By the draft.
+-- `draft_check` is `draftCheck`, by the draft's three cases.
 use borrow.Author.Needs.{needs}
 use mathlib.Core.Path.{sym, ap}
 use Rattle.worksheet.specs.Desks.{draftCheck}

@@ -1,4 +1,4 @@
--- By the earlier set.
+-- `earlier_check` is `earlierCheck`, by whether there is an earlier set.
 use borrow.Author.Needs.{needs}
 use mathlib.Core.Path.{sym, ap}
 use Rattle.worksheet.specs.Desks.{earlierCheck}

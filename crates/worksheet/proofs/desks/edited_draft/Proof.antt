@@ -1,4 +1,4 @@
--- By the draft.
+-- `edited_draft` is `editedDraft`, by the draft's three cases, its inputs by what `apply` ensures.
 use borrow.Author.Needs.{needs}
 use mathlib.Core.Path.{sym, ap, _∙_}
 use Rattle.worksheet.specs.declared.desks.Draft.{Draft}

@@ -1,4 +1,4 @@
--- Field by field.
+-- `fresh_sheet` is `freshSheet`, field by field.
 use mathlib.Core.Path.{refl}
 use Rattle.worksheet.specs.Desks.{freshSheet}
 use Rattle.worksheet.proofs.desks.fresh_sheet.Statement.{statement}

@@ -1,4 +1,4 @@
--- By the two tests.
+-- `is_desk` is `isDesk`, by its two tests.
 use borrow.Author.Tests.{le-leb, lt-leb}
 use Rattle.worksheet.proofs.desks.is_desk.Statement.{statement}
 use Rattle.worksheet.proofs.desks.is_desk.Tie as tie

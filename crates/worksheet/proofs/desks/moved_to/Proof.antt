@@ -1,4 +1,4 @@
--- Desk by desk.
+-- `moved_to` is `movedTo`, desk by desk, by what `stale` ensures.
 use borrow.Author.Needs.{needs}
 use Rattle.worksheet.specs.Desks.{movedTo}
 use Rattle.worksheet.proofs.desks.moved_to.Statement.{statement}

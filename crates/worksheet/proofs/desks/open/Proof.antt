@@ -1,4 +1,4 @@
--- The verdict on the inputs decides.
+-- `open` is `openOf`: the verdict on the inputs and a fresh worksheet, by what its calls ensure.
 use borrow.Author.Needs.{needs}
 use Rattle.worksheet.specs.Desks.{openOf}
 use Rattle.worksheet.proofs.desks.open.Statement.{statement}

@@ -1,4 +1,4 @@
--- The inputs of the words, opened.
+-- `opened` is `openedOf`: the inputs of the words, opened, by what `inputs_in` and `open` ensure.
 use borrow.Author.Needs.{needs}
 use mathlib.Core.Path.{ap, _∙_}
 use Rattle.worksheet.specs.Desks.{openOf, openedOf}

@@ -1,4 +1,4 @@
--- By the earlier set.
+-- `set_of` is `setOf`, by whether there is an earlier set.
 use borrow.Author.Needs.{needs}
 use mathlib.Core.Path.{sym, ap}
 use Rattle.worksheet.specs.declared.desks.Earlier.{Earlier}

@@ -1,10 +1,10 @@
--- Check and worksheet are the definition's, call by call.
+-- `take_back` is `takeBackOf`: its check and its worksheet are the definition's, call by call.
 use borrow.Author.Needs.{needs}
 use mathlib.Core.Path.{_∙_, ap}
 use Rattle.maps.specs.declared.inputs.Inputs.{Inputs}
 use Rattle.worksheet.specs.declared.desks.Earlier.the-variants.{Nothing}
 use Rattle.worksheet.specs.Desks.{movedTo, takeBackOf}
-use Rattle.worksheet.proofs.Verdicts.{decided-as}
+use Rattle.worksheet.proofs.checks.Verdicts.{decided-as}
 use Rattle.worksheet.proofs.desks.take_back.Statement.{statement}
 use Rattle.worksheet.proofs.desks.take_back.Tie as tie
 

@@ -1,4 +1,4 @@
--- Desk by desk.
+-- `with_draft` is `withDraft`, desk by desk, by what `pick` ensures.
 use borrow.Author.Needs.{needs}
 use Rattle.worksheet.specs.Desks.{withDraft}
 use Rattle.worksheet.proofs.desks.with_draft.Statement.{statement}

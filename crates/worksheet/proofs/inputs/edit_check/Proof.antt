@@ -1,4 +1,4 @@
--- By the case of the edit.
+-- `edit_check` is `editCheck`, by the edit's five cases, each by what its call ensures.
 use borrow.Author.Needs.{needs}
 use mathlib.Core.Path.{sym, ap, _∙_}
 use Rattle.worksheet.specs.Inputs.{editCheck}

@@ -1,9 +1,9 @@
--- The ends of the range are the decimals, by computation.
+-- `factor_check` is `factorCheck`: the ends of the range are the decimals, by computation.
 use borrow.Author.Needs.{needs}
 use lib.Ieee.{ofBits, round}
 use Rattle.base.specs.Single.{decimal}
 use Rattle.worksheet.specs.Inputs.{factorCheck}
-use Rattle.base.proofs.Refusals.{by-test}
+use Rattle.base.proofs.verdicts.Refusals.{by-test}
 use Rattle.worksheet.proofs.inputs.factor_check.Statement.{statement}
 use Rattle.worksheet.proofs.inputs.factor_check.Tie as tie
 

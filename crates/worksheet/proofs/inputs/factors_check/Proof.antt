@@ -1,4 +1,4 @@
--- Each verdict is its definition's.
+-- `factors_check` is `factorsCheck`: each verdict is its definition's, by what the calls ensure.
 use borrow.Author.Needs.{needs}
 use Rattle.worksheet.specs.Inputs.{factorsCheck}
 use Rattle.worksheet.proofs.inputs.factors_check.Statement.{statement}

@@ -1,8 +1,8 @@
--- A word of at most 1 is 0 or 1.
+-- `flag_check` is `flagCheck`: a word of at most 1 is 0 or 1 (`is-flag`).
 use borrow.Author.Needs.{needs}
 use Rattle.worksheet.specs.Inputs.{flagCheck}
-use Rattle.base.proofs.Refusals.{by-test}
-use Rattle.worksheet.proofs.Verdicts.{is-flag}
+use Rattle.base.proofs.verdicts.Refusals.{by-test}
+use Rattle.worksheet.proofs.checks.Verdicts.{is-flag}
 use Rattle.worksheet.proofs.inputs.flag_check.Statement.{statement}
 use Rattle.worksheet.proofs.inputs.flag_check.Tie as tie
 

@@ -1,4 +1,4 @@
--- Each verdict is its definition's.
+-- `inputs_check` is `inputsCheck`: each verdict is its definition's, by what the calls ensure.
 use borrow.Author.Needs.{needs}
 use Rattle.worksheet.specs.Inputs.{inputsCheck}
 use Rattle.worksheet.proofs.inputs.inputs_check.Statement.{statement}

@@ -1,4 +1,4 @@
--- Each verdict is its definition's.
+-- `pole_check` is `poleCheck`: each verdict is its definition's, by what the calls ensure.
 use borrow.Author.Needs.{needs}
 use Rattle.worksheet.specs.Inputs.{poleCheck}
 use Rattle.worksheet.proofs.inputs.pole_check.Statement.{statement}

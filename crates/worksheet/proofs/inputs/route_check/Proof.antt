@@ -1,4 +1,4 @@
--- Each verdict is its definition's.
+-- `route_check` is `routeCheck`: each verdict is its definition's, by what the calls ensure.
 use borrow.Author.Needs.{needs}
 use Rattle.worksheet.specs.Inputs.{routeCheck}
 use Rattle.worksheet.proofs.inputs.route_check.Statement.{statement}

@@ -1,10 +1,10 @@
--- By the call's case.
+-- `make` is the `step` of its call, answer and buffer, by the call's six cases.
 use borrow.Author.Needs.{needs}
 use mathlib.Core.Path.{refl, ap, _∙_}
 use Rattle.worksheet.specs.declared.desks.Outcome.{Outcome}
 use Rattle.worksheet.specs.Journal.{stepOf, step}
 use Rattle.worksheet.specs.Calls.{nextOf}
-use Rattle.worksheet.proofs.Makings.{told-as, shown-as}
+use Rattle.worksheet.proofs.checks.Makings.{told-as, shown-as}
 use Rattle.worksheet.proofs.journal.make.Statement.{statement}
 use Rattle.worksheet.proofs.journal.make.Tie as tie
 

@@ -1,4 +1,4 @@
--- The verdict and the worksheet, handed on.
+-- `told` is `nextOf` of the outcome's step: the verdict and the worksheet are handed on.
 use mathlib.Core.Path.{refl}
 use Rattle.worksheet.specs.Calls.{nextOf}
 use Rattle.worksheet.proofs.journal.told.Statement.{statement}

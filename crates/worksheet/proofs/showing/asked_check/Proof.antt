@@ -1,10 +1,10 @@
--- By whether the worksheet is asked for.
+-- `asked_check` is `askedCheck`, by whether the worksheet is asked for.
 use borrow.Author.Needs.{needs}
 use mathlib.Core.Path.{_∙_, ap, ap₂}
 use Rattle.base.specs.Refusal.{_then_}
 use Rattle.worksheet.specs.Desks.{draftCheck}
 use Rattle.worksheet.specs.Showing.{askedCheck}
-use Rattle.worksheet.proofs.Showings.{asked-sheet, asked-desk}
+use Rattle.worksheet.proofs.checks.Showings.{asked-sheet, asked-desk}
 use Rattle.worksheet.proofs.showing.asked_check.Statement.{statement}
 use Rattle.worksheet.proofs.showing.asked_check.Tie as tie
 

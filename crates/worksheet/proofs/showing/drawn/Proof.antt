@@ -1,7 +1,8 @@
--- By the buffer's length, and then by what the figures answered.
+-- `drawn` answers `drawnOf` and leaves `drawnBuffer`, by the buffer's length, and then by what the
+-- figures answered.
 use borrow.Author.Needs.{needs}
 use mathlib.Core.Path.{sym, _∙_}
-use Rattle.worksheet.proofs.Showings.{drawn-unfit, drawn-points, drawn-refused}
+use Rattle.worksheet.proofs.checks.Showings.{drawn-unfit, drawn-points, drawn-refused}
 use Rattle.worksheet.proofs.showing.drawn.Statement.{statement}
 use Rattle.worksheet.proofs.showing.drawn.Tie as tie
 

@@ -1,10 +1,10 @@
--- By whether the worksheet is asked for.
+-- `inputs_shown` is `inputsShown`, by whether the worksheet is asked for.
 use borrow.Author.Needs.{needs}
 use mathlib.Core.Path.{_∙_, ap}
 use Rattle.worksheet.specs.declared.desks.Draft.{Draft}
 use Rattle.worksheet.specs.Desks.{inputsOf}
 use Rattle.worksheet.specs.Showing.{inputsShown}
-use Rattle.worksheet.proofs.Showings.{asked-sheet, asked-desk}
+use Rattle.worksheet.proofs.checks.Showings.{asked-sheet, asked-desk}
 use Rattle.worksheet.proofs.showing.inputs_shown.Statement.{statement}
 use Rattle.worksheet.proofs.showing.inputs_shown.Tie as tie
 

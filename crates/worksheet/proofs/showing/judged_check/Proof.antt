@@ -1,4 +1,4 @@
--- The two checks, one after the other.
+-- `judged_check` is `judgedCheck`: the two checks, one after the other, by what the calls ensure.
 use borrow.Author.Needs.{needs}
 use Rattle.worksheet.specs.Showing.{judgedCheck}
 use Rattle.worksheet.proofs.showing.judged_check.Statement.{statement}

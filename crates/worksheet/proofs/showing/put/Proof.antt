@@ -1,4 +1,4 @@
--- The buffer is filled with the figures one by one.
+-- `put` fills the buffer with the figures, by the loop's invariant that the first k are put.
 use borrow.Author.Needs.{needs}
 use mathlib.Core.Path.{_≡_, refl, sym, ap, _∙_}
 use mathlib.Core.List.{List}
@@ -7,8 +7,8 @@ use native.Mathlib.Omega.{arith}
 use lib.ListN.{length, getD, set}
 use lib.Ieee.{Float, nan}
 use Rattle.base.specs.Fill.{fill}
-use Rattle.base.proofs.Fills.{fill-first}
-use Rattle.maps.proofs.Written.{elements}
+use Rattle.base.proofs.lists.Fills.{fill-first}
+use Rattle.maps.proofs.lists.Written.{elements}
 use Rattle.worksheet.proofs.showing.put.Statement.{statement}
 use Rattle.worksheet.proofs.showing.put.Tie as tie
 

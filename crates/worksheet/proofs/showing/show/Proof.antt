@@ -1,6 +1,7 @@
--- By what is judged: refused, or the figures of the inputs shown.
+-- `show` answers `showOf` and leaves `showBuffer`, by what is judged: refused, or the figures of
+-- the inputs shown.
 use borrow.Author.Needs.{needs}
-use Rattle.worksheet.proofs.Showings.{show-refused, show-accepted}
+use Rattle.worksheet.proofs.checks.Showings.{show-refused, show-accepted}
 use Rattle.worksheet.proofs.showing.show.Statement.{statement}
 use Rattle.worksheet.proofs.showing.show.Tie as tie
 

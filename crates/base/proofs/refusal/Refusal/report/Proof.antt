@@ -1,4 +1,5 @@
--- `report` gives what `reportOf` says of each case: each arm is told which constructor the refusal is.
+-- `report` gives what `reportOf` says of each case: each arm is told which constructor the refusal
+-- is.
 use borrow.Author.Needs.{needs}
 use mathlib.Core.Path.{sym, ap}
 use Rattle.base.specs.Refusal.{reportOf}

@@ -1,4 +1,5 @@
--- The pole's literals are the floats nearest to the Rust's digits.
+-- `built_in` is the pole at `poleLat` and `poleLon`: its literals are the floats nearest to the
+-- Rust's digits.
 use mathlib.Core.Path.{refl}
 use lib.Ieee.{round, ofBits, neg}
 use Rattle.base.specs.Single.{decimal, minusDecimal}

@@ -1,4 +1,5 @@
--- Its callees and the literals are the definition's.
+-- `after_shift` is `afterShift`: its calls are rewritten by what they ensure, and the literals are
+-- the decimals.
 use borrow.Author.Needs.{needs}
 use lib.Ieee.{ofBits, round}
 use Rattle.base.specs.Single.{decimal}

@@ -1,11 +1,12 @@
--- Both whole numbers are the definition's, and 23.99999999 is 24.
+-- `cngday_of` is `cngdayOf`: both whole numbers are the definition's (`signed-word`), and the
+-- literals are the decimals.
 use borrow.Author.Needs.{needs}
 use mathlib.Core.Path.{_≡_, _∙_}
 use lib.IntN.{ℤ, _+ℤ_}
 use lib.Ieee.{binary32, ofInt, ofBits, round}
 use Rattle.base.specs.Single.{decimal}
 use Rattle.maps.specs.Clocks.{cngdayOf}
-use Rattle.maps.proofs.WholeSums.{signed-word}
+use Rattle.maps.proofs.sums.WholeSums.{signed-word}
 use Rattle.maps.proofs.ionosphere.clocks.cngday_of.Statement.{statement}
 use Rattle.maps.proofs.ionosphere.clocks.cngday_of.Tie as tie
 

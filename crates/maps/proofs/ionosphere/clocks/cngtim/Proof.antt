@@ -1,4 +1,4 @@
--- Its callees are the definition's.
+-- `cngtim` is `movedOf`: its calls are rewritten by what they ensure.
 use borrow.Author.Needs.{needs}
 use Rattle.maps.specs.Clocks.{movedOf}
 use Rattle.maps.proofs.ionosphere.clocks.cngtim.Statement.{statement}

@@ -1,9 +1,10 @@
--- By whether the longitude is 0; else each callee is its definition.
+-- `cngtim_of` is `cngtimOf`, by whether the longitude is 0: if not, its calls are rewritten by what
+-- they ensure.
 use borrow.Author.Needs.{needs}
 use mathlib.Core.Path.{sym}
 use lib.Ieee.{ofBits, round}
 use Rattle.base.specs.Single.{decimal}
-use Rattle.base.proofs.Picks.{cond-true, cond-false}
+use Rattle.base.proofs.verdicts.Picks.{cond-true, cond-false}
 use Rattle.maps.specs.Clocks.{cngtimOf}
 use Rattle.maps.proofs.ionosphere.clocks.cngtim_of.Statement.{statement}
 use Rattle.maps.proofs.ionosphere.clocks.cngtim_of.Tie as tie

@@ -1,4 +1,4 @@
--- By the direction.
+-- `fisw_of` is `fiswOf`, by the direction's two cases.
 use borrow.Author.Needs.{needs}
 use mathlib.Core.Path.{sym, ap}
 use lib.Ieee.{ofBits, round, neg}

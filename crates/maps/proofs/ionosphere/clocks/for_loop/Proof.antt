@@ -1,11 +1,11 @@
--- The two arms meet in the time that is raised or not.
+-- `for_loop` is `forLoop`: the two arms of its branch meet in the time that is raised or not.
 use borrow.Author.Needs.{needs}
 use mathlib.Core.Path.{_≡_, sym}
 use mathlib.Core.Logic.{⊎-elim}
 use mathlib.Core.Bool.{cond}
 use lib.Ieee.{lt, ofBits, round}
 use Rattle.base.specs.Single.{_⊕_, _⊖_, _⊗_, decimal}
-use Rattle.base.proofs.Picks.{cond-true, cond-false}
+use Rattle.base.proofs.verdicts.Picks.{cond-true, cond-false}
 use Rattle.maps.specs.Clocks.{forLoop}
 use Rattle.maps.proofs.ionosphere.clocks.for_loop.Statement.{statement}
 use Rattle.maps.proofs.ionosphere.clocks.for_loop.Tie as tie

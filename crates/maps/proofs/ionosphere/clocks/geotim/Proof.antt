@@ -1,4 +1,4 @@
--- Its callees are the definition's.
+-- `geotim` is `timesOf`: its calls are rewritten by what they ensure.
 use borrow.Author.Needs.{needs}
 use Rattle.maps.specs.Clocks.{timesOf}
 use Rattle.maps.proofs.ionosphere.clocks.geotim.Statement.{statement}

@@ -1,4 +1,4 @@
--- Its callees are the definition's.
+-- `geotim_clck` is `localTimeOf`: its calls are rewritten by what they ensure.
 use borrow.Author.Needs.{needs}
 use Rattle.maps.specs.Clocks.{localTimeOf}
 use Rattle.maps.proofs.ionosphere.clocks.geotim_clck.Statement.{statement}

@@ -1,4 +1,4 @@
--- By whether the hour is local; the times are the definition's.
+-- `geotim_of` is `geotimOf`, by whether the hour is local, and by what its calls ensure.
 use borrow.Author.Needs.{needs}
 use mathlib.Core.Path.{sym, ap}
 use mathlib.Core.Bool.{Bool}

@@ -1,4 +1,4 @@
--- Each verdict is its definition's.
+-- `hours_check` is `hoursCheck`: each verdict is its definition's, by what the calls ensure.
 use borrow.Author.Needs.{needs}
 use Rattle.maps.specs.Clocks.{hoursCheck}
 use Rattle.maps.proofs.ionosphere.clocks.hours_check.Statement.{statement}

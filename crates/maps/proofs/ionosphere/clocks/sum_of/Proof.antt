@@ -1,8 +1,9 @@
--- The laws of such sums.
+-- `sum_of` is the `f32` nearest to the sum: the sum fits an `i64` (`sum-fits`), and its `f64`,
+-- narrowed, is its `f32` (`sum-narrow`).
 use borrow.Author.Needs.{needs}
 use mathlib.Core.Path.{ap, _∙_}
 use Rattle.base.specs.Number.{narrowOf}
-use Rattle.maps.proofs.WholeSums.{wide, sum-fits, sum-narrow}
+use Rattle.maps.proofs.sums.WholeSums.{wide, sum-fits, sum-narrow}
 use Rattle.maps.proofs.ionosphere.clocks.sum_of.Statement.{statement}
 use Rattle.maps.proofs.ionosphere.clocks.sum_of.Tie as tie
 

@@ -1,8 +1,8 @@
--- By the sign.
+-- `theta_of` is `thetaOf`, by whether the longitude is below 0.
 use mathlib.Core.Path.{sym}
 use lib.Ieee.{ofBits, round}
 use Rattle.base.specs.Single.{decimal}
-use Rattle.base.proofs.Picks.{cond-true, cond-false}
+use Rattle.base.proofs.verdicts.Picks.{cond-true, cond-false}
 use Rattle.maps.specs.Clocks.{thetaOf}
 use Rattle.maps.proofs.ionosphere.clocks.theta_of.Statement.{statement}
 use Rattle.maps.proofs.ionosphere.clocks.theta_of.Tie as tie

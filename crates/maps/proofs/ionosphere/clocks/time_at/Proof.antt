@@ -1,4 +1,4 @@
--- Its callees are the definition's.
+-- `time_at` is `timeAt`: its calls are rewritten by what they ensure.
 use borrow.Author.Needs.{needs}
 use Rattle.maps.specs.Clocks.{timeAt}
 use Rattle.maps.proofs.ionosphere.clocks.time_at.Statement.{statement}

@@ -1,4 +1,4 @@
--- Each verdict is its definition's.
+-- `time_check` is `timeCheck`: each verdict is its definition's, by what the calls ensure.
 use borrow.Author.Needs.{needs}
 use Rattle.maps.specs.Clocks.{timeCheck}
 use Rattle.maps.proofs.ionosphere.clocks.time_check.Statement.{statement}

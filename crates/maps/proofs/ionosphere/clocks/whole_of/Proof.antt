@@ -1,9 +1,9 @@
--- To a whole number and back.
+-- `whole_of` is `wholeOf`: to a whole number and back, by what `to_i32` and `from_i32` ensure.
 use borrow.Author.Needs.{needs}
 use mathlib.Core.Path.{ap, _∙_}
 use lib.Ieee.{binary32, ofInt}
 use Rattle.maps.specs.Clocks.{wholeOf}
-use Rattle.maps.proofs.WholeSums.{signed-word}
+use Rattle.maps.proofs.sums.WholeSums.{signed-word}
 use Rattle.maps.proofs.ionosphere.clocks.whole_of.Statement.{statement}
 use Rattle.maps.proofs.ionosphere.clocks.whole_of.Tie as tie
 

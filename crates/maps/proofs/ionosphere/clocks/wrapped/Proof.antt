@@ -1,8 +1,8 @@
--- One turn, by its two tests.
+-- `wrapped` is one turn of `wraps`, by its two tests.
 use mathlib.Core.Path.{sym, _∙_}
 use lib.Ieee.{ofBits, round}
 use Rattle.base.specs.Single.{decimal}
-use Rattle.base.proofs.Picks.{cond-true, cond-false}
+use Rattle.base.proofs.verdicts.Picks.{cond-true, cond-false}
 use Rattle.maps.specs.Clocks.{wraps}
 use Rattle.maps.proofs.ionosphere.clocks.wrapped.Statement.{statement}
 use Rattle.maps.proofs.ionosphere.clocks.wrapped.Tie as tie

@@ -3,7 +3,7 @@ use mathlib.Core.Path.{sym}
 use lib.Ieee.{round, ofBits}
 use Rattle.base.specs.Single.{decimal}
 use Rattle.maps.specs.Layers.{f1Layer}
-use Rattle.base.proofs.Picks.{cond-true, cond-false}
+use Rattle.base.proofs.verdicts.Picks.{cond-true, cond-false}
 use Rattle.maps.proofs.ionosphere.layers.f1_layer.Statement.{statement}
 use Rattle.maps.proofs.ionosphere.layers.f1_layer.Tie as tie
 

@@ -4,7 +4,7 @@ use mathlib.Core.Path.{sym}
 use lib.Ieee.{round, ofBits}
 use Rattle.base.specs.Single.{decimal}
 use Rattle.maps.specs.Layers.{gamma6Of}
-use Rattle.base.proofs.Picks.{cond-true, cond-false}
+use Rattle.base.proofs.verdicts.Picks.{cond-true, cond-false}
 use Rattle.maps.proofs.ionosphere.layers.gamma6_of.Statement.{statement}
 use Rattle.maps.proofs.ionosphere.layers.gamma6_of.Tie as tie
 

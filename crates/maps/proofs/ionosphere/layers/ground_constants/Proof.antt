@@ -1,4 +1,5 @@
--- `ground_constants` brings the longitude into 0 to 360, where the arms of its branch meet, and reads the map there.
+-- `ground_constants` brings the longitude into 0 to 360, where the arms of its branch meet, and
+-- reads the map there.
 use borrow.Author.Needs.{needs}
 use mathlib.Core.Path.{_≡_, sym}
 use mathlib.Core.Logic.{⊎-elim}
@@ -7,7 +8,7 @@ use lib.Ieee.{lt, round, ofBits}
 use Rattle.base.specs.Single.{_⊕_, decimal}
 use Rattle.base.specs.Angle.{degreesOf}
 use Rattle.maps.specs.Layers.{groundOf}
-use Rattle.base.proofs.Picks.{cond-true, cond-false}
+use Rattle.base.proofs.verdicts.Picks.{cond-true, cond-false}
 use Rattle.maps.proofs.ionosphere.layers.ground_constants.Statement.{statement}
 use Rattle.maps.proofs.ionosphere.layers.ground_constants.Tie as tie
 

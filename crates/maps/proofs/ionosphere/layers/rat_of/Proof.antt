@@ -1,4 +1,5 @@
--- `rat_of` turns the zenith angle round before noon, where the arms of its first branch meet, and picks by the map's value against 2.
+-- `rat_of` turns the zenith angle round before noon, where the arms of its first branch meet, and
+-- picks by the map's value against 2.
 use borrow.Author.Needs.{needs}
 use mathlib.Core.Path.{_≡_, sym}
 use mathlib.Core.Logic.{⊎-elim}
@@ -6,7 +7,7 @@ use mathlib.Core.Bool.{cond}
 use lib.Ieee.{neg, lt, round, ofBits}
 use Rattle.base.specs.Single.{_⊖_, decimal}
 use Rattle.maps.specs.Layers.{ratOf}
-use Rattle.base.proofs.Picks.{cond-true, cond-false}
+use Rattle.base.proofs.verdicts.Picks.{cond-true, cond-false}
 use Rattle.maps.proofs.ionosphere.layers.rat_of.Statement.{statement}
 use Rattle.maps.proofs.ionosphere.layers.rat_of.Tie as tie
 

@@ -1,4 +1,5 @@
--- The source's table is the digits of specs/Layers.antt, by computation over the whole table; a reading of one is a reading of the other.
+-- `sun_of` is `sunOf`, by whether there is such a month: the source's table is the digits of
+-- specs/Layers.antt, by computation over the whole table.
 use borrow.Author.Needs.{needs}
 use mathlib.Core.Path.{_≡_, sym, _∙_}
 use mathlib.Core.List.{List, [], _∷_, map}
@@ -8,7 +9,7 @@ use lib.ListN.{getD, List·getD-map, List·getD-eq-default}
 use lib.Ieee.{Float, nan, round, ofBits, div}
 use borrow.Author.Tests.{eq-eqb, ne-eqb}
 use Rattle.base.specs.Single.{decimal, minusDecimal}
-use Rattle.base.proofs.Picks.{cond-true, cond-false}
+use Rattle.base.proofs.verdicts.Picks.{cond-true, cond-false}
 use Rattle.maps.specs.declared.ionosphere.layers.Sun.{Sun}
 use Rattle.maps.specs.Layers.{sun, SUN, sunOf}
 use Rattle.maps.proofs.ionosphere.layers.sun_of.Statement.{statement}

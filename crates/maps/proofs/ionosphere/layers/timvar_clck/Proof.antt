@@ -3,7 +3,7 @@ use mathlib.Core.Path.{sym, _∙_}
 use lib.Ieee.{round, ofBits}
 use Rattle.base.specs.Single.{decimal}
 use Rattle.maps.specs.Layers.{clockOf}
-use Rattle.base.proofs.Picks.{cond-true, cond-false}
+use Rattle.base.proofs.verdicts.Picks.{cond-true, cond-false}
 use Rattle.maps.proofs.ionosphere.layers.timvar_clck.Statement.{statement}
 use Rattle.maps.proofs.ionosphere.layers.timvar_clck.Tie as tie
 

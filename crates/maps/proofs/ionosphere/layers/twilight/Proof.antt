@@ -4,7 +4,7 @@ use mathlib.Core.Path.{sym, _∙_}
 use lib.Ieee.{round, ofBits}
 use Rattle.base.specs.Single.{decimal}
 use Rattle.maps.specs.Layers.{twilightOf}
-use Rattle.base.proofs.Picks.{cond-true, cond-false}
+use Rattle.base.proofs.verdicts.Picks.{cond-true, cond-false}
 use Rattle.maps.proofs.ionosphere.layers.twilight.Statement.{statement}
 use Rattle.maps.proofs.ionosphere.layers.twilight.Tie as tie
 

@@ -1,4 +1,5 @@
--- `add_last` changes each of the first lm elements: the loop's invariant is that it has changed the first j.
+-- `add_last` changes each of the first lm elements: the loop's invariant is that it has changed the
+-- first j.
 use borrow.Author.Needs.{needs}
 use Prim.Native.Nat.{_≤_, _-_}
 use mathlib.Core.Path.{_≡_, refl}
@@ -6,7 +7,7 @@ use native.Mathlib.Omega.{arith}
 use Rattle.base.specs.Single.{_⊕_}
 use Rattle.base.specs.Fill.{fill}
 use Rattle.maps.specs.Noisy.{inPlane, each}
-use Rattle.maps.proofs.Refills.{each-turn}
+use Rattle.maps.proofs.lists.Refills.{each-turn}
 use Rattle.maps.proofs.ionosphere.noisy.add_last.Statement.{statement}
 use Rattle.maps.proofs.ionosphere.noisy.add_last.Tie as tie
 

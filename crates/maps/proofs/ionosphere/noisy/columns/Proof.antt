@@ -5,7 +5,7 @@ use mathlib.Core.Path.{_≡_}
 use native.Mathlib.Omega.{arith}
 use lib.Ieee.{round, ofBits}
 use Rattle.base.specs.Single.{decimal}
-use Rattle.maps.proofs.NoisySums.{rowsIn, rows-start, rows-turn, rows-end}
+use Rattle.maps.proofs.sums.NoisySums.{rowsIn, rows-start, rows-turn, rows-end}
 use Rattle.maps.proofs.ionosphere.noisy.columns.Statement.{statement}
 use Rattle.maps.proofs.ionosphere.noisy.columns.Tie as tie
 

@@ -1,4 +1,5 @@
--- `latitude_sum` is `latitudeSum`. The loop's invariant: the sum is that of k columns, and s and c are the turn k.
+-- `latitude_sum` is `latitudeSum`. The loop's invariant: the sum is that of k columns, and s and c
+-- are the turn k.
 use borrow.Author.Needs.{needs}
 use Prim.Native.Nat.{_≤_, _-_}
 use mathlib.Core.Path.{_≡_, refl}

@@ -1,9 +1,10 @@
--- `noisy_sum` is the latitude series over the columns: of the two arrays the series take what was filled.
+-- `noisy_sum` is the latitude series over the columns: of the two arrays the series take what was
+-- filled.
 use borrow.Author.Needs.{needs}
 use mathlib.Core.Path.{ap}
 use lib.Ieee.{Float}
 use Rattle.base.specs.Single.{_⊕_, _⊗_}
-use Rattle.maps.proofs.NoisySums.{latitude-of}
+use Rattle.maps.proofs.sums.NoisySums.{latitude-of}
 use Rattle.maps.proofs.ionosphere.noisy.noisy_sum.Statement.{statement}
 use Rattle.maps.proofs.ionosphere.noisy.noisy_sum.Tie as tie
 

@@ -1,4 +1,5 @@
--- `sines` is `sxOf`. The loop's invariant: the first k sines are filled, and s and c are the turn k.
+-- `sines` is `sxOf`. The loop's invariant: the first k sines are filled, and s and c are the turn
+-- k.
 use borrow.Author.Needs.{needs}
 use Prim.Native.Nat.{_≤_, _-_}
 use mathlib.Core.Path.{_≡_, refl}
@@ -8,7 +9,7 @@ use lib.Ieee.{round, ofBits}
 use Rattle.base.specs.Single.{decimal}
 use Rattle.base.specs.Fill.{fill}
 use Rattle.maps.specs.Noisy.{turnOf, sxOf}
-use Rattle.maps.proofs.Refills.{fill-turn}
+use Rattle.maps.proofs.lists.Refills.{fill-turn}
 use Rattle.maps.proofs.ionosphere.noisy.sines.Statement.{statement}
 use Rattle.maps.proofs.ionosphere.noisy.sines.Tie as tie
 

@@ -1,4 +1,5 @@
--- `basis` fills the array along the ladder. The loop's invariant: what is left to fill from here gives what `filledOf` gives, and what is left of the ladder climbs.
+-- `basis` fills the array along the ladder. The loop's invariant: what is left to fill from here
+-- gives what `filledOf` gives, and what is left of the ladder climbs.
 use borrow.Author.Needs.{needs}
 use borrow.Author.Tests.{eq-eqb, ne-eqb}
 use Prim.Native.Nat.{ℕ, suc, _+_, _-_, _*_, _%_, _≤_, _<_}
@@ -8,14 +9,14 @@ use mathlib.Core.List.{List}
 use native.Mathlib.Omega.{arith}
 use lib.ListN.{getD}
 use lib.Ieee.{Float, nan}
-use Rattle.base.specs.Fill.{fill, run}
+use Rattle.base.specs.Fill.{fill, tabulate}
 use Rattle.base.specs.Index.{mapWord, Climbs}
-use Rattle.base.proofs.Fills.{run-at}
-use Rattle.base.proofs.Indexing.{climbs-cases}
-use Rattle.base.proofs.Picks.{cond-true, cond-false}
+use Rattle.base.proofs.lists.Fills.{run-at}
+use Rattle.base.proofs.ladder.Indexing.{climbs-cases}
+use Rattle.base.proofs.verdicts.Picks.{cond-true, cond-false}
 use Rattle.maps.specs.Virtim.{GoodTable}
-use Rattle.maps.specs.Versy.{powerOf, cosWave, sinWave, waveAt, wavesOf, rungOf, harmonicOf, geographicOf, zeros, filledFrom, filledOf}
-use Rattle.maps.proofs.GeographicFunctions.{even-wave, odd-wave, rung-harmonic, filled-closed}
+use Rattle.maps.specs.Versy.{sxPower, cosWave, sinWave, waveAt, wavesOf, rungOf, harmonicOf, geographicOf, zeros, filledFrom, filledOf}
+use Rattle.maps.proofs.sums.GeographicFunctions.{even-wave, odd-wave, rung-harmonic, filled-closed}
 use Rattle.maps.proofs.ionosphere.versy.basis.Statement.{statement}
 use Rattle.maps.proofs.ionosphere.versy.basis.Tie as tie
 
@@ -43,7 +44,7 @@ module _ (w : ℕ → ℕ) (sx : Float) (waves : List Float) where
       ⊎-elim (λ q. absurd (ne q)) (λ t. record { above = t .0; even = t .1; within = t .2; further = t .3 })
       (climbs-cases (subst (λ (n : ℕ). Climbs w n j) (fuel j h) (l .climbs)))
 
-  begun : (g g₁ : List Float) (below : ℕ) → below ≡ w 0 → w 0 ≤ 75 → Climbs w 8 0 → g ≡ zeros → g₁ ≡ fill (powerOf sx) 0 g (below + 1) →
+  begun : (g g₁ : List Float) (below : ℕ) → below ≡ w 0 → w 0 ≤ 75 → Climbs w 8 0 → g ≡ zeros → g₁ ≡ fill (sxPower sx) 0 g (below + 1) →
       Left w sx waves g₁ below 0
   unfolding filledOf
   begun g g₁ below e h c z p =
@@ -52,7 +53,7 @@ module _ (w : ℕ → ℕ) (sx : Float) (waves : List Float) where
         word = e;
         most = h;
         climbs = c;
-        rest = λ gob clg q. ap (filledFrom w sx gob clg 8 0) (p ∙ (λ t. fill (powerOf sx) 0 (z t) (e t + 1)));
+        rest = λ gob clg q. ap (filledFrom w sx gob clg 8 0) (p ∙ (λ t. fill (sxPower sx) 0 (z t) (e t + 1)));
       }
 
   -- the two waves of the harmonic j + 1
@@ -89,14 +90,14 @@ module _ (w : ℕ → ℕ) (sx : Float) (waves : List Float) where
 
   -- the ladder ends with word 8, or at a level
   ended : (g : List Float) (below j : ℕ) → Left w sx waves g below j → 8 ≤ j → w 0 ≤ 75 → Climbs w 8 0 →
-      (gob clg : Float) → waves ≡ wavesOf gob clg → g ≡ run (geographicOf w sx gob clg) 76
+      (gob clg : Float) → waves ≡ wavesOf gob clg → g ≡ tabulate (geographicOf w sx gob clg) 76
   unfolding filledFrom
   ended g below j l h top c gob clg q =
       let e : 0 ≡ 8 - j = (let t = l .turns in omega arith) in
       ap (λ (n : ℕ). filledFrom w sx gob clg n j g) e ∙ l .rest gob clg q ∙ filled-closed w sx gob clg top c
 
   levelled : (g : List Float) (below j : ℕ) → Left w sx waves g below j → j < 8 → w (j + 1) ≡ w j → w 0 ≤ 75 → Climbs w 8 0 →
-      (gob clg : Float) → waves ≡ wavesOf gob clg → g ≡ run (geographicOf w sx gob clg) 76
+      (gob clg : Float) → waves ≡ wavesOf gob clg → g ≡ tabulate (geographicOf w sx gob clg) 76
   unfolding filledFrom
   levelled g below j l h e top c gob clg q =
       sym (ap (λ (n : ℕ). filledFrom w sx gob clg n j g) (fuel j h) ∙ cond-true _ _ (eq-eqb (w (j + 1)) (w j) e))

@@ -1,4 +1,5 @@
--- `finished` is `gammaOf`. The loop's invariant: gamma is the sum of the terms 0 to k, before it is narrowed.
+-- `finished` is `gammaOf`. The loop's invariant: gamma is the sum of the terms 0 to k, before it is
+-- narrowed.
 use borrow.Author.Needs.{needs}
 use Prim.Native.Nat.{ℕ, _+_, _-_, _≤_}
 use mathlib.Core.Path.{_≡_, sym, ap, _∙_}
@@ -7,7 +8,7 @@ use denote.Ref.{now}
 use lib.Ieee.{Float}
 use Rattle.base.specs.Number.{narrowOf}
 use Rattle.maps.specs.Versy.{elements, sumOf, gammaOf}
-use Rattle.maps.proofs.MapSeries.{sum-next, gamma-narrowed}
+use Rattle.maps.proofs.sums.MapSeries.{sum-next, gamma-narrowed}
 use Rattle.maps.proofs.ionosphere.versy.finished.Statement.{statement}
 use Rattle.maps.proofs.ionosphere.versy.finished.Tie as tie
 

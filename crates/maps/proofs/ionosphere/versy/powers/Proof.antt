@@ -1,4 +1,5 @@
--- `powers` fills in `powerOf`. The loop's invariant: the powers 1 to n - 1 stand in their places, after 1.0, and the power is the n-th.
+-- `powers` fills in `sxPower`. The loop's invariant: the powers 1 to n - 1 stand in their places,
+-- after 1.0, and the power is the n-th.
 use borrow.Author.Needs.{needs}
 use Prim.Native.Nat.{ℕ, zero, suc, _+_, _-_, _≤_, _<_}
 use mathlib.Core.Path.{_≡_, refl, sym, ap, _∙_}
@@ -9,16 +10,16 @@ use lib.ListN.{set}
 use lib.Ieee.{Float, round, ofBits}
 use Rattle.base.specs.Double.{_⊗_, fraction}
 use Rattle.base.specs.Fill.{fill}
-use Rattle.maps.specs.Versy.{powerOf}
-use Rattle.maps.proofs.GeographicFunctions.{fill-then, fill-more}
+use Rattle.maps.specs.Versy.{sxPower}
+use Rattle.maps.proofs.sums.GeographicFunctions.{fill-then, fill-more}
 use Rattle.maps.proofs.ionosphere.versy.powers.Statement.{statement}
 use Rattle.maps.proofs.ionosphere.versy.powers.Tie as tie
 
 pub record Raised (sx : Float) (k : ℕ) (g₀ g : List Float) (power : Float) (n : ℕ) : Type 0 where
   pub first : 1 ≤ n
   pub turns : n ≤ k + 1
-  pub next : power ≡ powerOf sx n
-  pub is : g ≡ fill (λ i. powerOf sx (1 + i)) 1 g₀ (n - 1)
+  pub next : power ≡ sxPower sx n
+  pub is : g ≡ fill (λ i. sxPower sx (1 + i)) 1 g₀ (n - 1)
 
 abbrev Inv-loop : tie.InvT-loop
 Inv-loop g₀ sx k power₀ n₀ g power n = Raised sx k g₀ g power n
@@ -26,10 +27,10 @@ Inv-loop g₀ sx k power₀ n₀ g power n = Raised sx k g₀ g power n
 abbrev μ-loop : tie.MeasureT-loop
 μ-loop g₀ sx k power₀ n₀ g power n = k + 1 - n
 
-power-next : (sx : Float) (n : ℕ) → 1 ≤ n → sx ⊗ powerOf sx n ≡ powerOf sx (n + 1)
-unfolding powerOf
+power-next : (sx : Float) (n : ℕ) → 1 ≤ n → sx ⊗ sxPower sx n ≡ sxPower sx (n + 1)
+unfolding sxPower
 power-next sx zero h = absurd (omega arith)
-power-next sx (suc n) h = sym (ap (powerOf sx) (add-one (suc n)))
+power-next sx (suc n) h = sym (ap (sxPower sx) (add-one (suc n)))
 
 again :
     (sx : Float) (k : ℕ) (g₀ g : List Float) (power : Float) (n : ℕ) → Raised sx k g₀ g power n → n ≤ k →
@@ -43,24 +44,24 @@ again sx k g₀ g power n v h =
       turns = omega arith;
       next = ap (λ (x : Float). sx ⊗ x) (v .next) ∙ power-next sx n l;
       is =
-          fill-then (λ i. powerOf sx (1 + i)) 1 g₀ (n - 1) n (v .is) e (v .next ∙ ap (powerOf sx) (sym e))
-          ∙ ap (fill (λ i. powerOf sx (1 + i)) 1 g₀) d;
+          fill-then (λ i. sxPower sx (1 + i)) 1 g₀ (n - 1) n (v .is) e (v .next ∙ ap (sxPower sx) (sym e))
+          ∙ ap (fill (λ i. sxPower sx (1 + i)) 1 g₀) d;
     }
 
 -- with the first of them, 1.0
-all : (sx : Float) (k : ℕ) (g g₁ : List Float) (power : Float) (n : ℕ) → Raised sx k (set g 0 (fraction 1 1)) g₁ power n → k < n → g₁ ≡ fill (powerOf sx) 0 g (k + 1)
-unfolding fill powerOf
+all : (sx : Float) (k : ℕ) (g g₁ : List Float) (power : Float) (n : ℕ) → Raised sx k (set g 0 (fraction 1 1)) g₁ power n → k < n → g₁ ≡ fill (sxPower sx) 0 g (k + 1)
+unfolding fill sxPower
 all sx k g g₁ power n v h =
     let l = v .turns in
     let e : n - 1 ≡ k = omega arith in
     let d : 1 + k ≡ k + 1 = omega arith in
     v .is
-    ∙ ap (fill (λ i. powerOf sx (1 + i)) 1 (set g 0 (fraction 1 1))) e
-    ∙ sym (fill-more (powerOf sx) 0 g 1 k)
-    ∙ ap (fill (powerOf sx) 0 g) d
+    ∙ ap (fill (λ i. sxPower sx (1 + i)) 1 (set g 0 (fraction 1 1))) e
+    ∙ sym (fill-more (sxPower sx) 0 g 1 k)
+    ∙ ap (fill (sxPower sx) 0 g) d
 
 loop-holds : tie.Need-loop-holds Inv-loop μ-loop
-unfolding powerOf fill
+unfolding sxPower fill
 loop-holds c = record { first = search needs; turns = search needs; next = refl; is = refl }
 
 loop-again : tie.Need-loop-again Inv-loop μ-loop

@@ -1,5 +1,5 @@
--- `rung` fills in `rungOf`. The loop's invariant: the places before k are filled, an even number of them, and the cosine and the sine are
--- the next two.
+-- `rung` fills in `rungOf`. The loop's invariant: the places before k are filled, an even number of
+-- them, and the cosine and the sine are the next two.
 use borrow.Author.Needs.{needs}
 use Prim.Native.Nat.{ℕ, suc, _+_, _-_, _/_, _%_, _≤_, _<_}
 use mathlib.Core.Path.{_≡_, refl, sym, ap, _∙_}
@@ -10,9 +10,9 @@ use lib.Ieee.{Float}
 use borrow.Author.Tests.{eq-eqb, ne-eqb}
 use Rattle.base.specs.Double.{_⊗_}
 use Rattle.base.specs.Fill.{fill}
-use Rattle.base.proofs.Picks.{cond-true, cond-false}
+use Rattle.base.proofs.verdicts.Picks.{cond-true, cond-false}
 use Rattle.maps.specs.Versy.{raised, rungOf}
-use Rattle.maps.proofs.GeographicFunctions.{fill-then}
+use Rattle.maps.proofs.sums.GeographicFunctions.{fill-then}
 use Rattle.maps.proofs.ionosphere.versy.rung.Statement.{statement}
 use Rattle.maps.proofs.ionosphere.versy.rung.Tie as tie
 

@@ -1,4 +1,5 @@
--- Each array is filled with its map's geographic functions, and the series read them up to their last terms.
+-- `three` is `threeAt`: each array is filled with its map's geographic functions, and the series
+-- read them up to their last terms.
 use borrow.Author.Needs.{needs}
 use mathlib.Core.Path.{_≡_, refl, ap, _∙_}
 use mathlib.Core.List.{List}
@@ -7,14 +8,14 @@ use native.Mathlib.Omega.{arith}
 use lib.ListN.{getD}
 use lib.Ieee.{Float, round, ofBits}
 use Rattle.base.specs.Double.{fraction}
-use Rattle.base.specs.Fill.{run}
+use Rattle.base.specs.Fill.{tabulate}
 use Rattle.base.specs.Index.{mapWord, rows, harmonics, GoodIndex}
-use Rattle.base.proofs.Fills.{run-at}
-use Rattle.base.proofs.Ladders.{limits}
+use Rattle.base.proofs.lists.Fills.{run-at}
+use Rattle.base.proofs.ladder.Ladders.{limits}
 use Rattle.maps.specs.declared.ionosphere.versy.Triple.{Triple}
 use Rattle.maps.specs.Virtim.{GoodTable}
 use Rattle.maps.specs.Versy.{geographicOf, zeros, elements, seriesOf, threeOf, threeAt}
-use Rattle.maps.proofs.MapSeries.{gamma-same}
+use Rattle.maps.proofs.sums.MapSeries.{gamma-same}
 use Rattle.maps.proofs.ionosphere.versy.three.Statement.{statement}
 use Rattle.maps.proofs.ionosphere.versy.three.Tie as tie
 
@@ -23,20 +24,20 @@ unfolding zeros fraction round ofBits
 zeros-are c κs = (c .before .pre .0, omega arith, refl)
 
 -- the series of a map over an array that holds its functions
-series-same : (ab : List Float) (index : List ℕ) (k : ℕ) (f : ℕ → Float) {g : List Float} → GoodTable index → k < 6 → g ≡ run f 76 →
+series-same : (ab : List Float) (index : List ℕ) (k : ℕ) (f : ℕ → Float) {g : List Float} → GoodTable index → k < 6 → g ≡ tabulate f 76 →
     seriesOf ab index k (elements g) ≡ seriesOf ab index k f
 unfolding seriesOf
 series-same ab index k f {g} good h e =
     let t = good k h .terms in
     let l = limits k h in
     ap (λ (x : List Float). seriesOf ab index k (elements x)) e
-    ∙ gamma-same ab _ (elements (run f 76)) f (mapWord index k 8) (λ i p. run-at f 76 i _ (omega arith))
+    ∙ gamma-same ab _ (elements (tabulate f 76)) f (mapWord index k 8) (λ i p. run-at f 76 i _ (omega arith))
 
 three-same : (ab : List Float) (index : List ℕ) (k : ℕ) (sx sz gob clg : Float) {ga gb gc : List Float} {r : Triple} → GoodTable index → k ≤ 3 →
     r ≡ threeOf ab index k (elements ga) (elements gb) (elements gc) →
-    ga ≡ run (geographicOf (mapWord index k) sx gob clg) 76 →
-    gb ≡ run (geographicOf (mapWord index (k + 1)) sx gob clg) 76 →
-    gc ≡ run (geographicOf (mapWord index (k + 2)) sz gob clg) 76 → r ≡ threeAt ab index k sx sz gob clg
+    ga ≡ tabulate (geographicOf (mapWord index k) sx gob clg) 76 →
+    gb ≡ tabulate (geographicOf (mapWord index (k + 1)) sx gob clg) 76 →
+    gc ≡ tabulate (geographicOf (mapWord index (k + 2)) sz gob clg) 76 → r ≡ threeAt ab index k sx sz gob clg
 unfolding threeAt threeOf
 three-same ab index k sx sz gob clg good h e p q s =
     let a = series-same ab index k (geographicOf (mapWord index k) sx gob clg) good (omega arith) p in

@@ -1,4 +1,5 @@
--- Three sums as far as the shortest, two of them further, each finished alone: by where the maps' coefficients start and end in AB.
+-- `three_series` is `threeOf`: three sums as far as the shortest, two of them further, each
+-- finished alone, by where the maps' coefficients start and end in AB.
 use borrow.Author.Needs.{needs}
 use mathlib.Core.Path.{_≡_, ap, _∙_}
 use mathlib.Core.List.{List}
@@ -9,8 +10,8 @@ use lib.ListN.{getD}
 use lib.Ieee.{Float}
 use Rattle.base.specs.Index.{mapWord}
 use Rattle.base.specs.Blend.{IC}
-use Rattle.base.proofs.Indexing.{reads-inside}
-use Rattle.base.proofs.Ladders.{limits}
+use Rattle.base.proofs.ladder.Indexing.{reads-inside}
+use Rattle.base.proofs.ladder.Ladders.{limits}
 use Rattle.maps.specs.declared.ionosphere.versy.Pair.{Pair}
 use Rattle.maps.specs.declared.ionosphere.versy.Sums.{Sums}
 use Rattle.maps.specs.Virtim.{GoodTable}

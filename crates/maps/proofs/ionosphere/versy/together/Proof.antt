@@ -7,7 +7,7 @@ use denote.Ref.{now}
 use lib.Ieee.{Float}
 use Rattle.base.specs.Double.{_⊗_}
 use Rattle.maps.specs.Versy.{elements, sumOf, sumsOf}
-use Rattle.maps.proofs.MapSeries.{sum-next}
+use Rattle.maps.proofs.sums.MapSeries.{sum-next}
 use Rattle.maps.proofs.ionosphere.versy.together.Statement.{statement}
 use Rattle.maps.proofs.ionosphere.versy.together.Tie as tie
 

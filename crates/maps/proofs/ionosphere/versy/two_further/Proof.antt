@@ -1,4 +1,5 @@
--- `two_further` has the sums to `last`. The loop's invariant: each of the two sums has the terms 0 to k.
+-- `two_further` has the sums to `last`. The loop's invariant: each of the two sums has the terms 0
+-- to k.
 use borrow.Author.Needs.{needs}
 use Prim.Native.Nat.{ℕ, _+_, _-_, _≤_}
 use mathlib.Core.Path.{_≡_, ap, _∙_}
@@ -6,7 +7,7 @@ use native.Mathlib.Omega.{arith}
 use denote.Ref.{now}
 use lib.Ieee.{Float}
 use Rattle.maps.specs.Versy.{elements, sumOf}
-use Rattle.maps.proofs.MapSeries.{sum-next}
+use Rattle.maps.proofs.sums.MapSeries.{sum-next}
 use Rattle.maps.proofs.ionosphere.versy.two_further.Statement.{statement}
 use Rattle.maps.proofs.ionosphere.versy.two_further.Tie as tie
 

@@ -1,4 +1,5 @@
--- Two triples of maps over the same waves: the sine is the dip's, and for the E map the latitude's.
+-- `versy` is `gammasOf`: two triples of maps over the same waves, the sine being the dip's, and for
+-- the E map the latitude's.
 use borrow.Author.Needs.{needs}
 use mathlib.Core.Path.{_≡_, refl, ap, _∙_}
 use mathlib.Core.List.{List}

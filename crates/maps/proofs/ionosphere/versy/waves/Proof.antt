@@ -1,4 +1,5 @@
--- `waves` is `wavesOf`. The loop's invariant: the array is filled up to i, cx and t are those of the harmonic j, and i + 2 is 2 * j.
+-- `waves` is `wavesOf`. The loop's invariant: the array is filled up to i, cx and t are those of
+-- the harmonic j, and i + 2 is 2 * j.
 use borrow.Author.Needs.{needs}
 use borrow.Author.Tests.{ne-eqb}
 use Prim.Native.Nat.{ℕ, zero, suc, _+_, _-_, _*_, _≤_, _<_}
@@ -12,10 +13,10 @@ use lib.Ieee.{Float, binary32, binary64, ofInt, mul, ofBits}
 use Rattle.base.specs.Double.{_⊗_}
 use Rattle.base.specs.Elementary.{sinOf, cosOf}
 use Rattle.base.specs.Fill.{fill}
-use Rattle.base.proofs.Fills.{fill-first, fill-all}
-use Rattle.base.proofs.Picks.{cond-false}
+use Rattle.base.proofs.lists.Fills.{fill-first, fill-all}
+use Rattle.base.proofs.verdicts.Picks.{cond-false}
 use Rattle.maps.specs.Versy.{cxOf, tOf, cosWave, sinWave, waveAt, wavesOf}
-use Rattle.maps.proofs.GeographicFunctions.{even-wave, odd-wave}
+use Rattle.maps.proofs.sums.GeographicFunctions.{even-wave, odd-wave}
 use Rattle.maps.proofs.ionosphere.versy.waves.Statement.{statement}
 use Rattle.maps.proofs.ionosphere.versy.waves.Tie as tie
 

@@ -1,4 +1,5 @@
--- `hour_waves` is `hourWaves`. The loop's invariant: each array is filled with the waves up to jb, and the cosine and the sine are the wave jb.
+-- `hour_waves` is `hourWaves`. The loop's invariant: each array is filled with the waves up to jb,
+-- and the cosine and the sine are the wave jb.
 use borrow.Author.Needs.{needs}
 use Prim.Native.Nat.{ℕ, _+_, _-_, _≤_, _<_}
 use mathlib.Core.Path.{_≡_, refl, sym, ap, _∙_}
@@ -10,7 +11,7 @@ use lib.Ieee.{Float, round, ofBits}
 use Rattle.base.specs.declared.angle.Radians.{Radians}
 use Rattle.base.specs.Single.{_⊕_, _⊖_, _⊗_, decimal}
 use Rattle.base.specs.Fill.{fill}
-use Rattle.base.proofs.Fills.{fill-first, fill-all}
+use Rattle.base.proofs.lists.Fills.{fill-first, fill-all}
 use Rattle.base.specs.Elementary.{sin32Of, cos32Of}
 use Rattle.maps.specs.declared.ionosphere.virtim.Waves.{Waves}
 use Rattle.maps.specs.Virtim.{timeOf, waveOf, hourWave, hourWaves}

@@ -4,7 +4,7 @@ use Prim.Native.Nat.{_≤_}
 use lib.Dec.{lit≤}
 use lib.ListN.{getD}
 use Rattle.base.specs.Blend.{IC}
-use Rattle.base.proofs.Ladders.{six}
+use Rattle.base.proofs.ladder.Ladders.{six}
 use Rattle.maps.proofs.ionosphere.virtim.start_of.Statement.{statement}
 use Rattle.maps.proofs.ionosphere.virtim.start_of.Tie as tie
 

@@ -10,9 +10,9 @@ use lib.ListN.{getD}
 use Rattle.base.specs.Fill.{fill}
 use Rattle.base.specs.Index.{mapWord}
 use Rattle.base.specs.Blend.{IA, IC}
-use Rattle.base.proofs.Ladders.{six, limits}
-use Rattle.base.proofs.Indexing.{VirtimInside, reads-inside}
-use Rattle.base.proofs.Fills.{fill-next}
+use Rattle.base.proofs.ladder.Ladders.{six, limits}
+use Rattle.base.proofs.ladder.Indexing.{VirtimInside, reads-inside}
+use Rattle.base.proofs.lists.Fills.{fill-next}
 use Rattle.maps.specs.Virtim.{GoodTable, waveIn, rowValue, timeMapOf}
 use Rattle.maps.proofs.ionosphere.virtim.time_map.Statement.{statement}
 use Rattle.maps.proofs.ionosphere.virtim.time_map.Tie as tie

@@ -1,5 +1,6 @@
--- `virtim` is `virtimOf`. The loop's invariant: AB is what the loop of the definition has at k. The arrays of cosines and sines hold the
--- waves that the definition takes, as far as a map's harmonics go.
+-- `virtim` is `virtimOf`. The loop's invariant: AB is what the loop of the definition has at k. The
+-- arrays of cosines and sines hold the waves that the definition takes, as far as a map's harmonics
+-- go.
 use borrow.Author.Needs.{needs}
 use Prim.Native.Nat.{ℕ, zero, suc, _+_, _-_, _*_, _≤_, _<_}
 use mathlib.Core.Path.{_≡_, refl, ap, _∙_}
@@ -12,12 +13,12 @@ use Rattle.base.specs.Single.{_⊕_, _⊗_, decimal}
 use Rattle.base.specs.Fill.{fill}
 use Rattle.base.specs.Index.{mapWord}
 use Rattle.base.specs.Blend.{IA, IB, IC}
-use Rattle.base.proofs.Fills.{run-at}
-use Rattle.base.proofs.Ladders.{limits}
+use Rattle.base.proofs.lists.Fills.{run-at}
+use Rattle.base.proofs.ladder.Ladders.{limits}
 use Rattle.maps.specs.declared.ionosphere.virtim.Waves.{Waves}
 use Rattle.maps.specs.Loop.{loop}
 use Rattle.maps.specs.Virtim.{GoodTable, Wave, hourWave, hourWaves, waveIn, valueOf, rowValue, timeMapOf, virtimOf}
-use Rattle.maps.proofs.Loops.{loop-start, loop-turn}
+use Rattle.maps.proofs.lists.Loops.{loop-start, loop-turn}
 use Rattle.maps.proofs.ionosphere.virtim.virtim.Statement.{statement}
 use Rattle.maps.proofs.ionosphere.virtim.virtim.Tie as tie
 

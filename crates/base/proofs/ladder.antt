@@ -1,0 +1,3 @@
+-- The index table and its ladders of words.
+pub mod Ladders
+pub mod Indexing

@@ -1,0 +1,3 @@
+-- Verdicts and their numbers.
+pub mod Picks
+pub mod Refusals

@@ -1,0 +1,6 @@
+-- Texts put together piece by piece.
+pub mod Puts
+pub mod Rows
+pub mod HexLines
+pub mod Turns
+pub mod Answers

@@ -1,0 +1,4 @@
+-- A sheet from its files, and its fields as words.
+pub mod Checks
+pub mod Alone
+pub mod Codec

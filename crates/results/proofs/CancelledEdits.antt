@@ -1,0 +1,46 @@
+-- What cancelled edits leave behind: each statement of specs/CancelledEdits.antt, from where the
+-- work is done. Assumes nothing.
+use mathlib.Core.Path.{refl}
+use Rattle.worksheet.proofs.drafts.Effects
+use Rattle.worksheet.proofs.lists.Rules as Rules
+use Rattle.worksheet.proofs.lists.Kept as Kept
+use Rattle.worksheet.proofs.checks.Showings as Showings
+use Rattle.worksheet.proofs.drafts.Openings as Openings
+use Rattle.jutetrowel.specs.Words.{worksheetOf}
+use Rattle.jutetrowel.proofs.lists.Carried as Carried
+use Rattle.jutetrowel.proofs.crossing.Unopened as Unopened
+use Rattle.results.specs.CancelledEdits.{DemandThree, DemandThreeOver, DemandThreeLent, DemandThreeOverLent, KeptInOrder, JustBefore, NothingElse, RefusedBuffer, OpenRefused, SheetRefused, RefusedSheet}
+use Rattle.results.proofs.sheet.ClosedDesks.{at-rest}
+
+pub demand-3 : DemandThree
+demand-3 = Rules.demand-3
+
+pub demand-3-over : DemandThreeOver
+demand-3-over = Carried.demand-3-over
+
+pub demand-3-lent : DemandThreeLent
+demand-3-lent source w h = Rules.demand-3-lent source w (at-rest w h)
+
+pub demand-3-over-lent : DemandThreeOverLent
+demand-3-over-lent source l h = Carried.demand-3-over-lent source l (worksheetOf l) refl (at-rest (worksheetOf l) h)
+
+pub kept-in-order : KeptInOrder
+kept-in-order = Kept.kept-in-order
+
+pub just-before : JustBefore
+just-before = Kept.just-before
+
+pub nothing-else : NothingElse
+nothing-else = Kept.nothing-else
+
+pub refused-sheet : RefusedSheet
+refused-sheet = Effects.refused-unmoved
+
+pub refused-buffer : RefusedBuffer
+refused-buffer = Showings.refused-buffer
+
+pub open-refused : OpenRefused
+open-refused = Openings.open-refused
+
+pub sheet-refused : SheetRefused
+sheet-refused = Unopened.sheet-refused

@@ -1,0 +1,18 @@
+-- The results, a line each, in the order in which a doubter would ask; then the rooms where the
+-- work is done. Assumes nothing.
+pub mod Insurer
+pub mod CancelledEdits
+pub mod FigureSources
+pub mod AsInTheRust
+pub mod FiniteOrNot
+pub mod AcceptedFiles
+pub mod ElementarySteps
+pub mod Crossing
+pub mod numbers
+pub mod files
+pub mod field
+pub mod path
+pub mod series
+pub mod clock
+pub mod finite
+pub mod sheet

@@ -1,0 +1,8 @@
+-- Figures by their places, sheets that are shown, desks that are closed.
+pub mod FigurePlaces
+pub mod GoodSheet
+pub mod Ignored
+pub mod AlwaysShown
+pub mod HandedBack
+pub mod ClosedDesks
+pub mod ShownClocks

@@ -1,0 +1,127 @@
+-- On a worksheet that opens, the inputs, the earlier set and every draft stay in range, whatever
+-- the calls: a change is judged before it is made, and nothing else makes new numbers. So over
+-- files that pass their checks every showing of the worksheet in a buffer of 151 numbers is
+-- accepted. Assumes nothing.
+use mathlib.Core.List.{List, [], _∷_}
+use mathlib.Core.Path.{_≡_, ap}
+use Prim.Native.Nat.{ℕ}
+use lib.ListN.{length}
+use lib.Ieee.{Float}
+use Rattle.base.specs.declared.refusal.Verdict.{Verdict}
+use Rattle.base.specs.declared.refusal.Verdict.the-variants.{Accepted}
+use Rattle.base.specs.Refusal.{_then_, writtenOver}
+use Rattle.base.specs.Ranges.{monthCheck, hourCheck}
+use Rattle.base.specs.Files.{filesCheck}
+use Rattle.base.proofs.verdicts.Refusals.{then-both}
+use Rattle.maps.specs.declared.inputs.Inputs.{Inputs}
+use Rattle.maps.specs.declared.figures.Shown.the-variants.{Points}
+use Rattle.maps.specs.Figures.{sheetPath, figuresOf, pointsOr}
+use Rattle.worksheet.specs.declared.inputs.Edit.{Edit}
+use Rattle.worksheet.specs.declared.inputs.Edit.the-variants.{Sunspot, Hour, Path, Psc, Pole}
+use Rattle.worksheet.specs.declared.desks.Worksheet.{Worksheet}
+use Rattle.worksheet.specs.Inputs.{sunspotCheck, routeCheck, factorsCheck, poleCheck, inputsCheck, editCheck, edited}
+use Rattle.worksheet.specs.Desks.{freshSheet, openOf, SheetHas}
+use Rattle.worksheet.specs.Showing.{Source, pair, inputsShown, askedCheck, bufferCheck, drawnCheck, judgedCheck, showCheck, showOf, showBuffer}
+use Rattle.worksheet.specs.Journal.{Call, show, shown, step, run}
+use Rattle.worksheet.proofs.drafts.Keeps.{step-keeps}
+
+-- ---- inputs in range, and a change of them that is judged
+
+abbrev InRange : Inputs → Type 0
+InRange i = inputsCheck i ≡ Accepted
+
+record Ranges (i : Inputs) : Type 0 where
+  month : monthCheck (i .month) ≡ Accepted
+  ssn : sunspotCheck (i .ssn) ≡ Accepted
+  gmt : hourCheck (i .gmt) ≡ Accepted
+  route : routeCheck (i .route) ≡ Accepted
+  psc : factorsCheck (i .psc) ≡ Accepted
+  pole : poleCheck (i .pole) ≡ Accepted
+
+each : (i : Inputs) → InRange i → Ranges i
+unfolding inputsCheck
+each i h =
+    let a = then-both (monthCheck (i .month)) _ h in
+    let b = then-both (sunspotCheck (i .ssn)) _ (a .1) in
+    let c = then-both (hourCheck (i .gmt)) _ (b .1) in
+    let d = then-both (routeCheck (i .route)) _ (c .1) in
+    let e = then-both (factorsCheck (i .psc)) _ (d .1) in
+    record { month = a .0; ssn = b .0; gmt = c .0; route = d .0; psc = e .0; pole = e .1 }
+
+all : (i : Inputs) → Ranges i → InRange i
+unfolding inputsCheck
+all i r = λ t. r .month t then r .ssn t then r .gmt t then r .route t then r .psc t then r .pole t
+
+module _ (x : Inputs) (h : InRange x) where
+  edited-range : (e : Edit) → editCheck e ≡ Accepted → InRange (edited e x)
+  unfolding edited editCheck
+  edited-range (Sunspot s) k =
+      let r = each x h in
+      all _ (record { month = r .month; ssn = k; gmt = r .gmt; route = r .route; psc = r .psc; pole = r .pole })
+  edited-range (Hour s) k =
+      let r = each x h in
+      all _ (record { month = r .month; ssn = r .ssn; gmt = k; route = r .route; psc = r .psc; pole = r .pole })
+  edited-range (Path s) k =
+      let r = each x h in
+      all _ (record { month = r .month; ssn = r .ssn; gmt = r .gmt; route = k; psc = r .psc; pole = r .pole })
+  edited-range (Psc s) k =
+      let r = each x h in
+      all _ (record { month = r .month; ssn = r .ssn; gmt = r .gmt; route = r .route; psc = k; pole = r .pole })
+  edited-range (Pole s) k =
+      let r = each x h in
+      all _ (record { month = r .month; ssn = r .ssn; gmt = r .gmt; route = r .route; psc = r .psc; pole = k })
+
+-- ---- every call keeps a worksheet in range
+
+abbrev SheetInRange : Worksheet → Type 0
+SheetInRange = SheetHas InRange
+
+module _ (source : Source) where
+  run-range : (cs : List Call) (w : Worksheet) → SheetInRange w → SheetInRange (run source cs w .sheet)
+  unfolding run
+  run-range [] w h = h
+  run-range (c ∷ cs) w h =
+      run-range cs (step source c w .sheet)
+      (step-keeps InRange source c w (λ n e same a i k. edited-range i k e a) h)
+
+  open-range : (i : Inputs) → openOf i .answer ≡ Accepted → SheetInRange (openOf i .sheet)
+  unfolding openOf freshSheet
+  open-range i h = record { inputs = h; earlier = tt; d1 = tt; d2 = tt; d3 = tt; d4 = tt }
+
+  -- the inputs of a worksheet that opens stay in range
+  pub stay-in-range : (i : Inputs) → openOf i .answer ≡ Accepted → (cs : List Call) →
+      inputsCheck (run source cs (openOf i .sheet) .sheet .inputs) ≡ Accepted
+  stay-in-range i h cs = run-range cs (openOf i .sheet) (open-range i h) .inputs
+
+-- ---- so it is shown
+
+fits : (lent : List Float) → length lent ≡ 151 → bufferCheck (length lent) ≡ Accepted
+unfolding bufferCheck
+fits lent h = ap bufferCheck h
+
+module _ (f2 file : List ℕ) (good : filesCheck f2 file ≡ Accepted) where
+  -- a worksheet with inputs in range
+  shown-sheet : (w : Worksheet) → inputsCheck (w .inputs) ≡ Accepted → (lent : List Float) → length lent ≡ 151 →
+      step (pair f2 file) (show 0 lent) w .answer
+      ≡ shown (Points (sheetPath (w .inputs) .count)) (figuresOf f2 file (w .inputs))
+  unfolding step showOf showBuffer showCheck judgedCheck askedCheck inputsShown drawnCheck
+  shown-sheet w h lent l =
+      let i = w .inputs in
+      let b = fits lent l in
+      let e : (inputsCheck i then bufferCheck (length lent) then Accepted then filesCheck f2 file) ≡ Accepted =
+      λ t. h t then b t then Accepted then good t in
+      ap (λ (v : Verdict). shown (pointsOr v (sheetPath i .count)) (writtenOver v (figuresOf f2 file i) lent)) e
+
+  pub always-shown : (i : Inputs) → openOf i .answer ≡ Accepted → (cs : List Call) →
+      (lent : List Float) → length lent ≡ 151 →
+      let w = run (pair f2 file) cs (openOf i .sheet) .sheet in
+      step (pair f2 file) (show 0 lent) w .answer
+      ≡ shown (Points (sheetPath (w .inputs) .count)) (figuresOf f2 file (w .inputs))
+  always-shown i h cs = shown-sheet _ (stay-in-range (pair f2 file) i h cs)
+
+  -- the list of no calls
+  pub first-showing : (i : Inputs) → openOf i .answer ≡ Accepted → (lent : List Float) → length lent ≡ 151 →
+      step (pair f2 file) (show 0 lent) (openOf i .sheet) .answer
+      ≡ shown (Points (sheetPath i .count)) (figuresOf f2 file i)
+  unfolding openOf freshSheet
+  first-showing i h = shown-sheet (openOf i .sheet) h
