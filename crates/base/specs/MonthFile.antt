@@ -103,8 +103,9 @@ pub record MarkedToLast (s : List ℕ) : Type 0 where
   pub eight : Marked s 0 (take 8 sizes)
   pub ninth : wordAt s 36960 ≡ 1584
 
--- ---- what the code's table of sizes says of each
+-- ---- on the way: nothing below need be believed
 
+-- what the code's table of sizes says of the size n of the record k
 pub record RecordSize (k n : ℕ) : Type 0 where
   pub is : n ≡ getD sizes k 0
   pub fours : n % 4 ≡ 0

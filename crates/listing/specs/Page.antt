@@ -83,15 +83,6 @@ pageRow k = getD pageRows k (row "" "")
 
 -- ---- a unit in seven characters, blanks after it
 
--- the letters before the first blank
-unfoldable pub lettersIn : List ℕ → List ℕ
-lettersIn [] = []
-lettersIn (c ∷ l) = cond (eqb c 32) [] (c ∷ lettersIn l)
-
--- after two blanks, where there are any
-unfoldable pub unitIn : List ℕ → List ℕ
-unitIn l = cond (eqb (getD l 0 0) 32) [] (ascii "  " ++ lettersIn l)
-
 -- ---- a line
 
 -- the name, in twelve characters
@@ -154,3 +145,16 @@ firstPoints count figures (suc p) = firstPoints count figures p ++ thereText cou
 
 unfoldable pub pageText : Inputs → ℕ → List Float → List ℕ
 pageText i count figures = fieldsText i ++ (rowsText 12 figures 0 6 ++ firstPoints count figures 5)
+
+-- ---- on the way: nothing below need be believed
+
+-- Only private contracts and proofs use what follows.
+
+-- the letters before the first blank
+unfoldable pub lettersIn : List ℕ → List ℕ
+lettersIn [] = []
+lettersIn (c ∷ l) = cond (eqb c 32) [] (c ∷ lettersIn l)
+
+-- after two blanks, where there are any
+unfoldable pub unitIn : List ℕ → List ℕ
+unitIn l = cond (eqb (getD l 0 0) 32) [] (ascii "  " ++ lettersIn l)

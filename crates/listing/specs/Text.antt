@@ -14,12 +14,6 @@ abbrev pub ascii : String → List ℕ
 ascii []ˢ = []
 ascii (c ∷ˢ s) = code c ∷ ascii s
 
--- after the first `at` bytes of `before` stands `piece`, up to the place `next`
-pub record Put (before : List ℕ) (at : ℕ) (piece after : List ℕ) (next : ℕ) : Type 0 where
-  pub text : take next after ≡ take at before ++ piece
-  pub place : next ≡ at + length piece
-  pub size : length after ≡ length before
-
 -- ---- decimal digits
 
 -- the digit of n for 10 ^ k, in ASCII
@@ -42,3 +36,13 @@ digitsBelow n (suc k) = digitAt n k ++ digitsBelow n k
 -- a number of at most 20 digits, as every `u64` is
 abbrev pub decimalOf : ℕ → List ℕ
 decimalOf n = digitsBelow n 20
+
+-- ---- on the way: nothing below need be believed
+
+-- Only private contracts and proofs use what follows.
+
+-- after the first `at` bytes of `before` stands `piece`, up to the place `next`
+pub record Put (before : List ℕ) (at : ℕ) (piece after : List ℕ) (next : ℕ) : Type 0 where
+  pub text : take next after ≡ take at before ++ piece
+  pub place : next ≡ at + length piece
+  pub size : length after ≡ length before

@@ -18,6 +18,10 @@ unfoldable pub answerText : Answer → List ℕ
 answerText (told v) = verdictText v
 answerText (shown s after) = shownText s after
 
+-- ---- on the way: nothing below need be believed
+
+-- Only private contracts and proofs use what follows.
+
 -- the same of an answer as it is handed back, with the buffer beside it
 unfoldable pub handedText : Handed → List Float → List ℕ
 handedText (Told v) figures = verdictText v

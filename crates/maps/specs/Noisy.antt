@@ -54,7 +54,10 @@ unfoldable pub noisyOf : List Float → Float → Float → Bool → Float → F
 noisyOf plane alf bet ratioMap xla ceg =
     cond ratioMap (noisySum 15 10 plane alf bet xla ceg) (noisySum 29 15 plane alf bet xla ceg)
 
--- ---- the arrays on the way; past what is filled they keep the 0.0 they are made of
+-- ---- the arrays on the way: nothing below need be believed
+
+-- Only private contracts and proofs use what follows. Past what is filled the arrays keep the 0.0
+-- that they are made of.
 
 -- sx: the sines of 1 to n times an angle
 unfoldable pub sxOf : Float → Float → ℕ → List Float

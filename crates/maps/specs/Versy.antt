@@ -67,17 +67,6 @@ geographicOf w sx gob clg k = cond (leb k (w 0)) (sxPower sx k) (geographicFrom 
 
 -- ---- the same functions in an array, 'filled along the index ladder'
 
--- the waves of the harmonics 1 to 8: cosine, sine, cosine, ..
-unfoldable pub waveAt : Float → Float → ℕ → Float
-waveAt gob clg i = cond (eqb (i % 2) 0) (cosWave gob clg (i / 2 + 1)) (sinWave gob clg (i / 2 + 1))
-
-unfoldable pub wavesOf : Float → Float → List Float
-wavesOf gob clg = tabulate (waveAt gob clg) 16
-
--- the function i of a harmonic from its two waves
-unfoldable pub rungOf : Float → Float → Float → ℕ → Float
-rungOf sx c s i = raised sx (i / 2) (cond (eqb (i % 2) 0) c s)
-
 -- '76 numbers set to 0 first'
 unfoldable pub zeros : List Float
 zeros = replicate 76 (fraction 0 1)
@@ -101,10 +90,6 @@ topFrom w (suc n) j = cond (eqb (w (j + 1)) (w j)) (w j) (topFrom w n (j + 1))
 unfoldable pub topOf : (ℕ → ℕ) → ℕ
 topOf w = topFrom w 8 0
 
--- the number i of an array
-abbrev pub elements : List Float → ℕ → Float
-elements g i = getD g i nan
-
 -- ---- the series
 
 -- gamma after the terms 0 to n, `at` being the first one's place in AB: the first alone, then each
@@ -113,11 +98,6 @@ unfoldable pub gammaOf : List Float → ℕ → (ℕ → Float) → ℕ → Floa
 gammaOf ab at g zero = narrowOf (g 0 ⊗ getD ab at nan)
 gammaOf ab at g (suc n) = narrowOf (gammaOf ab at g n ⊕ getD ab (at + suc n) nan ⊗ g (suc n))
 
--- gamma before it is narrowed
-unfoldable pub sumOf : List Float → ℕ → (ℕ → Float) → ℕ → Float
-sumOf ab at g zero = g 0 ⊗ getD ab at nan
-sumOf ab at g (suc n) = narrowOf (sumOf ab at g n) ⊕ getD ab (at + suc n) nan ⊗ g (suc n)
-
 -- the value of the map k, counted from 0, whose geographic functions are g
 unfoldable pub seriesOf : List Float → List ℕ → ℕ → (ℕ → Float) → Float
 seriesOf ab index k g = gammaOf ab (getD IC k 0 - 1) g (mapWord index k 8)
@@ -125,6 +105,42 @@ seriesOf ab index k g = gammaOf ab (getD IC k 0 - 1) g (mapWord index k 8)
 -- the value of the map iz, 1 to 6; its last term is word 8
 unfoldable pub versyOf : List Float → List ℕ → ℕ → Float → Float → Float → Float
 versyOf ab index iz x clg gob = seriesOf ab index (iz - 1) (geographicOf (mapWord index (iz - 1)) (sinOf x) gob clg)
+
+-- the six maps at a place: the E map at its latitude, the others at its dip
+unfoldable pub gammasOf : List Float → List ℕ → Float → Float → Float → Float → Gammas
+gammasOf ab index dip lat clg gob =
+    record {
+      g1 = versyOf ab index 1 dip clg gob;
+      g2 = versyOf ab index 2 dip clg gob;
+      g3 = versyOf ab index 3 dip clg gob;
+      g4 = versyOf ab index 4 dip clg gob;
+      g5 = versyOf ab index 5 dip clg gob;
+      g6 = versyOf ab index 6 lat clg gob;
+    }
+
+-- ---- on the way: nothing below need be believed
+
+-- Only private contracts and proofs use what follows.
+
+-- the waves of the harmonics 1 to 8: cosine, sine, cosine, ..
+unfoldable pub waveAt : Float → Float → ℕ → Float
+waveAt gob clg i = cond (eqb (i % 2) 0) (cosWave gob clg (i / 2 + 1)) (sinWave gob clg (i / 2 + 1))
+
+unfoldable pub wavesOf : Float → Float → List Float
+wavesOf gob clg = tabulate (waveAt gob clg) 16
+
+-- the function i of a harmonic from its two waves
+unfoldable pub rungOf : Float → Float → Float → ℕ → Float
+rungOf sx c s i = raised sx (i / 2) (cond (eqb (i % 2) 0) c s)
+
+-- the number i of an array
+abbrev pub elements : List Float → ℕ → Float
+elements g i = getD g i nan
+
+-- gamma before it is narrowed
+unfoldable pub sumOf : List Float → ℕ → (ℕ → Float) → ℕ → Float
+sumOf ab at g zero = g 0 ⊗ getD ab at nan
+sumOf ab at g (suc n) = narrowOf (sumOf ab at g n) ⊕ getD ab (at + suc n) nan ⊗ g (suc n)
 
 -- three sums at once
 abbrev pub sumsOf : List Float → ℕ → (ℕ → Float) → ℕ → (ℕ → Float) → ℕ → (ℕ → Float) → ℕ → Sums
@@ -142,15 +158,3 @@ threeAt ab index k sx sz gob clg =
     (geographicOf (mapWord index k) sx gob clg)
     (geographicOf (mapWord index (k + 1)) sx gob clg)
     (geographicOf (mapWord index (k + 2)) sz gob clg)
-
--- the six maps at a place: the E map at its latitude, the others at its dip
-unfoldable pub gammasOf : List Float → List ℕ → Float → Float → Float → Float → Gammas
-gammasOf ab index dip lat clg gob =
-    record {
-      g1 = versyOf ab index 1 dip clg gob;
-      g2 = versyOf ab index 2 dip clg gob;
-      g3 = versyOf ab index 3 dip clg gob;
-      g4 = versyOf ab index 4 dip clg gob;
-      g5 = versyOf ab index 5 dip clg gob;
-      g6 = versyOf ab index 6 lat clg gob;
-    }

@@ -37,14 +37,6 @@ waveOf c s (suc jb) =
 unfoldable pub hourWave : Float → ℕ → Wave
 hourWave gmt jb = let time = timeOf gmt .0 in waveOf (cos32Of time) (sin32Of time) jb
 
--- the arrays c and s
-unfoldable pub hourWaves : Float → Waves
-hourWaves gmt = record { c = tabulate (λ jb. hourWave gmt jb .c) 8; s = tabulate (λ jb. hourWave gmt jb .s) 8 }
-
--- c[jb] and s[jb] of two arrays
-unfoldable pub waveIn : List Float → List Float → ℕ → Wave
-waveIn c s jb = record { c = getD c jb nan; s = getD s jb nan }
-
 -- `value` after ka harmonics: cof[at], then value + s[ka] * cof[at + 2 * ka + 1] + c[ka] * cof[at +
 -- 2 * ka + 2]
 unfoldable pub valueOf : (ℕ → Wave) → List Float → ℕ → ℕ → Float
@@ -75,3 +67,15 @@ timeMapOf v cof index iz ab = fill (rowValue v cof index iz) (getD IC iz 0 - 1) 
 unfoldable pub virtimOf : List Float → List ℕ → Float → List Float
 virtimOf cof index gmt =
     loop 0 6 (timeMapOf (hourWave gmt) cof index) (replicate 318 (decimal 0 1))
+
+-- ---- on the way: nothing below need be believed
+
+-- Only private contracts and proofs use what follows.
+
+-- the arrays c and s
+unfoldable pub hourWaves : Float → Waves
+hourWaves gmt = record { c = tabulate (λ jb. hourWave gmt jb .c) 8; s = tabulate (λ jb. hourWave gmt jb .s) 8 }
+
+-- c[jb] and s[jb] of two arrays
+unfoldable pub waveIn : List Float → List Float → ℕ → Wave
+waveIn c s jb = record { c = getD c jb nan; s = getD s jb nan }
