@@ -1,3 +1,2 @@
--- Lists of calls over words: demand 3 and the insurer's line.
+-- Lists of calls over words: demand 3.
 pub mod Carried
-pub mod InsuredOver

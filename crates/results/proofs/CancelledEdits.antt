@@ -3,7 +3,7 @@
 use mathlib.Core.Path.{refl}
 use Rattle.worksheet.proofs.drafts.Effects
 use Rattle.worksheet.proofs.lists.Rules as Rules
-use Rattle.worksheet.proofs.lists.Kept as Kept
+use Rattle.results.proofs.lists.Kept as Kept
 use Rattle.worksheet.proofs.checks.Showings as Showings
 use Rattle.worksheet.proofs.drafts.Openings as Openings
 use Rattle.jutetrowel.specs.Words.{worksheetOf}

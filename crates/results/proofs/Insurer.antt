@@ -2,11 +2,11 @@
 -- Assumes nothing.
 use mathlib.Core.List.{reverse}
 use Rattle.worksheet.proofs.lists.Examples
-use Rattle.worksheet.proofs.force.Insured as Line
-use Rattle.worksheet.proofs.force.Lasting as Lasting
-use Rattle.worksheet.proofs.force.Unbroken as Unbroken
+use Rattle.results.proofs.force.Insured as Line
+use Rattle.results.proofs.force.Lasting as Lasting
+use Rattle.results.proofs.force.Unbroken as Unbroken
 use Rattle.jutetrowel.specs.Words.{worksheetOf}
-use Rattle.jutetrowel.proofs.lists.InsuredOver as Over
+use Rattle.results.proofs.force.InsuredOver as Over
 use Rattle.results.specs.Insurer.{InsurersSentence, InsurersSentenceOpened, InsurersSentenceHanded, StayInRange, AlwaysShown, FirstShowing, ShowingsExist, InsurersSentenceLent, InsurersSentenceOver, ChangeNeverCancelled, ChangeNeverCancelledOver, CommitSource, ChangeSource, UndisturbedDraft, CommitUndisturbed, InsurersLine, InsurersLineLent, InsurersLineOver, OpenedInForce, InputsInForce, InForceOver, BegunInForce, CommitsExactly, InForceExactly, OpenedExactly, SomeOpen}
 use Rattle.results.proofs.files.GoodFiles.{files-accepted}
 use Rattle.results.proofs.sheet.AlwaysShown as Shown

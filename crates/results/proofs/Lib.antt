@@ -16,3 +16,5 @@ pub mod series
 pub mod clock
 pub mod finite
 pub mod sheet
+pub mod lists
+pub mod force

@@ -2,4 +2,3 @@
 pub mod checks
 pub mod drafts
 pub mod lists
-pub mod force

@@ -1,5 +1,4 @@
--- Lists of calls: demand 3 and what the shorter list holds.
+-- Lists of calls: demand 3, and worked lists.
 pub mod Replay
 pub mod Rules
-pub mod Kept
 pub mod Examples

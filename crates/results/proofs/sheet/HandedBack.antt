@@ -18,7 +18,7 @@ use Rattle.jutetrowel.specs.declared.answers.Showing.{Showing}
 use Rattle.jutetrowel.specs.Answers.{answerOf, showingOf}
 use Rattle.jutetrowel.specs.Words.{worksheetOf, wordsAfter}
 use Rattle.jutetrowel.specs.Calls.{CallSingles, CallsSingles, Shows, wordsLeft, entriesOver, wordsOver}
-use Rattle.jutetrowel.proofs.lists.InsuredOver.{insurers-sentence-opened}
+use Rattle.results.proofs.force.InsuredOver.{insurers-sentence-opened}
 
 pub accepted-number : (v : Verdict) → answerOf v .number ≡ 0 → v ≡ Accepted
 unfolding answerOf

@@ -18,19 +18,19 @@ use Rattle.maps.specs.declared.inputs.Inputs.{Inputs}
 use Rattle.maps.specs.declared.figures.Shown.the-variants.{Points}
 use Rattle.base.specs.Files.{filesCheck}
 use Rattle.maps.specs.Figures.{sheetPath, figuresOf, pointsOr}
 use Rattle.worksheet.specs.declared.inputs.Edit.{Edit}
 use Rattle.worksheet.specs.declared.desks.Worksheet.{Worksheet}
 use Rattle.worksheet.specs.declared.desks.Draft.the-variants.{Fresh}
 use Rattle.worksheet.specs.Desks.{draftAt, freshSheet, openOf}
 use Rattle.worksheet.specs.Showing.{Source, pair, inputsShown, bufferCheck, drawnCheck, judgedCheck, showCheck, showOf, showBuffer}
 use Rattle.worksheet.specs.Journal.{Call, begin, commit, cancel, change, takeBack, show, shown, Role, beginning, ending, settling, belonging, returning, showing, roleOf, Entry, accepted, roleIn, good, Step, step, entryOf, run, isBegin, isOwn, begins, belongs, own, none}
 use Rattle.worksheet.specs.InForce.{editsIn, editsOf, AcceptedCommit, changesBy, inputsBy, Force, forceIn, forceAfter, commitsInForce, inForce, FiguresOf, disturbs, DraftUndisturbed, CommitInForce, InForceBy}
 use Rattle.worksheet.proofs.drafts.Drafts.{atRest, rest-none}
 use Rattle.worksheet.proofs.drafts.Effects.{Accepts, begun, begin-leaves, desk-put}
 use Rattle.worksheet.proofs.lists.Rules.{law}
-use Rattle.worksheet.proofs.lists.Kept.{_∈_, own-member, own-calls, none-first}
-use Rattle.worksheet.proofs.force.Tracked.{force-still, quiet-still, begin-still, quiet-unbegun, Holds, start-holds, run-holds}
-use Rattle.worksheet.proofs.force.Lasting.{commits-exactly, left-source}
+use Rattle.results.proofs.lists.Kept.{_∈_, own-member, own-calls, none-first}
+use Rattle.results.proofs.force.Tracked.{force-still, quiet-still, begin-still, quiet-unbegun, Holds, start-holds, run-holds}
+use Rattle.results.proofs.force.Lasting.{commits-exactly, left-source}
 
 -- ---- lists read backwards
 

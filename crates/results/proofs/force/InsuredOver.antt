@@ -16,12 +16,12 @@ use Rattle.worksheet.specs.Showing.{Source, pair}
 use Rattle.worksheet.specs.Journal.{Call, show, shown, Entry, run}
 use Rattle.worksheet.specs.InForce.{changesBy, commitsInForce, inForce, takenBack, startLeft, FiguresOf, NeverCancelled, Insured}
 use Rattle.worksheet.proofs.drafts.Drafts.{atRest}
-use Rattle.worksheet.proofs.force.Insured.{in-force, insurers-line-lent}
-use Rattle.worksheet.proofs.force.Lasting.{same-start}
-use Rattle.worksheet.proofs.force.Unbroken.{never-cancelled, insurers-sentence-lent}
+use Rattle.results.proofs.force.Insured.{in-force, insurers-line-lent}
+use Rattle.results.proofs.force.Lasting.{same-start}
+use Rattle.results.proofs.force.Unbroken.{never-cancelled, insurers-sentence-lent}
 use Rattle.jutetrowel.specs.Words.{worksheetOf, wordsAfter}
 use Rattle.jutetrowel.specs.Calls.{CallsSingles, entriesOver, wordsOver}
 use Rattle.jutetrowel.proofs.lists.Carried.{all-calls, open-read}
 
 -- for all words that hold a worksheet whose desks are closed, any source of files, and every list
 -- of calls by f32 numbers

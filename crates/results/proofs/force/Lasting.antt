@@ -9,17 +9,17 @@ use mathlib.Core.Path.{_≡_, refl, sym, ap, ap₂, subst, _∙_}
 use Prim.Native.Nat.{ℕ}
 use Rattle.base.specs.declared.refusal.Verdict.the-variants.{Accepted}
 use Rattle.maps.specs.declared.inputs.Inputs.{Inputs}
 use Rattle.worksheet.specs.declared.desks.Earlier.{Earlier}
 use Rattle.worksheet.specs.declared.desks.Earlier.the-variants.{Nothing, Set}
 use Rattle.worksheet.specs.declared.desks.Worksheet.{Worksheet}
 use Rattle.worksheet.specs.Desks.{setOf, freshSheet, openOf}
 use Rattle.worksheet.specs.Showing.{Source, pair}
 use Rattle.worksheet.specs.Journal.{Call, Role, beginning, ending, settling, belonging, returning, showing, roleOf, Entry, accepted, roleIn, good, step, entryOf, run}
 use Rattle.worksheet.specs.InForce.{changed, AcceptedCommit, Standing, changesBy, inputsBy, Force, standingAt, standingBefore, forceIn, pushed, returnedTo, forceBy, forceAfter, commitsInForce, inForce, takenBackBy, takenBack, leftBy, commitsLeft, startLeft, CommitInForce}
 use Rattle.worksheet.proofs.drafts.Drafts.{atRest, rest-none}
 use Rattle.worksheet.proofs.lists.Replay.{Law}
 use Rattle.worksheet.proofs.lists.Rules.{law}
-use Rattle.worksheet.proofs.force.Tracked.{nothing-not-set, earlierBy, Holds, next, start-holds}
+use Rattle.results.proofs.force.Tracked.{nothing-not-set, earlierBy, Holds, next, start-holds}
 
 -- ---- the set that some entries leave, from the inputs i on, with e as the earlier set
 

@@ -13,17 +13,17 @@ use borrow.Author.Tests.{eqb-true, eq-eqb}
 use Rattle.base.specs.declared.refusal.Verdict.the-variants.{Accepted}
 use Rattle.maps.specs.declared.inputs.Inputs.{Inputs}
 use Rattle.maps.specs.declared.figures.Shown.the-variants.{Points}
 use Rattle.worksheet.specs.declared.inputs.Edit.{Edit}
 use Rattle.worksheet.specs.declared.desks.Worksheet.{Worksheet}
 use Rattle.worksheet.specs.Desks.{setOf, freshSheet, openOf}
 use Rattle.worksheet.specs.Showing.{Source, pair}
 use Rattle.worksheet.specs.Journal.{Call, begin, commit, cancel, change, takeBack, show, shown, Role, beginning, ending, settling, belonging, returning, showing, roleOf, Entry, good, run, isBegin, isOwn, belongs, own, keep, none}
 use Rattle.worksheet.specs.InForce.{editsIn, changed, changesBy, commitsInForce, inForce, takenBack, commitsLeft, startLeft, FiguresOf, disturbs, NeverCancelled, Insured}
 use Rattle.worksheet.proofs.drafts.Drafts.{atRest}
 use Rattle.worksheet.proofs.drafts.Effects.{both-true}
-use Rattle.worksheet.proofs.lists.Kept.{_∈_, none-first}
-use Rattle.worksheet.proofs.force.Lasting.{same-start, commits-exactly, in-force-exactly}
-use Rattle.worksheet.proofs.force.Insured.{run-before, insurers-line-lent, undisturbed-draft, change-source}
+use Rattle.results.proofs.lists.Kept.{_∈_, none-first}
+use Rattle.results.proofs.force.Lasting.{same-start, commits-exactly, in-force-exactly}
+use Rattle.results.proofs.force.Insured.{run-before, insurers-line-lent, undisturbed-draft, change-source}
 
 -- ---- calls by their roles
 

@@ -1,0 +1,2 @@
+-- Lists of calls: what the shorter list holds.
+pub mod Kept
