@@ -1,15 +1,22 @@
 -- What cancelled edits leave behind: each statement of specs/CancelledEdits.antt, from where the
 -- work is done. Assumes nothing.
-use mathlib.Core.Path.{refl}
+use mathlib.Core.Bool.{false, true≢false}
+use mathlib.Core.List.{List}
+use mathlib.Core.Path.{_≡_, refl}
+use Prim.Native.Nat.{ℕ}
+use Rattle.base.specs.declared.refusal.Verdict.the-variants.{Accepted, Refused}
+use Rattle.worksheet.specs.declared.desks.Worksheet.{Worksheet}
+use Rattle.worksheet.specs.Journal.{Answer, told, shown, accepted, step}
 use Rattle.worksheet.proofs.drafts.Effects
 use Rattle.worksheet.proofs.lists.Rules as Rules
 use Rattle.results.proofs.lists.Kept as Kept
 use Rattle.worksheet.proofs.checks.Showings as Showings
 use Rattle.worksheet.proofs.drafts.Openings as Openings
 use Rattle.jutetrowel.specs.Words.{worksheetOf}
+use Rattle.jutetrowel.specs.Calls.{wordsBy, wordsLeft}
 use Rattle.jutetrowel.proofs.lists.Carried as Carried
 use Rattle.jutetrowel.proofs.crossing.Unopened as Unopened
-use Rattle.results.specs.CancelledEdits.{DemandThree, DemandThreeOver, DemandThreeLent, DemandThreeOverLent, KeptInOrder, JustBefore, NothingElse, RefusedBuffer, OpenRefused, SheetRefused, RefusedSheet}
+use Rattle.results.specs.CancelledEdits.{DemandThree, DemandThreeOver, DemandThreeLent, DemandThreeOverLent, KeptInOrder, JustBefore, NothingElse, RefusedBuffer, OpenRefused, SheetRefused, RefusedSheet, RefusedWords}
 use Rattle.results.proofs.sheet.ClosedDesks.{at-rest}
 
 pub demand-3 : DemandThree
@@ -35,6 +42,17 @@ nothing-else = Kept.nothing-else
 
 pub refused-sheet : RefusedSheet
 refused-sheet = Effects.refused-unmoved
+
+-- the words by the answer
+unwritten : (r : Answer) (w : Worksheet) (l : List ℕ) → accepted r ≡ false → wordsBy r w l ≡ l
+unwritten (told Accepted) w l h = absurd (true≢false h)
+unwritten (told (Refused why)) w l h = refl
+unwritten (shown s after) w l h = refl
+
+pub refused-words : RefusedWords
+unfolding wordsLeft
+refused-words source c l h =
+    let s = step source c (worksheetOf l) in unwritten (s .answer) (s .sheet) l h
 
 pub refused-buffer : RefusedBuffer
 refused-buffer = Showings.refused-buffer

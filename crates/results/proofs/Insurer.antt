@@ -1,7 +1,7 @@
 -- The insurer's question: each statement of specs/Insurer.antt, from where the work is done.
 -- Assumes nothing.
 use mathlib.Core.List.{reverse}
-use Rattle.worksheet.proofs.lists.Examples
+use mathlib.Core.Path.{refl}
 use Rattle.results.proofs.force.Insured as Line
 use Rattle.results.proofs.force.Lasting as Lasting
 use Rattle.results.proofs.force.Unbroken as Unbroken
@@ -12,6 +12,7 @@ use Rattle.results.proofs.files.GoodFiles.{files-accepted}
 use Rattle.results.proofs.sheet.AlwaysShown as Shown
 use Rattle.results.proofs.sheet.HandedBack as HandedBack
 use Rattle.results.proofs.sheet.ClosedDesks.{at-rest}
+use Rattle.results.proofs.sheet.Opening as Opening
 
 pub insurers-sentence : InsurersSentence
 insurers-sentence = Unbroken.insurers-sentence
@@ -32,7 +33,7 @@ pub first-showing : FirstShowing
 first-showing = Shown.first-showing
 
 pub some-open : SomeOpen
-some-open = (Examples.inRange, Examples.in-range)
+some-open = (Opening.openingBytes, (refl, (Opening.of-bytes, Opening.opens)))
 
 pub showings-exist : ShowingsExist
 showings-exist = (_, (_, Shown.first-showing _ _ files-accepted))

@@ -1,4 +1,4 @@
--- Figures by their places, sheets that are shown, desks that are closed.
+-- Figures by their places, sheets that are shown, desks that are closed, words that open.
 pub mod FigurePlaces
 pub mod GoodSheet
 pub mod Ignored
@@ -6,3 +6,4 @@ pub mod AlwaysShown
 pub mod HandedBack
 pub mod ClosedDesks
 pub mod ShownClocks
+pub mod Opening

@@ -3,12 +3,12 @@
 -- nothing.
 use mathlib.Core.Path.{_≡_}
 use mathlib.Core.Logic.{_⊎_}
-use mathlib.Core.Bool.{Bool, true, false}
+use mathlib.Core.Bool.{Bool, true, false, cond}
 use mathlib.Core.List.{List}
 use Prim.Native.Nat.{ℕ, suc, _+_, _-_, _*_, _^_, _≤_, _<_}
 use lib.Dec.{T}
 use lib.ListN.{length, getD, set, replicate}
-use lib.Ieee.{Float, nan, neg, lt, le, eq}
+use lib.Ieee.{Float, nan, binary32, neg, lt, le, eq}
 use denote.Ref.{RefT, now}
 use Rattle.base.specs.declared.angle.Degrees.{Degrees}
 use Rattle.base.specs.declared.angle.Radians.{Radians}
@@ -17,7 +17,7 @@ use Rattle.base.specs.declared.refusal.Verdict.the-variants.{Accepted, Refused}
 use Rattle.base.specs.Single.{_⊕_, _⊖_, _⊗_, _⊘_, decimal, minusDecimal}
 use Rattle.base.specs.Double.{fraction}
 use Rattle.base.specs.Constants.{PI, PI2}
-use Rattle.base.specs.Number.{absOf}
+use Rattle.base.specs.Number.{absOf, sqrtOf}
 use Rattle.base.specs.Elementary.{cos32Of}
 use Rattle.base.specs.Ranges.{isTo}
 use Rattle.base.specs.Words.{wordAt, floatAt}
@@ -47,7 +47,7 @@ use Rattle.maps.specs.Series.{omegaOf}
 use Rattle.maps.specs.Ionosphere.{hourMapsOf, gammasAt}
 use Rattle.maps.specs.Magnetic.{o, HC, CT, entry, clampedPlace, pOf, dpOf, bvOf, bnOf, bphiOf, magfinOf, eastOf, magvarOf, at7, placedOf, State, state, degreeOf, expansionOf}
 use Rattle.maps.specs.Geometry.{absent, nowhere, pathOf, signOf, geomagneticOf}
-use Rattle.maps.specs.Layers.{clockOf, gamma6Of}
+use Rattle.maps.specs.Layers.{clockOf}
 use Rattle.maps.specs.Figures.{hourOf, sheetPath, figuresOf}
 use Rattle.maps.specs.Clocks.{thetaOf, afterShift, forLoop, wraps, cngtimOf, movedOf, timesOf, localTimeOf}
 use Rattle.worksheet.specs.declared.desks.Worksheet.{Worksheet}
@@ -106,26 +106,31 @@ PointSeries =
     ≡
     atDipAndLatitude omega dip lat
 
--- So the figures of a point p that is there: its fi[0] is Omega of the sixth map, or the midnight
--- value where that is below 0.36, times the E factor; its fi[2] Omega of the fourth and half the
--- gyrofrequency, times the F2 factor; its `f2m3` Omega of the fifth; and its `fs` are those of the
--- third, the second and the first, each times the Es factor.
+-- So six figures of a point p that is there. Its fi[0] is the E factor times Omega of the sixth map
+-- at the latitude or, where that Omega less 0.36 is below 0, times 0.36 √(1 + 0.0098 s), s being
+-- the sunspot number. Its fi[2] is the sum of Omega of the fourth at the dip and half the
+-- gyrofrequency that `magvar` gives there, times the F2 factor. Its `f2m3` is Omega of the fifth at
+-- the dip, and its fs[0], fs[1] and fs[2] are Omega of the third, second and first at the dip, each
+-- times the Es factor.
 abbrev pub FigureSeries : Type 0
 FigureSeries =
     (f2 file : List ℕ) (i : Inputs) → indexCheck file ≡ Accepted → (p : ℕ) → 1 ≤ p → p ≤ sheetPath i .count →
     let figure : ℕ → Float = λ k. getD (figuresOf f2 file i) (6 + 29 * (p - 1) + k) nan in
     let pt = getD (sheetPath i .points) (p - 1) nowhere in
     let omega = omegaFrom f2 file (i .ssn) (i .gmt) (eastOf (pt .lon) .0) (cos32Of (pt .lat .0)) in
-    let dip = magvarOf (pt .lat) (pt .lon) .gmdip .0 in
-    (figure 7 ≡ gamma6Of (omega 5 (pt .lat .0)) (i .ssn) ⊗ i .psc .e)
-    × (figure 9 ≡ (omega 3 dip ⊕ decimal 5 1 ⊗ figure 4) ⊗ i .psc .f2)
+    let mag = magvarOf (pt .lat) (pt .lon) in
+    let dip = mag .gmdip .0 in
+    let e = omega 5 (pt .lat .0) in
+    let midnight = decimal 36 2 ⊗ sqrtOf binary32 (decimal 10 1 ⊕ decimal 98 4 ⊗ i .ssn) in
+    (figure 7 ≡ cond (lt (e ⊖ decimal 36 2) (decimal 0 1)) midnight e ⊗ i .psc .e)
+    × (figure 9 ≡ (omega 3 dip ⊕ decimal 5 1 ⊗ mag .gyz) ⊗ i .psc .f2)
     × (figure 16 ≡ omega 4 dip)
     × (figure 23 ≡ omega 2 dip ⊗ i .psc .es)
     × (figure 24 ≡ omega 1 dip ⊗ i .psc .es)
     × (figure 25 ≡ omega 0 dip ⊗ i .psc .es)
 
--- Of any coefficients and an index table whose six maps are good, it is Omega over the coefficients
--- where they stand in COFION.
+-- Of any coefficients and an index table whose six maps are good, what `versy` gives for each map
+-- from what `virtim` left is Omega over the coefficients where they stand in COFION.
 abbrev pub MapSeries : Type 0
 MapSeries =
     (cof : List Float) (index : List ℕ) (gmt x clg gob : Float) → GoodTable index → (k : ℕ) → k < 6 →
@@ -166,15 +171,19 @@ RunsMeet = (k : ℕ) → k < 5 → getD IA (k + 1) 0 ≡ getD IA k 0 + getD rows
 
 -- and the last ends where COFION does, counted from 1.
 abbrev pub RunsEnd : Type 0
-RunsEnd = getD IA 5 0 + getD rows 5 0 * getD IB 5 0 ≡ 2604 + 1
+RunsEnd =
+    (f2 month : List ℕ) (s : Float) →
+    getD IA 5 0 + getD rows 5 0 * getD IB 5 0 ≡ length (cofionOf f2 month s) + 1
 
 -- IC packs their rows: where those of a map end, the next begin,
 abbrev pub PartsMeet : Type 0
 PartsMeet = (k : ℕ) → k < 5 → getD IC (k + 1) 0 ≡ getD IC k 0 + getD rows k 0
 
--- and the last end where AB does, counted from 1.
+-- and the last end where AB does, what `virtim` leaves, counted from 1.
 abbrev pub PartsEnd : Type 0
-PartsEnd = getD IC 5 0 + getD rows 5 0 ≡ 318 + 1
+PartsEnd =
+    (cof : List Float) (index : List ℕ) (gmt : Float) →
+    getD IC 5 0 + getD rows 5 0 ≡ length (virtimOf cof index gmt) + 1
 
 -- Of an index table whose six maps are good, AB holds the daily series of each row of each map up
 -- to word 8, from IC on.
@@ -291,7 +300,7 @@ PFilled =
     (x : Place) (n : ℕ) → n ≤ 6 →
     HoldsDegrees (pOf (x .c) (x .s)) n (loop 1 (n + 1) (degreeOf x) fieldStart .p)
 
--- And dp their derivatives.
+-- And dp what the recurrences of their derivatives give (`dpOf`), and 0 likewise.
 abbrev pub DpFilled : Type 0
 DpFilled =
     (x : Place) (n : ℕ) → n ≤ 6 →

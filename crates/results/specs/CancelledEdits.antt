@@ -18,7 +18,7 @@ use Rattle.worksheet.specs.Desks.{openOf, openedOf}
 use Rattle.worksheet.specs.Showing.{Source, pair, showOf, showBuffer}
 use Rattle.worksheet.specs.Journal.{Call, commit, show, shown, Entry, good, step, run, own, shorter, keep, keptByItself, OwnCall, keptOf, Demand3, accepted}
 use Rattle.jutetrowel.specs.Words.{worksheetOf, wordsAfter}
-use Rattle.jutetrowel.specs.Calls.{CallsSingles, Demand3Over}
+use Rattle.jutetrowel.specs.Calls.{CallsSingles, wordsLeft, Demand3Over}
 use Rattle.results.specs.Insurer.{DesksClosed}
 
 -- ---- demand 3: 'every call kept answers alike in both, each showing's whole figures included, and
@@ -77,11 +77,18 @@ NothingElse =
 
 -- ---- demand 1: 'A refusal changes neither worksheet nor lent buffer'
 
--- A call that is refused leaves the worksheet, whatever the call
+-- Any of the six calls of a list (begin, change, commit, cancel, take back, show) that is refused
+-- leaves the worksheet as it was, whatever worksheet and files,
 abbrev pub RefusedSheet : Type 0
 RefusedSheet =
     (source : Source) (c : Call) (w : Worksheet) → accepted (step source c w .answer) ≡ false →
     step source c w .sheet ≡ w
+
+-- and of the library's calls one that is refused leaves the lent words as they were, bit for bit,
+abbrev pub RefusedWords : Type 0
+RefusedWords =
+    (source : Source) (c : Call) (l : List ℕ) → accepted (step source c (worksheetOf l) .answer) ≡ false →
+    wordsLeft source c l ≡ l
 
 -- and a showing that is refused leaves the buffer as it was lent
 abbrev pub RefusedBuffer : Type 0
@@ -91,8 +98,8 @@ RefusedBuffer =
 
 -- ---- document 01, Open: 'a refused one gives no worksheet'
 
--- Where an open is refused, the worksheet that stands beside the refusal is none to use: its own
--- showing is refused by the same field, whatever is lent
+-- Where an open is refused, a showing of the worksheet that stands beside the refusal is refused by
+-- the same number and place, whatever is lent; of its other calls nothing is said
 abbrev pub OpenRefused : Type 0
 OpenRefused =
     (source : Source) (i : Inputs) (lent : List Float) (why : Refusal) → openOf i .answer ≡ Refused why →

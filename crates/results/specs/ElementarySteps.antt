@@ -15,8 +15,8 @@ use Rattle.base.specs.Elementary.{sinTerms, cosTerms, atanTerms, expTerms, lnTe
 
 -- ---- demand 2: the square root
 
--- Of a number above 0 of the format no other number of the format lies as near to the true root as
--- the root that is given.
+-- Of a finite number above 0 of the format no other number of the format lies as near to the true
+-- root as the root that is given.
 abbrev pub SqrtNearest : Type 0
 SqrtNearest = (f : Format) (x : Float) → T (fits f x) → T (positive x) → NearestRoot f x (sqrtOf f x)
 
@@ -26,7 +26,7 @@ SqrtNarrow = (x : Float) → T (fits binary32 x) → narrowOf (sqrtOf binary64 x
 
 -- ---- demand 2: the elementary functions
 
--- the bit patterns of the code's five tables, the lowest term first: sin, cos, atan, exp, ln
+-- a copy of the code's five tables as bit patterns, the lowest term first: sin, cos, atan, exp, ln
 abbrev pub codeTerms : List (List ℕ)
 codeTerms =
     (0x3ff0000000000000 ∷ 0xbfc5555555555555 ∷ 0x3f81111111111111 ∷ 0xbf2a01a01a01a01a
@@ -46,8 +46,9 @@ codeTerms =
     ∷ 0x3fa47ae147ae147b ∷ 0x3fa2f684bda12f68 ∷ 0x3fa1a7b9611a7b96 ∷ 0x3fa0842108421084 ∷ [])
     ∷ []
 
--- Each of the 54 coefficients in the code's five tables (`codeTerms`, as bits) is the f64 nearest
--- to its fraction.
+-- Each of the 54 bit patterns of `codeTerms`, a copy of the code's five tables, is the f64 nearest
+-- to its fraction; that the code's functions give what the series with these coefficients give is
+-- said by their contracts (`sinSeries`, `cosSeries`, `atanSeries`, `expWithin`, `lnSeries`).
 abbrev pub Tied : Type 0
 Tied = map (map (ofBits binary64)) codeTerms ≡ sinTerms ∷ cosTerms ∷ atanTerms ∷ expTerms ∷ lnTerms ∷ []
 

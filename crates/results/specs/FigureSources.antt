@@ -142,9 +142,9 @@ PoleOnly =
 
 -- ---- demand 2: 'Degrees as typed and radians as worked meet only through D2R and R2D'
 
--- Two routes whose ends are the same in radians and in the test at 89.9 degrees, the receiver taken
--- where it was moved off its transmitter, with poles the same in radians, have the same path but
--- for `rlatd`, which is typed
+-- Two routes that go the same way round, whose ends are the same in radians and in the test at 89.9
+-- degrees, the receiver taken where it was moved off its transmitter, with poles the same in
+-- radians, have the same path but for `rlatd`, which is typed
 abbrev pub OnlyRadians : Type 0
 OnlyRadians =
     (tlat tlong rlat rlong tlat' tlong' rlat' rlong' : Degrees) (long : Bool) (p q : MagneticPole) →

@@ -233,10 +233,10 @@ pub record SoundFiles (i : Inputs) : Type 0 where
   pub accepted : filesCheck f2 file ≡ Accepted
   pub sound : SoundSheet f2 file i
 
--- A sheet is sound if every field but month and flag is in range, the index table passes, and each
--- number that figures read from the files is at most 65,536 in size. For all inputs with those
--- fields in range there are files that the checks accept, and with which the sheet is sound
--- (`SoundFiles`).
+-- A sheet is sound if every field but month and flag is in range, the index table passes, and every
+-- word of the F2 planes and of each table that figures read numbers from (`isRead`) is a number of
+-- at most 65,536 in size. For all inputs with those fields in range there are files that the checks
+-- accept, and with which the sheet is sound (`SoundFiles`).
 abbrev pub SoundSheets : Type 0
 SoundSheets = (i : Inputs) → RouteInRange i → FieldsInRange i → SoundFiles i
 

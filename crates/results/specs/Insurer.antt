@@ -25,6 +25,7 @@ use Rattle.worksheet.specs.InForce.{AcceptedCommit, changed, changesBy, commits
 use Rattle.jutetrowel.specs.declared.answers.Showing.{Showing}
 use Rattle.jutetrowel.specs.Words.{worksheetOf, wordsAfter}
 use Rattle.jutetrowel.specs.Calls.{CallsSingles, Shows, entriesOver, wordsOver}
+use Rattle.results.specs.ExhibitedFiles.{Below}
 
 -- ---- two words of this page
 
@@ -105,11 +106,12 @@ FirstShowing =
     step (pair f2 file) (show 0 lent) (openOf i .sheet) .answer
     ≡ shown (Points (sheetPath i .count)) (figuresOf f2 file i)
 
--- There are inputs that open
+-- There are 14 words, 56 bytes, that open
 abbrev pub SomeOpen : Type 0
-SomeOpen = (i : Inputs) × (openOf i .answer ≡ Accepted)
+SomeOpen = (s : List ℕ) × ((length s ≡ 56) × (Below 256 s × (openedOf s .answer ≡ Accepted)))
 
--- There are a record and a month file over which every worksheet that was just opened is shown so
+-- There are a record and a month file over which every worksheet that was just opened is shown as
+-- in `FirstShowing`
 abbrev pub ShowingsExist : Type 0
 ShowingsExist =
     (f2 : List ℕ) × ((file : List ℕ) × (
@@ -140,9 +142,9 @@ InsurersSentenceOver =
 -- ---- 'from no edit that somebody had cancelled', of every worksheet whose desks are closed at the
 -- start
 
--- A change in force was accepted between an accepted begin of its desk and that desk's accepted
--- commit; between them nobody committed or took back, nor was the draft cancelled or begun anew;
--- and the commit was not taken back
+-- A change in force, as a value, was accepted between an accepted begin of its desk and that desk's
+-- accepted commit; between them nobody committed or took back, nor was the draft cancelled or begun
+-- anew; and the commit was not taken back
 abbrev pub ChangeNeverCancelled : Type 0
 ChangeNeverCancelled =
     (source : Source) (w : Worksheet) → DesksClosed w → (cs : List Call) (e : Edit) →
@@ -163,7 +165,7 @@ CommitSource =
     List·Memᴰ c (commitsInForce w (run source cs w .entries)) →
     CommitInForce (run source cs w .entries) c
 
--- A change in force was accepted, among the own calls of such a commit
+-- A change in force, as a value, was accepted, among the own calls of such a commit
 abbrev pub ChangeSource : Type 0
 ChangeSource =
     (source : Source) (w : Worksheet) → DesksClosed w → (cs : List Call) (e : Edit) →

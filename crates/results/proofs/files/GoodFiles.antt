@@ -116,11 +116,11 @@ file-bytes (n ∷ ns) b =
     below-append 256 (fourBytes n) (replicate n 0 ++ rest) (four-bytes n (b .0))
     (below-append 256 (replicate n 0) rest (zero-bytes n) (below-append 256 (fourBytes n) (fileOf ns) (four-bytes n (b .0)) (file-bytes ns (b .1))))
 
-all-below : ℕ → List ℕ → Bool
+unfoldable pub all-below : ℕ → List ℕ → Bool
 all-below limit [] = true
 all-below limit (n ∷ ns) = ltb n limit && all-below limit ns
 
-below-all : (limit : ℕ) (ns : List ℕ) → T (all-below limit ns) → Below limit ns
+pub below-all : (limit : ℕ) (ns : List ℕ) → T (all-below limit ns) → Below limit ns
 unfolding all-below
 below-all limit [] t = tt
 below-all limit (n ∷ ns) t = (ltb→lt n limit (and-l (ltb n limit) (all-below limit ns) t), below-all limit ns (and-r (ltb n limit) (all-below limit ns) t))

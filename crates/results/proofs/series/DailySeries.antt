@@ -3,20 +3,21 @@
 -- Assumes nothing.
 use mathlib.Core.Path.{_≡_, refl, sym, ap, _∙_, subst}
 use mathlib.Core.Logic.{inl, inr}
-use mathlib.Core.List.{List}
+use mathlib.Core.List.{List, [], _∷_, _++_}
 use Prim.Native.Nat.{ℕ, zero, suc, _+_, _-_, _*_, _≤_, _<_}
 use native.Mathlib.Nat.{add-zero, zero-add, add-assoc}
 use native.Mathlib.Numerals.{add-one}
 use native.Mathlib.Omega.{arith}
 use native.Mathlib.Decide.{decLt}
-use lib.Dec.{lit≤}
-use lib.ListN.{length, getD, replicate, length-replicate, getD-replicate}
+use lib.Dec.{lit≤, lit<}
+use lib.ListN.{length, getD, replicate, length-append, length-replicate, getD-replicate}
 use lib.Ieee.{Float, nan}
 use Rattle.base.specs.Single.{_⊕_, _⊗_, decimal}
 use Rattle.base.specs.Fill.{fill}
 use Rattle.base.specs.Index.{mapWord, rows}
-use Rattle.base.specs.Blend.{IA, IB, IC}
+use Rattle.base.specs.Blend.{IA, IB, IC, eslcofOf, esmcofOf, esucofOf, f2cofOf, fm3cofOf, ercofOf, cofionMaps, appended, cofionOf}
 use Rattle.base.proofs.lists.Fills.{length-fill, fill-at, fill-other}
+use Rattle.base.proofs.lists.Maps.{run-length}
 use Rattle.base.proofs.ladder.Ladders.{six}
 use Rattle.base.proofs.ladder.Indexing.{reads-inside}
 use Rattle.maps.specs.Loop.{times, loop}
@@ -58,9 +59,31 @@ runs-meet k h =
     (λ l. absurd (omega arith))
     k (omega arith) h
 
+-- the elements of all lists
+abbrev total : List (List Float) → ℕ
+total [] = 0
+total (l ∷ ls) = length l + total ls
+
+length-appended : (ls : List (List Float)) → length (appended ls) ≡ total ls
+length-appended [] = refl
+length-appended (l ∷ ls) = length-append l (appended ls) ∙ ap (λ (n : ℕ). length l + n) (length-appended ls)
+
+length-cofion : (f2 month : List ℕ) (s : Float) → length (cofionOf f2 month s) ≡ 2604
+unfolding cofionOf
+length-cofion f2 month s =
+    let a : length (eslcofOf month s) ≡ 275 = run-length f2 month s 0 (lit< tt) in
+    let b : length (esmcofOf month s) ≡ 427 = run-length f2 month s 1 (lit< tt) in
+    let c : length (esucofOf month s) ≡ 275 = run-length f2 month s 2 (lit< tt) in
+    let d : length (f2cofOf f2 s) ≡ 988 = run-length f2 month s 3 (lit< tt) in
+    let e : length (fm3cofOf month s) ≡ 441 = run-length f2 month s 4 (lit< tt) in
+    let f : length (ercofOf month s) ≡ 198 = run-length f2 month s 5 (lit< tt) in
+    length-appended (cofionMaps f2 month s) ∙ omega arith
+
 -- and those of the last end where COFION does
-pub runs-end : getD IA 5 0 + getD rows 5 0 * getD IB 5 0 ≡ 2604 + 1
-runs-end = refl
+pub runs-end :
+    (f2 month : List ℕ) (s : Float) →
+    getD IA 5 0 + getD rows 5 0 * getD IB 5 0 ≡ length (cofionOf f2 month s) + 1
+runs-end f2 month s = ap (λ (n : ℕ). n + 1) (sym (length-cofion f2 month s))
 
 -- where the rows of a map end, those of the next begin
 pub parts-meet : (k : ℕ) → k < 5 → getD IC (k + 1) 0 ≡ getD IC k 0 + getD rows k 0
@@ -74,9 +97,23 @@ parts-meet k h =
     (λ l. absurd (omega arith))
     k (omega arith) h
 
--- and those of the last end where AB does
-pub parts-end : getD IC 5 0 + getD rows 5 0 ≡ 318 + 1
-parts-end = refl
+module _ (cof : List Float) (index : List ℕ) (gmt : Float) where
+  length-times :
+      (n : ℕ) → length (times (timeMapOf (hourWave gmt) cof index) 0 n (replicate 318 (decimal 0 1))) ≡ 318
+  unfolding times timeMapOf
+  length-times zero = length-replicate 318 (decimal 0 1)
+  length-times (suc n) =
+      length-fill (rowValue (hourWave gmt) cof index (0 + n)) (getD IC (0 + n) 0 - 1)
+      (times (timeMapOf (hourWave gmt) cof index) 0 n (replicate 318 (decimal 0 1))) (mapWord index (0 + n) 8 + 1)
+      ∙ length-times n
+
+  length-virtim : length (virtimOf cof index gmt) ≡ 318
+  unfolding virtimOf loop
+  length-virtim = length-times 6
+
+  -- and those of the last end where AB does
+  pub parts-end : getD IC 5 0 + getD rows 5 0 ≡ length (virtimOf cof index gmt) + 1
+  parts-end = ap (λ (n : ℕ). n + 1) (sym length-virtim)
 
 from-one : (k : ℕ) → k < 6 → 1 ≤ getD IC k 0
 from-one = six (λ k. 1 ≤ getD IC k 0) (lit≤ tt) (lit≤ tt) (lit≤ tt) (lit≤ tt) (lit≤ tt) (lit≤ tt)

@@ -1,14 +1,16 @@
 -- The series of CCIR Report 340 among a sheet's figures: the six map values of each point are Omega
 -- at the point, and foE, foF2, the M3000 factor and the Es frequencies stand among its 29 numbers
 -- as they come of them. By the places of the figures. Assumes nothing.
-use mathlib.Core.Path.{_≡_, refl, sym, ap, ap₂, _∙_}
+use mathlib.Core.Bool.{cond}
+use mathlib.Core.Path.{_≡_, refl, ap, _∙_}
 use mathlib.Core.List.{List}
 use Prim.Native.Nat.{ℕ, _+_, _-_, _*_, _≤_}
 use lib.Dec.{lit<}
 use lib.ListN.{getD}
-use lib.Ieee.{Float, nan}
+use lib.Ieee.{Float, nan, binary32, lt}
 use Rattle.base.specs.declared.refusal.Verdict.the-variants.{Accepted}
-use Rattle.base.specs.Single.{_⊗_, _⊕_, decimal}
+use Rattle.base.specs.Single.{_⊗_, _⊕_, _⊖_, decimal}
+use Rattle.base.specs.Number.{sqrtOf}
 use Rattle.base.specs.Elementary.{cos32Of}
 use Rattle.base.specs.Index.{indexCheck}
 use Rattle.maps.specs.declared.geometry.ControlPoint.{ControlPoint}
@@ -50,16 +52,21 @@ module _ (f2 file : List ℕ) (i : Inputs) (passed : indexCheck file ≡ Accepte
   unfolding gammasAt hourOf hourFrom hourMapsOf
   point-series pt = six-series f2 file (i .ssn) (i .gmt) _ _ _ _ passed
 
+  -- the sixth map's value, or where it is below 0.36 the one of midnight
+  abbrev orMidnight : Float → Float
+  orMidnight e =
+      cond (lt (e ⊖ decimal 36 2) (decimal 0 1)) (decimal 36 2 ⊗ sqrtOf binary32 (decimal 10 1 ⊕ decimal 98 4 ⊗ i .ssn)) e
+
   -- what comes of them among its numbers: `fi[0]`, `fi[2]`, `f2m3`, and `fs` of the maps 3, 2, 1
   row-maps :
       (pt : ControlPoint) → let row = pointRow (hourOf f2 file i) i pt in
-      (getD row 7 nan ≡ gamma6Of (Maps pt .g6) (i .ssn) ⊗ i .psc .e)
-      × (getD row 9 nan ≡ (Maps pt .g4 ⊕ decimal 5 1 ⊗ getD row 4 nan) ⊗ i .psc .f2)
+      (getD row 7 nan ≡ orMidnight (Maps pt .g6) ⊗ i .psc .e)
+      × (getD row 9 nan ≡ (Maps pt .g4 ⊕ decimal 5 1 ⊗ magvarOf (pt .lat) (pt .lon) .gyz) ⊗ i .psc .f2)
       × (getD row 16 nan ≡ Maps pt .g5)
       × (getD row 23 nan ≡ Maps pt .g3 ⊗ i .psc .es)
       × (getD row 24 nan ≡ Maps pt .g2 ⊗ i .psc .es)
       × (getD row 25 nan ≡ Maps pt .g1 ⊗ i .psc .es)
-  unfolding pointRow numbersOf layersOf ef1Of eLayer esindOf
+  unfolding pointRow numbersOf layersOf ef1Of eLayer gamma6Of esindOf
   row-maps pt = (refl, refl, refl, refl, refl, refl)
 
   module _ (p : ℕ) (l : 1 ≤ p) (c : p ≤ sheetPath i .count) where
@@ -70,8 +77,8 @@ module _ (f2 file : List ℕ) (i : Inputs) (passed : indexCheck file ≡ Accepte
     Figure k = getD (figuresOf f2 file i) (6 + 29 * (p - 1) + k) nan
 
     pub figure-series :
-        (Figure 7 ≡ gamma6Of (Omega Pt 5 (Pt .lat .0)) (i .ssn) ⊗ i .psc .e)
-        × (Figure 9 ≡ (Omega Pt 3 (Dip Pt) ⊕ decimal 5 1 ⊗ Figure 4) ⊗ i .psc .f2)
+        (Figure 7 ≡ orMidnight (Omega Pt 5 (Pt .lat .0)) ⊗ i .psc .e)
+        × (Figure 9 ≡ (Omega Pt 3 (Dip Pt) ⊕ decimal 5 1 ⊗ magvarOf (Pt .lat) (Pt .lon) .gyz) ⊗ i .psc .f2)
         × (Figure 16 ≡ Omega Pt 4 (Dip Pt))
         × (Figure 23 ≡ Omega Pt 2 (Dip Pt) ⊗ i .psc .es)
         × (Figure 24 ≡ Omega Pt 1 (Dip Pt) ⊗ i .psc .es)
@@ -79,10 +86,9 @@ module _ (f2 file : List ℕ) (i : Inputs) (passed : indexCheck file ≡ Accepte
     figure-series =
         let r = row-maps Pt in
         let s = point-series Pt in (
-          present-at f2 file i p 7 l c (lit< tt) ∙ r .0 ∙ ap (λ (g : Gammas). gamma6Of (g .g6) (i .ssn) ⊗ i .psc .e) s,
+          present-at f2 file i p 7 l c (lit< tt) ∙ r .0 ∙ ap (λ (g : Gammas). orMidnight (g .g6) ⊗ i .psc .e) s,
           present-at f2 file i p 9 l c (lit< tt) ∙ r .1
-              ∙ ap₂ (λ (g : Gammas) (gyz : Float). (g .g4 ⊕ decimal 5 1 ⊗ gyz) ⊗ i .psc .f2) s
-              (sym (present-at f2 file i p 4 l c (lit< tt))),
+              ∙ ap (λ (g : Gammas). (g .g4 ⊕ decimal 5 1 ⊗ magvarOf (Pt .lat) (Pt .lon) .gyz) ⊗ i .psc .f2) s,
           present-at f2 file i p 16 l c (lit< tt) ∙ r .2 ∙ ap (λ (g : Gammas). g .g5) s,
           present-at f2 file i p 23 l c (lit< tt) ∙ r .3 ∙ ap (λ (g : Gammas). g .g3 ⊗ i .psc .es) s,
           present-at f2 file i p 24 l c (lit< tt) ∙ r .4 ∙ ap (λ (g : Gammas). g .g2 ⊗ i .psc .es) s,
