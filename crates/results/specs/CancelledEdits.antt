@@ -84,7 +84,8 @@ RefusedSheet =
     (source : Source) (c : Call) (w : Worksheet) → accepted (step source c w .answer) ≡ false →
     step source c w .sheet ≡ w
 
--- and of the library's calls one that is refused leaves the lent words as they were, bit for bit,
+-- and of these six as the library's calls, one that is refused leaves the lent words as they were,
+-- bit for bit,
 abbrev pub RefusedWords : Type 0
 RefusedWords =
     (source : Source) (c : Call) (l : List ℕ) → accepted (step source c (worksheetOf l) .answer) ≡ false →
