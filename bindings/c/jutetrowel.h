@@ -17,20 +17,30 @@
 extern "C" {
 #endif
 
-/* The words of a sheet's 14 fields, in bytes; the figures of a sheet; the bytes of an F2 record and of
- * a month file; the 32-bit words of a worksheet. */
+/* The words of a sheet's 14 fields, in bytes, and of a worksheet's 15; the figures of a sheet; the
+ * bytes of an F2 record, of a month file and of a year file's directory; the 32-bit words of a
+ * worksheet. */
 #define JT_INPUT_BYTES 56
+#define JT_OPEN_BYTES 60
 #define JT_FIGURES 151
 #define JT_RECORD_BYTES 7904
 #define JT_MONTH_FILE_BYTES 38552
-#define JT_WORKSHEET_WORDS 90
+#define JT_DIRECTORY_BYTES 112
+#define JT_WORKSHEET_WORDS 96
 
 /* The blended coefficients of the six maps and of the height map; those of the six maps at an hour. */
 #define JT_COEFFICIENTS 2604
 #define JT_HEIGHTS 464
 #define JT_HOUR_MAPS 318
 
-/* The numbers of refusals; docs/REFUSALS.md says why each is given and what its place is. */
+/* The F2 models. */
+enum {
+    JT_CCIR = 0,
+    JT_URSI = 1
+};
+
+/* The numbers of refusals; docs/REFUSALS.md says why each is given and what its place is. 7 is given
+ * for a flag (place 8) and for a model (place 15) that is neither 0 nor 1. */
 enum {
     JT_REFUSED_MONTH = 1,
     JT_REFUSED_SUNSPOT = 2,
@@ -49,7 +59,8 @@ enum {
     JT_REFUSED_DRAFTED = 15,
     JT_REFUSED_NO_DRAFT = 16,
     JT_REFUSED_STALE = 17,
-    JT_REFUSED_NOTHING_EARLIER = 18
+    JT_REFUSED_NOTHING_EARLIER = 18,
+    JT_REFUSED_YEAR = 19
 };
 
 /* A refusal's number and place; 0 and 0 where nothing is refused. */
@@ -139,7 +150,8 @@ typedef struct {
  * f2 is the month's F2 record (JT_RECORD_BYTES; later bytes are ignored), file the month file. The
  * figures are six for the path and 29 for each of five points, +0 where there is no such point. */
 
-/* A whole sheet from words: every field is checked, then the buffer, then the files. */
+/* A whole sheet from words: every field is checked, then the buffer, then the files. It has no model:
+ * the record is the caller's, and a 15th word is not read. */
 jt_showing jt_sheet(const uint8_t *words, size_t words_size, const uint8_t *f2, size_t f2_size,
                     const uint8_t *file, size_t file_size, float *out, size_t out_count);
 
@@ -153,14 +165,17 @@ jt_showing jt_figures(uint32_t month, float ssn, float gmt, float tlat, float tl
 
 /* ---- The worksheet of four desks ----
  *
- * Its value is 90 words that the caller keeps: six sets of 15, which are the inputs, the earlier set
+ * It has a sheet's 14 fields and a 15th, the F2 model, a whole number: 0 CCIR, 1 URSI.
+ *
+ * Its value is 96 words that the caller keeps: six sets of 16, which are the inputs, the earlier set
  * and the drafts of desks 1 to 4. A set's first word says what there is (inputs: not looked at; earlier
- * set: 0 none; draft: 0 closed, 1 fresh, else stale), and the 14 fields follow, month and flag as
- * whole numbers, the others as the bits of a float. Any 90 words are some worksheet, whose showing
+ * set: 0 none; draft: 0 closed, 1 fresh, else stale), and the 15 fields follow, month, flag and model as
+ * whole numbers, the others as the bits of a float. Any 96 words are some worksheet, whose showing
  * refuses a field that is out of range. A worksheet has one form as it is written: first words 1, 0 or
  * 1, and 0, 1 or 2; a set that is not there all 0; any NaN 7fc00000. */
 
-/* Opens a worksheet from a sheet's words: all desks closed, nothing to take back. */
+/* Opens a worksheet from its 15 words (JT_OPEN_BYTES): all desks closed, nothing to take back. Bytes
+ * that are not there count as 0, so that a sheet's 14 words open it with model 0. */
 jt_answer jt_open(const uint8_t *words, size_t words_size, uint32_t sheet[JT_WORKSHEET_WORDS]);
 
 /* A fresh draft for a desk, a copy of the worksheet's inputs. */
@@ -176,6 +191,15 @@ jt_answer jt_change_factors(uint32_t sheet[JT_WORKSHEET_WORDS], uint32_t desk, f
 jt_answer jt_change_pole(uint32_t sheet[JT_WORKSHEET_WORDS], uint32_t desk, float pole_lat,
                          float pole_lon);
 
+/* A change of the month. Shown over a pair of files (jt_show), a draft whose month was changed has the
+ * new month's sun over the old month's files unless the caller exchanges them, which the worksheet
+ * cannot know; a year file's parts (jt_show_year) are picked by the month. */
+jt_answer jt_change_month(uint32_t sheet[JT_WORKSHEET_WORDS], uint32_t desk, uint32_t month);
+
+/* A change of the F2 model; one that is neither 0 nor 1 is refused (7, place 15). Over a pair of files
+ * it picks nothing: the record is the caller's. */
+jt_answer jt_change_model(uint32_t sheet[JT_WORKSHEET_WORDS], uint32_t desk, uint32_t model);
+
 /* The draft becomes the inputs, these the earlier set; every other open draft turns stale. */
 jt_answer jt_commit(uint32_t sheet[JT_WORKSHEET_WORDS], uint32_t desk);
 
@@ -185,10 +209,23 @@ jt_answer jt_cancel(uint32_t sheet[JT_WORKSHEET_WORDS], uint32_t desk);
 /* The earlier set returns; every open draft turns stale. */
 jt_answer jt_take_back(uint32_t sheet[JT_WORKSHEET_WORDS]);
 
-/* The figures of a desk's draft, stale or not, or of the worksheet for desk 0. */
+/* The figures of a desk's draft, stale or not, or of the worksheet for desk 0, over a pair of files.
+ *
+ * The files are taken as they are lent. Where the month was changed in the draft shown, or by a commit
+ * or take-back since the pair was chosen, the figures are the new month's sun over the files as they
+ * are lent; a changed model picks no other record. Over a year file (jt_show_year) that cannot happen.
+ * A caller who picks the pair anew finds month and model in the set that is shown, which starts at word
+ * 0 for the worksheet and at word 16 + 16 * desk for a draft: the month is word 1 of the set and the
+ * model word 15, counted from 0. */
 jt_showing jt_show(const uint32_t sheet[JT_WORKSHEET_WORDS], uint32_t desk, const uint8_t *f2,
                    size_t f2_size, const uint8_t *file, size_t file_size, float *out,
                    size_t out_count);
+
+/* The same over a year file, of which the month and the model shown pick the parts. After the buffer
+ * its directory is judged (19), then whether the model's part has the month's record (8), then the
+ * month's part, in which places count from its start. */
+jt_showing jt_show_year(const uint32_t sheet[JT_WORKSHEET_WORDS], uint32_t desk, const uint8_t *year,
+                        size_t year_size, float *out, size_t out_count);
 
 /* ---- Files ---- */
 
@@ -203,6 +240,22 @@ jt_span jt_table(uint32_t number, const uint8_t *f2, size_t f2_size, const uint8
 /* The month file's form alone; and whether the file can be used: its form, then its index table. */
 jt_answer jt_month_file_check(const uint8_t *file, size_t file_size);
 jt_answer jt_file_check(const uint8_t *file, size_t file_size);
+
+/* A year file starts with its directory (JT_DIRECTORY_BYTES): 14 pairs of offset and length, 4 bytes
+ * each, little-endian, for the month files of months 1 to 12, then the .daw files of CCIR and URSI. The
+ * first offset is at least JT_DIRECTORY_BYTES, each part starts at or after the end of the one before,
+ * and the last ends within the file. */
+
+/* The directory alone: 19 with the lowest pair, 1 to 14, that is not wholly there or breaks a rule. */
+jt_answer jt_year_check(const uint8_t *year, size_t year_size);
+
+/* Where a month's file lies in a year file. A month that is not 1 to 12 is refused (1, place 1), before
+ * the directory. */
+jt_span jt_year_month(const uint8_t *year, size_t year_size, uint32_t month);
+
+/* Where a model's .daw file lies in a year file, in which jt_month_record finds a month's record. A
+ * model that is neither 0 nor 1 is refused (7, place 15), before the directory. */
+jt_span jt_year_model(const uint8_t *year, size_t year_size, uint32_t model);
 
 /* ---- Parts of a sheet by themselves ----
  *

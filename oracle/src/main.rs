@@ -14,13 +14,14 @@ mod port;
 mod reference;
 
 use commands::{
-    answer, bulk_journals, bulk_routes, bulk_sheet, clocks, data, files, journals, numbers, pages,
-    routes, self_check, sheet_inputs, sheets, time_sheets,
+    answer, bulk_journals, bulk_routes, bulk_sheet, bulk_year_journals, clocks, data, files,
+    journals, numbers, pages, replay_input, routes, self_check, sheet_inputs, sheets, time_sheets,
+    year, year_journals,
 };
 #[cfg(linked)]
 use commands::{
     bulk_clocks, bulk_files, bulk_layers, bulk_lists, bulk_numbers, bulk_sheets, bulk_tables,
-    repeat_sheets, time_layers, time_numbers,
+    bulk_years, repeat_sheets, time_layers, time_numbers, time_years,
 };
 // The compared Rust names its modules from here.
 use reference::voacap;
@@ -28,32 +29,44 @@ use std::env;
 use std::process::ExitCode;
 
 const USAGE: &str = "usage:
-  oracle numbers FILE                      write the vectors of the arithmetic
-  oracle bulk-numbers COUNT SEED [NAME]    compare the port's functions with the Rust's
-  oracle time-numbers                      time the port's functions and the Rust's
-  oracle data DIR                          write data files made from seeds
-  oracle files DIR                         write the vectors of the file functions
-  oracle bulk-files COUNT SEED             compare the port's file functions with the Rust's
-  oracle clocks FILE                       write the vectors of the clocks
-  oracle bulk-clocks COUNT SEED            compare the port's clocks with the Rust's
-  oracle bulk-tables COUNT SEED            compare the port's tables with the Rust's
-  oracle routes FILE                       write the vectors of path geometry and field
-  oracle bulk-routes FILE COUNT SEED       write random routes in the same form, to be replayed
-  oracle sheets FILE                       write the vectors of whole sheets
-  oracle bulk-sheets COUNT SEED            compare the port's figures with the Rust's
-  oracle bulk-layers COUNT SEED            compare the parts of the port's sheets with the Rust's
-  oracle journals FILE                     write short journals of the desks with their answers
-  oracle sheet-inputs DIR                  write inputs of the program sheet with its outputs
-  oracle sheets-in FILE                    write the same inputs in a compact form
-  oracle pages FILE                        write pages for people as sheet page prints them
-  oracle bulk-journals COUNT SEED PROGRAM  compare the port's program replay with the model
-  oracle bulk-lists COUNT SEED             compare the port's worksheet calls with the model
-  oracle bulk-sheet COUNT SEED PROGRAM     compare the port's program sheet with the model
-  oracle replay, oracle sheet, oracle page answer standard input as the model does
-  oracle time-sheets                       time whole sheets and the Rust's parts of them
-  oracle time-layers                       time sheets, refused files and parts of both sides
-  oracle repeat-sheets SIDE KIND COUNT     make sheets by one side, to count instructions
-  oracle self-check                        hold the steps against the library's functions";
+  oracle numbers FILE                           write the vectors of the arithmetic
+  oracle bulk-numbers COUNT SEED [NAME]         compare the port's functions with the Rust's
+  oracle time-numbers                           time the port's functions and the Rust's
+  oracle data DIR                               write data files made from seeds
+  oracle year FILE SEED                         write a year file made from a seed
+  oracle year-parts DIR FILE                    write fourteen parts and the year file of them
+  oracle year-damaged FILE                      write a year file with damaged parts
+  oracle year-check FILE                        say what can be shown from a year file, by the model
+  oracle replay-input FILE                      write an input of the program replay
+  oracle year-input FILE                        write an input of the program replay year
+  oracle files DIR                              write the vectors of the file functions
+  oracle bulk-files COUNT SEED                  compare the port's file functions with the Rust's
+  oracle clocks FILE                            write the vectors of the clocks
+  oracle bulk-clocks COUNT SEED                 compare the port's clocks with the Rust's
+  oracle bulk-tables COUNT SEED                 compare the port's tables with the Rust's
+  oracle bulk-years COUNT SEED                  compare year files' directories with the model
+  oracle routes FILE                            write the vectors of path geometry and field
+  oracle bulk-routes FILE COUNT SEED            write random routes in the same form, to be replayed
+  oracle sheets FILE                            write the vectors of whole sheets
+  oracle bulk-sheets COUNT SEED                 compare the port's figures with the Rust's
+  oracle bulk-layers COUNT SEED                 compare the parts of the port's sheets with the Rust's
+  oracle journals FILE                          write short journals of the desks with their answers
+  oracle year-journals FILE                     write the same over year files
+  oracle sheet-inputs DIR                       write inputs of the program sheet with its outputs
+  oracle sheets-in FILE                         write the same inputs in a compact form
+  oracle pages FILE                             write pages for people as sheet page prints them
+  oracle bulk-journals COUNT SEED PROGRAM       compare the port's program replay with the model
+  oracle bulk-year-journals COUNT SEED PROGRAM  the same with the argument year
+  oracle bulk-lists COUNT SEED                  compare the port's worksheet calls with the model
+  oracle bulk-year-lists COUNT SEED             the same over year files
+  oracle bulk-sheet COUNT SEED PROGRAM          compare the port's program sheet with the model
+  oracle replay, oracle replay year, oracle sheet, oracle page
+                                                answer standard input as the model does
+  oracle time-sheets                            time whole sheets and the Rust's parts of them
+  oracle time-years                             time showings over a year file and over pairs of files
+  oracle time-layers                            time sheets, refused files and parts of both sides
+  oracle repeat-sheets SIDE KIND COUNT          make sheets by one side, to count instructions
+  oracle self-check                             hold the steps against the library's functions";
 
 fn main() -> ExitCode {
     let words: Vec<String> = env::args().skip(1).collect();
@@ -76,13 +89,24 @@ fn command(words: &[&str]) -> Result<(), String> {
         ["routes", file] => routes::run(file),
         ["bulk-routes", file, count, seed] => bulk_routes::run(file, count, seed),
         ["sheets", file] => sheets::run(file),
+        ["year", file, seed] => year::run(file, seed),
+        ["year-parts", folder, file] => year::parts(folder, file),
+        ["year-damaged", file] => year::damaged(file),
+        ["year-check", file] => year::check(file),
+        ["replay-input", file] => replay_input::run(file),
+        ["year-input", file] => year::example(file),
         ["journals", file] => journals::run(file),
+        ["year-journals", file] => year_journals::run(file),
         ["sheet-inputs", folder] => sheet_inputs::files(folder),
         ["sheets-in", file] => sheet_inputs::compact(file),
         ["pages", file] => pages::run(file),
         ["bulk-journals", count, seed, program] => bulk_journals::run(count, seed, program),
+        ["bulk-year-journals", count, seed, program] => {
+            bulk_year_journals::run(count, seed, program)
+        }
         ["bulk-sheet", count, seed, program] => bulk_sheet::run(count, seed, program),
         ["replay"] => answer::replay(),
+        ["replay", "year"] => answer::replay_year(),
         ["sheet"] => answer::sheet(),
         ["page"] => answer::page(),
         ["time-sheets"] => time_sheets::run(),
@@ -103,8 +127,11 @@ fn with_port(words: &[&str]) -> Result<(), String> {
         ["bulk-tables", count, seed] => bulk_tables::run(count, seed),
         ["bulk-sheets", count, seed] => bulk_sheets::run(count, seed),
         ["bulk-layers", count, seed] => bulk_layers::run(count, seed),
-        ["bulk-lists", count, seed] => bulk_lists::run(count, seed),
+        ["bulk-lists", count, seed] => bulk_lists::over_pairs(count, seed),
+        ["bulk-year-lists", count, seed] => bulk_lists::over_years(count, seed),
+        ["bulk-years", count, seed] => bulk_years::run(count, seed),
         ["time-layers"] => time_layers::run(),
+        ["time-years"] => time_years::run(),
         ["repeat-sheets", side, kind, count] => repeat_sheets::run(side, kind, count),
         _ => Err(String::from(USAGE)),
     }
@@ -114,8 +141,9 @@ fn with_port(words: &[&str]) -> Result<(), String> {
 fn with_port(words: &[&str]) -> Result<(), String> {
     let message = match words {
         ["bulk-numbers" | "bulk-files" | "bulk-clocks" | "bulk-tables", ..]
-        | ["bulk-sheets" | "bulk-layers" | "bulk-lists", ..]
-        | ["time-numbers" | "time-layers" | "repeat-sheets", ..] => {
+        | ["bulk-sheets" | "bulk-layers" | "bulk-lists" | "bulk-year-lists", ..]
+        | ["bulk-years" | "time-numbers" | "time-layers" | "time-years", ..]
+        | ["repeat-sheets", ..] => {
             "this needs the port: build with JUTETROWEL_LIB set to the folder \
              that holds libjutetrowel.a"
         }

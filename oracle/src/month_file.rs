@@ -6,6 +6,10 @@ use crate::reference::voacap::coefficients::RawMonthFile;
 const RECORDS: [u32; 9] = [240, 11184, 5328, 3528, 3168, 1920, 7128, 4400, 1584];
 /// How many of the 20 tables each record holds.
 const TABLES: [usize; 9] = [1, 2, 3, 1, 2, 6, 2, 2, 1];
+/// How many words each table has.
+pub const LENGTHS: [usize; 20] = [
+    60, 2784, 12, 300, 168, 864, 882, 576, 216, 3, 3, 2, 2, 464, 6, 854, 928, 550, 550, 396,
+];
 pub const BYTES: usize = 38_552;
 
 /// Each table's words, in the order in which the file holds them.
@@ -98,17 +102,14 @@ pub fn markers() -> Vec<usize> {
 
 #[cfg(test)]
 mod tests {
-    use super::{markers, tables, to_bytes, BYTES};
+    use super::{markers, tables, to_bytes, BYTES, LENGTHS};
     use crate::reference::voacap::coefficients::parse_month_file;
     use std::array::from_fn;
 
     /// Each word counts its place, so that a table out of order would show.
     fn counted() -> Vec<u8> {
-        let lengths = [
-            60, 2784, 12, 300, 168, 864, 882, 576, 216, 3, 3, 2, 2, 464, 6, 854, 928, 550, 550, 396,
-        ];
         let mut next = 0..;
-        to_bytes(&from_fn(|i| next.by_ref().take(lengths[i]).collect()))
+        to_bytes(&from_fn(|i| next.by_ref().take(LENGTHS[i]).collect()))
     }
 
     #[test]

@@ -2,8 +2,9 @@
 //! files and the clocks.
 //!
 //! What the library's functions give is proved; this wrapper is not, and stays thin for that. An
-//! answer's meaning is document 01's, with its refusals by number and place (docs/REFUSALS.md). The
-//! module `raw` has every function as C has it, the arithmetic and the parts of a sheet too.
+//! answer's meaning is that of documents 01 and 02, with their refusals by number and place
+//! (docs/REFUSALS.md). The module `raw` has every function as C has it, the arithmetic and the parts of
+//! a sheet too.
 
 #![deny(unsafe_code)]
 
@@ -16,9 +17,13 @@ pub use clocks::{hour_times, local_time, to_local, to_universal, HourTimes, Shif
 pub use raw::{FIGURES, WORKSHEET_WORDS as WORDS};
 pub use worksheet::{Change, Worksheet};
 
-use raw::INPUT_BYTES;
+use raw::OPEN_BYTES;
 
-/// Why a call was refused: document 01's number, and the place that goes with it.
+/// The F2 models. They are numbers, as the months are: one that there is not is refused.
+pub const CCIR: u32 = 0;
+pub const URSI: u32 = 1;
+
+/// Why a call was refused: its number in documents 01 and 02, and the place that goes with it.
 #[derive(Clone, Copy, Debug, PartialEq, Eq)]
 pub struct Refusal {
     pub number: u32,
@@ -59,7 +64,7 @@ pub struct Pole {
     pub lon: f32,
 }
 
-/// The 14 fields of a sheet.
+/// The 15 fields of a worksheet's inputs.
 #[derive(Clone, Copy, Debug, PartialEq)]
 pub struct Inputs {
     pub month: u32,
@@ -69,11 +74,13 @@ pub struct Inputs {
     pub path: Path,
     pub factors: Factors,
     pub pole: Pole,
+    /// The F2 model, `CCIR` or `URSI`. Over a pair of files it picks nothing.
+    pub model: u32,
 }
 
 impl Inputs {
-    /// The fields as 14 little-endian words.
-    pub fn words(&self) -> [u8; INPUT_BYTES] {
+    /// The fields as 15 little-endian words, of which a sheet over a pair of files has the first 14.
+    pub fn words(&self) -> [u8; OPEN_BYTES] {
         let Self {
             month,
             sunspots,
@@ -81,6 +88,7 @@ impl Inputs {
             path,
             factors,
             pole,
+            model,
         } = *self;
         let words = [
             month,
@@ -97,8 +105,9 @@ impl Inputs {
             factors.es.to_bits(),
             pole.lat.to_bits(),
             pole.lon.to_bits(),
+            model,
         ];
-        let mut bytes = [0; INPUT_BYTES];
+        let mut bytes = [0; OPEN_BYTES];
         for (place, word) in bytes.chunks_exact_mut(4).zip(words) {
             place.copy_from_slice(&word.to_le_bytes());
         }
@@ -160,7 +169,8 @@ fn part(file: &[u8], span: raw::Span) -> Result<&[u8], Refusal> {
     }
 }
 
-/// A whole sheet, from its inputs, the month's F2 record and the month file.
+/// A whole sheet, from its inputs, the month's F2 record and the month file. The model is not looked at:
+/// the record is the caller's.
 pub fn sheet(inputs: &Inputs, f2: &[u8], month_file: &[u8]) -> Result<Sheet, Refusal> {
     sheet_of_words(&inputs.words(), f2, month_file)
 }
@@ -191,4 +201,19 @@ pub fn month_file_check(file: &[u8]) -> Result<(), Refusal> {
 /// Whether a month file can be used: its form, then its index table, 11 with the lowest bad map.
 pub fn file_check(file: &[u8]) -> Result<(), Refusal> {
     answered(raw::file_check(file))
+}
+
+/// A year file's directory: 19 with the lowest pair, 1 to 14, that is not wholly there or breaks a rule.
+pub fn year_check(year: &[u8]) -> Result<(), Refusal> {
+    answered(raw::year_check(year))
+}
+
+/// A month's file, a part of the year file.
+pub fn year_month(year: &[u8], month: u32) -> Result<&[u8], Refusal> {
+    part(year, raw::year_month(year, month))
+}
+
+/// A model's `.daw` file, a part of the year file.
+pub fn year_model(year: &[u8], model: u32) -> Result<&[u8], Refusal> {
+    part(year, raw::year_model(year, model))
 }

@@ -8,14 +8,18 @@
 
 /// The words of a sheet's 14 fields, in bytes.
 pub const INPUT_BYTES: usize = 56;
+/// The words of a worksheet's 15 fields, in bytes.
+pub const OPEN_BYTES: usize = 60;
 /// Figures of a sheet: six of the path, then 29 for each of five points.
 pub const FIGURES: usize = 151;
 /// Bytes of an F2 record.
 pub const RECORD_BYTES: usize = 7904;
 /// Bytes of a month file.
 pub const MONTH_FILE_BYTES: usize = 38552;
+/// Bytes of a year file's directory.
+pub const DIRECTORY_BYTES: usize = 112;
 /// 32-bit words of a worksheet.
-pub const WORKSHEET_WORDS: usize = 90;
+pub const WORKSHEET_WORDS: usize = 96;
 /// Blended coefficients of the six maps.
 pub const COEFFICIENTS: usize = 2604;
 /// Blended coefficients of the height map.
@@ -186,6 +190,16 @@ unsafe extern "C" {
         pole_lat: f32,
         pole_lon: f32,
     ) -> Answer;
+    pub safe fn jt_change_month(
+        sheet: &mut [u32; WORKSHEET_WORDS],
+        desk: u32,
+        month: u32,
+    ) -> Answer;
+    pub safe fn jt_change_model(
+        sheet: &mut [u32; WORKSHEET_WORDS],
+        desk: u32,
+        model: u32,
+    ) -> Answer;
     pub safe fn jt_commit(sheet: &mut [u32; WORKSHEET_WORDS], desk: u32) -> Answer;
     pub safe fn jt_cancel(sheet: &mut [u32; WORKSHEET_WORDS], desk: u32) -> Answer;
     pub safe fn jt_take_back(sheet: &mut [u32; WORKSHEET_WORDS]) -> Answer;
@@ -196,6 +210,15 @@ unsafe extern "C" {
         f2_size: usize,
         file: *const u8,
         file_size: usize,
+        out: *mut f32,
+        out_count: usize,
+    ) -> Showing;
+
+    pub unsafe fn jt_show_year(
+        sheet: &[u32; WORKSHEET_WORDS],
+        desk: u32,
+        year: *const u8,
+        year_size: usize,
         out: *mut f32,
         out_count: usize,
     ) -> Showing;
@@ -211,6 +234,9 @@ unsafe extern "C" {
     ) -> Span;
     pub unsafe fn jt_month_file_check(file: *const u8, file_size: usize) -> Answer;
     pub unsafe fn jt_file_check(file: *const u8, file_size: usize) -> Answer;
+    pub unsafe fn jt_year_check(year: *const u8, year_size: usize) -> Answer;
+    pub unsafe fn jt_year_month(year: *const u8, year_size: usize, month: u32) -> Span;
+    pub unsafe fn jt_year_model(year: *const u8, year_size: usize, model: u32) -> Span;
 
     // Parts of a sheet by themselves.
     pub unsafe fn jt_cofion(
@@ -294,7 +320,7 @@ unsafe extern "C" {
     pub safe fn jt_ln64(x: f64) -> f64;
 }
 
-/// A whole sheet from words: every field is checked.
+/// A whole sheet from words: every field is checked. A 15th word is not read.
 #[inline]
 pub fn sheet(words: &[u8], f2: &[u8], file: &[u8], out: &mut [f32]) -> Showing {
     // SAFETY: starts and lengths of four slices, `out` lent for writing.
@@ -362,14 +388,15 @@ pub fn figures(
     }
 }
 
-/// Opens a worksheet from a sheet's words.
+/// Opens a worksheet from its 15 words; bytes that are not there count as 0.
 #[inline]
 pub fn open(words: &[u8], sheet: &mut [u32; WORKSHEET_WORDS]) -> Answer {
     // SAFETY: start and length of a slice, which is only read.
     unsafe { jt_open(words.as_ptr(), words.len(), sheet) }
 }
 
-/// The figures of a desk's draft, or of the worksheet for desk 0.
+/// The figures of a desk's draft, or of the worksheet for desk 0, over a pair of files, which are taken
+/// as they are lent.
 #[inline]
 pub fn show(
     sheet: &[u32; WORKSHEET_WORDS],
@@ -391,6 +418,19 @@ pub fn show(
             out.len(),
         )
     }
+}
+
+/// The same over a year file, of which the month and the model shown pick the parts.
+#[inline]
+pub fn show_year(
+    sheet: &[u32; WORKSHEET_WORDS],
+    desk: u32,
+    year: &[u8],
+    out: &mut [f32],
+) -> Showing {
+    let (start, size) = (year.as_ptr(), year.len());
+    // SAFETY: starts and lengths of two slices, `out` lent for writing.
+    unsafe { jt_show_year(sheet, desk, start, size, out.as_mut_ptr(), out.len()) }
 }
 
 /// Where a month's record lies in a `.daw` file.
@@ -419,6 +459,27 @@ pub fn month_file_check(file: &[u8]) -> Answer {
 pub fn file_check(file: &[u8]) -> Answer {
     // SAFETY: start and length of a slice, which is only read.
     unsafe { jt_file_check(file.as_ptr(), file.len()) }
+}
+
+/// A year file's directory alone.
+#[inline]
+pub fn year_check(year: &[u8]) -> Answer {
+    // SAFETY: start and length of a slice, which is only read.
+    unsafe { jt_year_check(year.as_ptr(), year.len()) }
+}
+
+/// Where a month's file lies in a year file.
+#[inline]
+pub fn year_month(year: &[u8], month: u32) -> Span {
+    // SAFETY: start and length of a slice, which is only read.
+    unsafe { jt_year_month(year.as_ptr(), year.len(), month) }
+}
+
+/// Where a model's `.daw` file lies in a year file.
+#[inline]
+pub fn year_model(year: &[u8], model: u32) -> Span {
+    // SAFETY: start and length of a slice, which is only read.
+    unsafe { jt_year_model(year.as_ptr(), year.len(), model) }
 }
 
 /// The blended coefficients of the six maps at a sunspot number.

@@ -1,5 +1,5 @@
 //! The C header, `raw` and the library's source say the same: every function with its arguments and
-//! its answer, every struct with its fields, every length.
+//! its answer, every struct with its fields, every length and every refusal's number.
 
 use std::collections::BTreeMap;
 use std::fs;
@@ -248,4 +248,64 @@ fn lengths_are_the_headers() {
     let declared = collected(declared);
     assert!(!declared.is_empty());
     assert_eq!(declared, collected(defined));
+}
+
+/// A length that a file of the crates says as a number.
+fn declared_in(path: &str, name: &str) -> usize {
+    let text = read(at("../../crates").join(path));
+    let start = format!("const {name}: usize = ");
+    let mut values = between(&text, &start, ";");
+    let value = values
+        .next()
+        .unwrap_or_else(|| panic!("no {name} in {path}"));
+    value.parse().unwrap_or_else(|e| panic!("{name}: {e}"))
+}
+
+/// Those that follow from numbers of the crates below.
+#[test]
+fn lengths_are_the_librarys() {
+    use jutetrowel::raw;
+    let fields = declared_in("maps/src/inputs.rt", "FIELDS");
+    let sheet_fields = declared_in("maps/src/inputs.rt", "SHEET_FIELDS");
+    let parts = declared_in("base/src/year.rt", "PARTS");
+    assert_eq!(raw::OPEN_BYTES, 4 * fields);
+    assert_eq!(raw::INPUT_BYTES, 4 * sheet_fields);
+    assert_eq!(raw::DIRECTORY_BYTES, 8 * parts);
+    // Inputs, earlier set and four drafts, each behind a word that says what it is.
+    assert_eq!(raw::WORKSHEET_WORDS, 6 * (1 + fields));
+    let record = declared_in("base/src/month_file.rt", "RECORD");
+    let month_file = declared_in("base/src/month_file.rt", "MONTH_FILE");
+    assert_eq!(
+        [raw::RECORD_BYTES, raw::MONTH_FILE_BYTES],
+        [record, month_file]
+    );
+}
+
+/// `NoDraft` is NO_DRAFT.
+fn in_capitals(name: &str) -> String {
+    let spaced = name.chars().enumerate().map(|(i, c)| match i {
+        1.. if c.is_uppercase() => format!("_{c}"),
+        _ => c.to_uppercase().to_string(),
+    });
+    spaced.collect()
+}
+
+#[test]
+fn refusals_are_the_librarys() {
+    let text = read(at("../../crates/base/src/refusal.rt"));
+    let numbers = between(&text, "            Refusal::", ", ").map(|case| {
+        let (name, number) = case.split_once(" => Report(").expect("a report");
+        let name = name.split('(').next().expect("a name");
+        (in_capitals(name), number.to_owned())
+    });
+    let mut numbers = collected(numbers);
+    // A model has the flag's number.
+    assert_eq!(numbers.remove("MODEL"), numbers.get("FLAG").cloned());
+    assert_eq!(numbers.len(), 19);
+    let header = header();
+    let named = between(&header, "JT_REFUSED_", "\n").map(|text| {
+        let (name, number) = text.split_once(" = ").expect("a number");
+        (name.to_owned(), number.trim_end_matches(',').to_owned())
+    });
+    assert_eq!(collected(named), numbers);
 }

@@ -5,7 +5,7 @@ mod common;
 use common::{data, lines, Reader, MONTH_FILE, RECORD, WORDS};
 use jutetrowel::{
     file_check, month_file_check, month_record, sheet, sheet_of_words, table, Factors, Inputs,
-    Path, Pole, Refusal,
+    Path, Pole, Refusal, CCIR, URSI,
 };
 
 fn refused<T>(number: u32, place: u32) -> Result<T, Refusal> {
@@ -35,10 +35,11 @@ fn usual() -> Inputs {
             lat: 78.5,
             lon: -69.0,
         },
+        model: CCIR,
     }
 }
 
-/// Document 01's order of the fields, with a number of its own for each.
+/// The documents' order of the fields, with a number of its own for each.
 #[test]
 fn fields_in_their_order() {
     let inputs = Inputs {
@@ -62,12 +63,19 @@ fn fields_in_their_order() {
             lat: 13.0,
             lon: 14.0,
         },
+        model: 15,
     };
     let floats = |all: &[f32]| all.iter().flat_map(|x| x.to_le_bytes()).collect();
     let path: Vec<u8> = floats(&[2.0, 3.0, 4.0, 5.0, 6.0, 7.0]);
     let rest: Vec<u8> = floats(&[0.5, 1.5, 2.5, 3.5, 13.0, 14.0]);
-    let wanted = [&[1, 0, 0, 0][..], &path, &[1, 0, 0, 0], &rest].concat();
-    assert_eq!(inputs.words()[..], wanted);
+    let parts = [
+        &[1, 0, 0, 0][..],
+        &path,
+        &[1, 0, 0, 0],
+        &rest,
+        &[15, 0, 0, 0],
+    ];
+    assert_eq!(inputs.words()[..], parts.concat());
 }
 
 #[test]
@@ -76,9 +84,14 @@ fn the_example_of_sheet() {
     let (words, files) = input.split_at(WORDS);
     let (f2, file) = files.split_at(RECORD);
     let wanted = String::from_utf8(data("crates/sheet/stdout")).expect("text");
-    assert_eq!(words, usual().words());
+    assert_eq!(words, &usual().words()[..WORDS]);
     let shown = sheet(&usual(), f2, file).expect("a sheet");
     assert_eq!(lines(&shown.bits()), wanted);
+    // A sheet has no model: its word is not read.
+    for model in [URSI, 2, u32::MAX] {
+        let other = Inputs { model, ..usual() };
+        assert_eq!(sheet(&other, f2, file).map(|s| s.bits()), Ok(shown.bits()));
+    }
 }
 
 #[test]

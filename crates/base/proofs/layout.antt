@@ -1,5 +1,6 @@
--- The month file, month record and Table as the functions read them.
+-- The month file, month record, Table and year file as the functions read them.
 pub mod Walks
 pub mod Records
 pub mod Parts
 pub mod Readers
+pub mod Directories

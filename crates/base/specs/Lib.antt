@@ -14,3 +14,4 @@ pub mod Tables
 pub mod Index
 pub mod Blend
 pub mod Files
+pub mod Year

@@ -1,11 +1,11 @@
 -- Document 01, At the desks: the ranges of the fields that more than one call is held to. Assumes
 -- nothing.
 use Prim.Native.Nat.{ℕ}
-use mathlib.Core.Bool.{Bool, _&&_}
-use lib.Dec.{leb}
+use mathlib.Core.Bool.{Bool, _&&_, _||_}
+use lib.Dec.{leb, eqb}
 use lib.Ieee.{Float, le}
 use Rattle.base.specs.declared.angle.Degrees.{Degrees}
-use Rattle.base.specs.declared.refusal.Refusal.the-variants.{Month, Hour, Latitude, Longitude}
+use Rattle.base.specs.declared.refusal.Refusal.the-variants.{Month, Hour, Latitude, Longitude, Model}
 use Rattle.base.specs.declared.refusal.Verdict.{Verdict}
 use Rattle.base.specs.Refusal.{refuseUnless}
 use Rattle.base.specs.Single.{decimal, minusDecimal}
@@ -16,6 +16,13 @@ isMonth m = leb 1 m && leb m 12
 
 unfoldable pub monthCheck : ℕ → Verdict
 monthCheck m = refuseUnless (isMonth m) Month
+
+abbrev pub isBit : ℕ → Bool
+isBit w = eqb w 0 || eqb w 1
+
+-- document 02, request 01: 'field 15 (0 CCIR, 1 URSI; a wrong model word is refusal 7)'
+unfoldable pub modelCheck : ℕ → Verdict
+modelCheck m = refuseUnless (isBit m) Model
 
 -- 'Ends are included; NaN is outside'
 abbrev pub isTo : Float → Float → Float → Bool

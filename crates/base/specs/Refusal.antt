@@ -1,8 +1,8 @@
--- Document 01's refusals: the number and the place of each case. Assumes nothing.
+-- The refusals of documents 01 and 02: the number and the place of each case. Assumes nothing.
 use Prim.Native.Nat.{ℕ}
 use mathlib.Core.Bool.{Bool, true, false, cond}
 use Rattle.base.specs.declared.refusal.Refusal.{Refusal}
-use Rattle.base.specs.declared.refusal.Refusal.the-variants.{Month, Sunspot, Hour, Latitude, Longitude, Factor, Flag, Record, Ended, Marker, Index, Figures, Table, Desk, Drafted, NoDraft, Stale, NothingEarlier}
+use Rattle.base.specs.declared.refusal.Refusal.the-variants.{Month, Sunspot, Hour, Latitude, Longitude, Factor, Flag, Record, Ended, Marker, Index, Figures, Table, Desk, Drafted, NoDraft, Stale, NothingEarlier, Model, Year}
 use Rattle.base.specs.declared.refusal.Report.{Report}
 use Rattle.base.specs.declared.refusal.Verdict.{Verdict}
 use Rattle.base.specs.declared.refusal.Verdict.the-variants.{Accepted, Refused}
@@ -31,6 +31,10 @@ reportOf Drafted = (15, 0)
 reportOf NoDraft = (16, 0)
 reportOf Stale = (17, 0)
 reportOf NothingEarlier = (18, 0)
+-- document 02, request 01: 'the model being field 15 ..; a wrong model word is refusal 7'; '19, ..
+-- place the lowest such pair'
+reportOf Model = (7, 15)
+reportOf (Year pair) = (19, pair)
 
 -- what goes by a check's answer: the value where nothing is refused, else what the refusal gives
 abbrev pub unlessRefused : {A : Type 0} → Verdict → A → (Refusal → A) → A

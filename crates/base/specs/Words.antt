@@ -1,7 +1,7 @@
 -- The words of a file. Document 01: 'Words are little-endian'; a byte that is not there counts as
 -- 0. Assumes nothing.
-use Prim.Native.Nat.{ℕ, _+_, _*_}
-use mathlib.Core.List.{List}
+use Prim.Native.Nat.{ℕ, _+_, _*_, _/_, _%_}
+use mathlib.Core.List.{List, [], _∷_}
 use lib.IntN.{ℤ}
 use lib.ListN.{getD}
 use lib.Ieee.{Float, binary32, ofBits}
@@ -21,3 +21,7 @@ integerAt s at = signedOf (wordAt s at)
 
 unfoldable pub floatAt : List ℕ → ℕ → Float
 floatAt s at = ofBits binary32 (wordAt s at)
+
+-- a number below 2 ^ 32 as four bytes, the lowest first
+abbrev pub fourBytes : ℕ → List ℕ
+fourBytes n = n % 256 ∷ n / 256 % 256 ∷ n / 65536 % 256 ∷ n / 16777216 ∷ []

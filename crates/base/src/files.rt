@@ -1,5 +1,5 @@
-// The lent files as a whole: the checks before they are used, and the arrays that a sheet reads
-// from them. A refusal leaves the arrays as they are.
+// The record and the month file, lent as two or parts of a year file, as a whole: the checks before
+// they are used, and the arrays that a sheet reads from them. A refusal leaves the arrays as they are.
 use crate::blend::HeightMap;
 use crate::blend::LandMap;
 use crate::blend::SixMaps;

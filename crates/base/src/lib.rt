@@ -11,3 +11,4 @@ pub mod ranges;
 pub mod refusal;
 pub mod tables;
 pub mod words;
+pub mod year;

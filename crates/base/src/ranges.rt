@@ -1,12 +1,12 @@
-// The ranges of document 01's fields that more than one call is held to.
+// The ranges of fields, of documents 01 and 02, that more than one call is held to.
 use crate::angle::Degrees;
 use crate::refusal::Refusal;
 use crate::refusal::Verdict;
 use crate::refusal::refuse_unless;
 ghost use mathlib.Core.Path.{_≡_};
-ghost use Rattle.base.specs.Ranges.{isMonth, monthCheck, isTo, hourCheck, latitudeCheck, longitudeCheck};
+ghost use Rattle.base.specs.Ranges.{isMonth, monthCheck, isBit, modelCheck, isTo, hourCheck, latitudeCheck, longitudeCheck};
 
-fn is_month(m: u32) -> bool
+pub(crate) fn is_month(m: u32) -> bool
     ensures { λ r. ⌜ r ≡ isMonth m ⌝ }
 {
     if 1 <= m { m <= 12 } else { false }
@@ -17,6 +17,20 @@ pub fn month_check(m: u32) -> Verdict
     ensures { λ r. ⌜ r ≡ monthCheck m ⌝ }
 {
     refuse_unless(is_month(m), Refusal::Month)
+}
+
+// Whether a word is 0 or 1.
+pub fn is_bit(w: u32) -> bool
+    ensures { λ r. ⌜ r ≡ isBit w ⌝ }
+{
+    w <= 1
+}
+
+// The verdict on an F2 model's word: 7, place 15, unless it is 0 (CCIR) or 1 (URSI).
+pub fn model_check(m: u32) -> Verdict
+    ensures { λ r. ⌜ r ≡ modelCheck m ⌝ }
+{
+    refuse_unless(is_bit(m), Refusal::Model)
 }
 
 // Whether x is from low to high, ends included; a NaN is outside.

@@ -1,9 +1,9 @@
-// Why a call is refused: a name for each refusal of document 01, with its number and place.
+// Why a call is refused: a name for each refusal of documents 01 and 02, with its number and place.
 ghost use mathlib.Core.Path.{_≡_};
 ghost use Rattle.base.specs.Refusal.{pairOf, reportOf, verdictReport, refuseUnless, _then_};
 
-// Of a field that stands more than once, and of a place in a file or the number of a map, the case
-// carries which.
+// Of a field that stands more than once, and of a place in a file or the number of a map or of a
+// pair, the case carries which.
 pub enum Refusal {
     Month,
     Sunspot,
@@ -12,7 +12,7 @@ pub enum Refusal {
     Longitude(u32),
     Factor(u32),
     Flag,
-    // The F2 record, or the file of such records, is too short.
+    // The F2 record is too short, or the file or part of such records ends before it does.
     Record,
     // Four bytes of the month file, at this place, are not there.
     Ended(u32),
@@ -28,13 +28,17 @@ pub enum Refusal {
     NoDraft,
     Stale,
     NothingEarlier,
+    // The F2 model's word is neither 0 nor 1.
+    Model,
+    // This pair of a year file's directory, 1 to 14, is not wholly there or breaks a rule.
+    Year(u32),
 }
 
-// Document 01's number of a refusal, and its place; 0 and 0 where nothing is refused.
+// The documents' number of a refusal, and its place; 0 and 0 where nothing is refused.
 pub struct Report(pub u32, pub u32);
 
 impl Refusal {
-    // Document 01's number of a refusal with its place: a field's number, a byte's place or a map's
+    // The number of a refusal with its place: a field's number, a byte's place, a map's or a pair's
     // number; all others have place 0.
     pub fn report(self) -> Report
         ensures { λ r. ⌜ pairOf r ≡ reportOf self ⌝ }
@@ -58,10 +62,12 @@ impl Refusal {
             Refusal::NoDraft => Report(16, 0),
             Refusal::Stale => Report(17, 0),
             Refusal::NothingEarlier => Report(18, 0),
+            Refusal::Model => Report(7, 15),
+            Refusal::Year(pair) => Report(19, pair),
         }
     }
 
-    // Document 01's number of a refusal, 1 to 18.
+    // The number of a refusal, 1 to 19.
     pub fn number(self) -> u32
         ensures { λ r. ⌜ r ≡ reportOf self .0 ⌝ }
     {

@@ -7,7 +7,8 @@ ghost use mathlib.Core.Path.{_≡_};
 ghost use Rattle.base.specs.MonthFile.{IsPart};
 ghost use Rattle.base.specs.Tables.{partOf, tableCheck, tablePart, tableFile};
 
-// Where a table starts in the file that holds it, and how many bytes it has.
+// Where a table, or a part of a year file, starts in the file that holds it, and how many bytes it
+// has.
 pub struct Place {
     pub start: usize,
     pub size: usize,

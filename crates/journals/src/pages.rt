@@ -12,7 +12,7 @@ use base::month_file::MONTH_FILE;
 use base::month_file::RECORD;
 use listing::page::PAGE;
 use listing::sheet::page_answer;
-use maps::inputs::FIELD_BYTES;
+use maps::inputs::SHEET_BYTES;
 use tally::counted;
 use tally::none;
 use tally::print_line;
@@ -21,7 +21,7 @@ ghost use Prim.Native.Nat.{_≤_};
 // Three pairs of files.
 const PAIRS: usize = 3 * PAIR;
 
-fn is_text(words: &[u8; FIELD_BYTES], pair: &[u8], wanted: &[u8]) -> bool {
+fn is_text(words: &[u8; SHEET_BYTES], pair: &[u8], wanted: &[u8]) -> bool {
     let mut text = [0u8; PAGE];
     let record = part(pair, 0, RECORD);
     let month = part(pair, RECORD, RECORD + MONTH_FILE);
@@ -32,7 +32,7 @@ fn is_text(words: &[u8; FIELD_BYTES], pair: &[u8], wanted: &[u8]) -> bool {
 // The next page of the file.
 fn is_page(fd: i32, pairs: &[u8; PAIRS]) -> bool {
     let k = next_size(fd);
-    let mut words = [0u8; FIELD_BYTES];
+    let mut words = [0u8; SHEET_BYTES];
     io::read_full(fd, &mut words);
     let o = next_size(fd);
     if k > 2 {

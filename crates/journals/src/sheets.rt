@@ -11,7 +11,7 @@ use base::month_file::MONTH_FILE;
 use base::month_file::RECORD;
 use listing::answer::ANSWER;
 use listing::sheet::sheet_answer;
-use maps::inputs::FIELD_BYTES;
+use maps::inputs::SHEET_BYTES;
 use tally::counted;
 use tally::none;
 use tally::print_line;
@@ -21,10 +21,10 @@ ghost use Prim.Native.Nat.{_≤_};
 // more.
 pub const PAIR: usize = RECORD + MONTH_FILE;
 
-const INPUT: usize = FIELD_BYTES + PAIR + 1000;
+const INPUT: usize = SHEET_BYTES + PAIR + 1000;
 
 // Where the month file starts in an input whose record is whole.
-const MONTH_START: usize = FIELD_BYTES + RECORD;
+const MONTH_START: usize = SHEET_BYTES + RECORD;
 
 fn min(a: usize, b: usize) -> usize
     ensures first { λ r. ⌜ r ≤ a ⌝ }
@@ -43,8 +43,8 @@ pub fn part(s: &[u8], a: usize, e: usize) -> &[u8] {
 // What `sheet` makes of an input.
 fn is_answer(input: &[u8], wanted: &[u8]) -> bool {
     let mut text = [0u8; ANSWER];
-    let words = part(input, 0, FIELD_BYTES);
-    let record = part(input, FIELD_BYTES, MONTH_START);
+    let words = part(input, 0, SHEET_BYTES);
+    let record = part(input, SHEET_BYTES, MONTH_START);
     let month = part(input, MONTH_START, INPUT);
     let n = sheet_answer(words, record, month, &mut text);
     say(wanted, 0, &text[..n]) == wanted.len()
@@ -78,13 +78,13 @@ fn with_files(input: [u8; INPUT], r: usize) -> [u8; INPUT]
         return input;
     }
     skip(fd, 4);
-    let with_record = filled(fd, input, FIELD_BYTES, FIELD_BYTES + r);
+    let with_record = filled(fd, input, SHEET_BYTES, SHEET_BYTES + r);
     skip(fd, RECORD - r);
     let whole = filled(
         fd,
         with_record,
-        FIELD_BYTES + r,
-        FIELD_BYTES + MONTH_FILE + r,
+        SHEET_BYTES + r,
+        SHEET_BYTES + MONTH_FILE + r,
     );
     libc::close(fd);
     whole
@@ -96,14 +96,14 @@ fn with_change(input: [u8; INPUT], r: usize, changed: usize, b: u8) -> [u8; INPU
 {
     let mut input = input;
     if changed < MONTH_FILE {
-        input[FIELD_BYTES + r + changed] = b;
+        input[SHEET_BYTES + r + changed] = b;
     }
     input
 }
 
 // The next case of the file. Past its month file an input has aa.
 fn is_case(fd: i32) -> bool {
-    let words = filled(fd, [0xaau8; INPUT], 0, FIELD_BYTES);
+    let words = filled(fd, [0xaau8; INPUT], 0, SHEET_BYTES);
     let r = next_size(fd);
     // The month file's length, which the whole length gives.
     next(fd);

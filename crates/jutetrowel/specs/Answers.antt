@@ -1,6 +1,6 @@
 -- How answers cross to another language: numbers and places. Assumes nothing.
-use Rattle.base.specs.Refusal.{reportOf, verdictReport}
-use Rattle.base.specs.MonthFile.{Part}
+use Rattle.base.specs.Refusal.{reportOf, verdictReport, writtenOver}
+use Rattle.base.specs.MonthFile.{Part, emptyPart}
 use Rattle.base.specs.declared.refusal.Verdict.{Verdict}
 use Rattle.maps.specs.declared.figures.Shown.{Shown}
 use Rattle.maps.specs.declared.figures.Shown.the-variants.{Points, Refused}
@@ -24,3 +24,8 @@ shownNumbers s = record { number = showingOf s .number; place = showingOf s .pla
 -- a part of a lent file, with the answer of the check that it rests on
 unfoldable pub spanOf : Verdict → Part → Span
 spanOf v p = record { start = p .from; size = p .size; number = verdictReport v .0; place = verdictReport v .1 }
+
+-- a part that is handed back only where nothing is refused, else 'the part handed back is empty, at
+-- the start'
+unfoldable pub spanUnless : Verdict → Part → Span
+spanUnless v p = spanOf v (writtenOver v p emptyPart)

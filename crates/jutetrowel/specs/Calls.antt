@@ -8,7 +8,7 @@ use Rattle.base.specs.Refusal.{writtenOver}
 use Rattle.maps.specs.Inputs.{Single}
 use Rattle.worksheet.specs.declared.desks.Worksheet.{Worksheet}
 use Rattle.worksheet.specs.declared.inputs.Edit.{Edit}
-use Rattle.worksheet.specs.declared.inputs.Edit.the-variants.{Sunspot, Hour, Path, Psc, Pole}
+use Rattle.worksheet.specs.declared.inputs.Edit.the-variants.{Sunspot, Hour, Path, Psc, Pole, Month, Model}
 use Rattle.worksheet.specs.Showing.{Source}
 use Rattle.worksheet.specs.Journal.{Call, begin, commit, cancel, change, takeBack, show, Answer, told, shown, Entry, step, entryOf, shorter, callsOf}
 use Rattle.jutetrowel.specs.declared.answers.Answer.{Answer as Numbers}
@@ -82,6 +82,8 @@ EditSingles (Hour x) = Single x
 EditSingles (Path p) = Single (p .tlat .0) × Single (p .tlong .0) × Single (p .rlat .0) × Single (p .rlong .0)
 EditSingles (Psc p) = Single (p .e) × Single (p .f1) × Single (p .f2) × Single (p .es)
 EditSingles (Pole p) = Single (p .lat .0) × Single (p .lon .0)
+EditSingles (Month m) = Unit
+EditSingles (Model m) = Unit
 
 abbrev pub CallSingles : Call → Type 0
 CallSingles (begin n) = Unit

@@ -32,7 +32,7 @@ factorsOf e f1 f2 es = record { e = e; f1 = f1; f2 = f2; es = es }
 abbrev pub poleTyped : Float → Float → MagneticPole
 poleTyped lat lon = record { lat = degrees lat; lon = degrees lon }
 
--- the 14 fields in document 01's order
+-- the 14 fields in document 01's order, with model 0
 unfoldable pub inputsTyped :
     ℕ → Float → Float → Float → Float → Float → Float → ℕ → Float → Float → Float → Float → Float → Float → Inputs
 inputsTyped month ssn gmt tlat tlong rlat rlong flag e f1 f2 es lat lon =
@@ -43,4 +43,5 @@ inputsTyped month ssn gmt tlat tlong rlat rlong flag e f1 f2 es lat lon =
       route = routeTyped tlat tlong rlat rlong flag;
       psc = factorsOf e f1 f2 es;
       pole = poleTyped lat lon;
+      model = 0;
     }

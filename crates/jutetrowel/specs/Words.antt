@@ -1,4 +1,4 @@
--- A worksheet as the 90 words that another language lends: six sets of 15, which are the inputs,
+-- A worksheet as the 96 words that another language lends: six sets of 16, which are the inputs,
 -- the earlier set and the drafts of desks 1 to 4. Assumes nothing.
 use mathlib.Core.Bool.{cond}
 use mathlib.Core.List.{List, _∷_, _++_}
@@ -16,13 +16,13 @@ use Rattle.worksheet.specs.declared.desks.Outcome.{Outcome}
 use Rattle.worksheet.specs.declared.desks.Worksheet.{Worksheet}
 use Rattle.worksheet.specs.Desks.{EarlierHas, DraftHas, SheetHas}
 
--- a set's words: what it is, and its 14 fields
+-- a set's words: what it is, and its 15 fields
 abbrev pub setSize : ℕ
-setSize = 15
+setSize = 16
 
 -- a worksheet's words
 abbrev pub sheetSize : ℕ
-sheetSize = 90
+sheetSize = 96
 
 -- ---- words read
 
@@ -45,21 +45,21 @@ unfoldable pub draftIn : List ℕ → ℕ → Draft
 draftIn l at =
     cond (eqb (wordIn l at) 0) Closed (cond (eqb (wordIn l at) 1) (Fresh (inputsIn l at)) (Stale (inputsIn l at)))
 
--- any 90 words are a worksheet; the first word of all is not looked at
+-- any 96 words are a worksheet; the first word of all is not looked at
 unfoldable pub worksheetOf : List ℕ → Worksheet
 worksheetOf l =
     record {
       inputs = inputsIn l 0;
-      earlier = earlierIn l 15;
-      d1 = draftIn l 30;
-      d2 = draftIn l 45;
-      d3 = draftIn l 60;
-      d4 = draftIn l 75;
+      earlier = earlierIn l 16;
+      d1 = draftIn l 32;
+      d2 = draftIn l 48;
+      d3 = draftIn l 64;
+      d4 = draftIn l 80;
     }
 
 -- ---- words written
 
--- a set that is there: what it is, and its 14 fields
+-- a set that is there: what it is, and its 15 fields
 unfoldable pub setWords : ℕ → Inputs → List ℕ
 setWords what i = what ∷ fieldWords i
 

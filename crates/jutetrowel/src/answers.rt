@@ -1,13 +1,14 @@
 // How answers cross to another language: whole numbers in structs that C lays out alike.
 use base::refusal::Refusal;
 use base::refusal::Verdict;
+use base::tables::Place;
 use maps::figures::Shown;
 ghost use mathlib.Core.Path.{_≡_};
 ghost use Rattle.base.specs.declared.refusal.Verdict.the-variants.{Refused};
 ghost use Rattle.base.specs.MonthFile.{emptyPart};
-ghost use Rattle.jutetrowel.specs.Answers.{answerOf, showingOf, shownNumbers, spanOf};
+ghost use Rattle.jutetrowel.specs.Answers.{answerOf, showingOf, shownNumbers, spanOf, spanUnless};
 
-// Document 01's number of a refusal, and its place; 0 and 0 where nothing is refused.
+// The documents' number of a refusal, and its place; 0 and 0 where nothing is refused.
 #[repr(C)]
 pub struct Answer {
     pub number: u32,
@@ -76,5 +77,20 @@ pub(crate) fn no_span(why: Refusal) -> Span
         size: 0,
         number: why.number(),
         place: why.place(),
+    }
+}
+
+// The span of a place, unless the verdict refuses it.
+pub(crate) fn span_unless(verdict: Verdict, at: Place) -> Span
+    ensures { λ r. ⌜ r ≡ spanUnless verdict (record { from = at .start; size = at .size }) ⌝ }
+{
+    match verdict {
+        Verdict::Accepted => Span {
+            start: at.start,
+            size: at.size,
+            number: 0,
+            place: 0,
+        },
+        Verdict::Refused(why) => no_span(why),
     }
 }

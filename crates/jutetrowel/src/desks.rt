@@ -1,4 +1,4 @@
-// The calls of `worksheet::journal`, over a worksheet of 90 lent words. A call that is refused
+// The calls of `worksheet::journal`, over a worksheet of 96 lent words. A call that is refused
 // leaves them, bit for bit.
 use crate::answers::Answer;
 use crate::answers::Showing;
@@ -14,12 +14,14 @@ use worksheet::desks::opened;
 use worksheet::inputs::Edit;
 use worksheet::journal;
 use worksheet::journal::Call;
+use worksheet::showing::Lent;
 use worksheet::showing::show;
+use worksheet::showing::show_year;
 ghost use mathlib.Core.Path.{_≡_};
 ghost use mathlib.Core.List.{[]};
-ghost use Rattle.worksheet.specs.declared.inputs.Edit.the-variants.{Sunspot, Hour, Path, Psc, Pole};
+ghost use Rattle.worksheet.specs.declared.inputs.Edit.the-variants.{Sunspot, Hour, Path, Psc, Pole, Month, Model};
 ghost use Rattle.worksheet.specs.Desks.{openedOf};
-ghost use Rattle.worksheet.specs.Showing.{pair};
+ghost use Rattle.worksheet.specs.Showing.{pair, yearly};
 ghost use Rattle.worksheet.specs.Journal.{begin, change, commit, cancel, takeBack, show as showCall, step};
 ghost use Rattle.worksheet.specs.Calls.{called};
 ghost use Rattle.jutetrowel.specs.Answers.{answerOf};
@@ -27,8 +29,8 @@ ghost use Rattle.jutetrowel.specs.Fields.{routeTyped, factorsOf, poleTyp
 ghost use Rattle.jutetrowel.specs.Words.{worksheetOf, wordsAfter};
 ghost use Rattle.jutetrowel.specs.Calls.{answerNumbers, Shows, wordsLeft, Made};
 
-// A worksheet from 14 little-endian words, into the 90 words lent. Refuses the first bad field; the
-// 90 words stay.
+// A worksheet from 15 little-endian words, of which bytes that are not there count as 0, into the 96
+// words lent. Refuses the first bad field; the 96 words stay.
 #[no_mangle]
 pub extern "C" fn jt_open(words: &[u8], sheet: &mut [u32; SHEET_WORDS]) -> Answer
     ensures answer { λ r. ⌜ r ≡ answerOf (openedOf (now (words .entry)) .answer) ⌝ }
@@ -49,7 +51,7 @@ fn made(sheet: &mut [u32; SHEET_WORDS], call: Call) -> Answer
     ensures sheet { λ _. ⌜ now (sheet .exit) ≡ wordsLeft (pair [] []) (called call []) (now (sheet .entry)) ⌝ }
 {
     let mut nothing = [0.0f32; 0];
-    let next = journal::make(load(sheet), call, b"", b"", &mut nothing);
+    let next = journal::make(load(sheet), call, Lent::Pair, b"", b"", &mut nothing);
     let answer = next.answer;
     let w = next.sheet;
     match answer {
@@ -134,6 +136,24 @@ pub extern "C" fn jt_change_pole(
     made(sheet, Call::Change(desk, e))
 }
 
+// Changes the month of a desk's draft. Refuses 14, 16, then the field, 1. Shown over a pair of files,
+// the new month's sun goes with the files that are lent: they are the caller's to exchange.
+#[no_mangle]
+pub extern "C" fn jt_change_month(sheet: &mut [u32; SHEET_WORDS], desk: u32, month: u32) -> Answer
+    ensures { λ r. ⌜ Made (change desk (Month month)) (now (sheet .entry)) r (now (sheet .exit)) ⌝ }
+{
+    made(sheet, Call::Change(desk, Edit::Month(month)))
+}
+
+// Changes the F2 model of a desk's draft, 0 CCIR and 1 URSI. Refuses 14, 16, then the field, 7.
+// Over a pair of files it picks nothing: the record is the caller's to exchange.
+#[no_mangle]
+pub extern "C" fn jt_change_model(sheet: &mut [u32; SHEET_WORDS], desk: u32, model: u32) -> Answer
+    ensures { λ r. ⌜ Made (change desk (Model model)) (now (sheet .entry)) r (now (sheet .exit)) ⌝ }
+{
+    made(sheet, Call::Change(desk, Edit::Model(model)))
+}
+
 // Makes a desk's draft the inputs. Refuses 14, 16, then 17 where the draft is stale.
 #[no_mangle]
 pub extern "C" fn jt_commit(sheet: &mut [u32; SHEET_WORDS], desk: u32) -> Answer
@@ -159,7 +179,8 @@ pub extern "C" fn jt_take_back(sheet: &mut [u32; SHEET_WORDS]) -> Answer
 }
 
 // The number of points, with the figures of a desk's draft, of the worksheet for desk 0, in the
-// buffer. Refuses as `show`; the buffer stays.
+// buffer. Refuses as `show`; the buffer stays. The files are taken as lent, whatever month and model
+// the inputs shown have.
 #[no_mangle]
 pub extern "C" fn jt_show(
     sheet: &[u32; SHEET_WORDS],
@@ -173,4 +194,20 @@ pub extern "C" fn jt_show(
         r (now (out .exit)) ⌝ }
 {
     shown_as(show(load(sheet), desk, f2, file, out))
+}
+
+// The same over a year file, of which the month and the model shown pick the parts. Refuses as
+// `show_year`; the buffer stays.
+#[no_mangle]
+pub extern "C" fn jt_show_year(
+    sheet: &[u32; SHEET_WORDS],
+    desk: u32,
+    year: &[u8],
+    out: &mut [f32],
+) -> Showing
+    ensures { λ r. ⌜ Shows (step (yearly (now (year .entry)))
+        (showCall desk (now (out .entry))) (worksheetOf (now (sheet .entry))) .answer)
+        r (now (out .exit)) ⌝ }
+{
+    shown_as(show_year(load(sheet), desk, year, out))
 }

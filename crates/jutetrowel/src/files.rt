@@ -1,22 +1,29 @@
-// The files of `base::month_file` and `base::files`, and the tables of `base::tables`.
+// The files of `base::month_file` and `base::files`, the tables of `base::tables` and the year file of
+// `base::year`.
 use crate::answers::Answer;
 use crate::answers::Span;
 use crate::answers::answered;
 use crate::answers::no_span;
+use crate::answers::span_unless;
 use base::blend::HeightMap;
 use base::blend::SixMaps;
 use base::files;
 use base::month_file;
 use base::month_file::RECORD;
+use base::ranges::model_check;
+use base::ranges::month_check;
 use base::refusal::Verdict;
+use base::refusal::then;
 use base::tables;
+use base::year;
 ghost use mathlib.Core.Path.{_≡_};
 ghost use Rattle.base.specs.Refusal.{writtenOver};
 ghost use Rattle.base.specs.MonthFile.{monthFileCheck, monthRecordCheck, monthPart};
 ghost use Rattle.base.specs.Tables.{tableCheck, tablePart};
 ghost use Rattle.base.specs.Blend.{cofionOf, hmymOf};
 ghost use Rattle.base.specs.Files.{fileCheck, filesCheck};
-ghost use Rattle.jutetrowel.specs.Answers.{answerOf, spanOf};
+ghost use Rattle.base.specs.Year.{yearCheck, yearMonth, yearModel, yearMonthCheck, yearModelCheck};
+ghost use Rattle.jutetrowel.specs.Answers.{answerOf, spanOf, spanUnless};
 
 // The month file's walk in fours: 9 where four bytes are not there, 10 at a wrong marker, with that
 // byte's place.
@@ -79,6 +86,43 @@ pub extern "C" fn jt_table(number: u32, f2: &[u8], month: &[u8]) -> Span
         }
         Verdict::Refused(why) => no_span(why),
     }
+}
+
+// The verdict on a year file's directory: 19 with the lowest pair, 1 to 14, that is not wholly there
+// or breaks a rule.
+#[no_mangle]
+pub extern "C" fn jt_year_check(year: &[u8]) -> Answer
+    ensures { λ r. ⌜ r ≡ answerOf (yearCheck (now (year .entry))) ⌝ }
+{
+    answered(year::year_check(year))
+}
+
+// Where the month file of a month lies in a year file: start and size in bytes. Refuses 1, 19, with
+// zeros for both.
+#[no_mangle]
+pub extern "C" fn jt_year_month(year: &[u8], month: u32) -> Span
+    ensures { λ r. ⌜ (
+        let s = now (year .entry) in
+        r ≡ spanUnless (yearMonthCheck s month) (yearMonth s month)
+        ) ⌝ }
+{
+    let verdict = then(month_check(month), year::year_check(year));
+    let at = year::month_place(year, month);
+    span_unless(verdict, at)
+}
+
+// Where the `.daw` file of a model, 0 CCIR and 1 URSI, lies in a year file: start and size in bytes.
+// Refuses 7, 19, with zeros for both.
+#[no_mangle]
+pub extern "C" fn jt_year_model(year: &[u8], model: u32) -> Span
+    ensures { λ r. ⌜ (
+        let s = now (year .entry) in
+        r ≡ spanUnless (yearModelCheck s model) (yearModel s model)
+        ) ⌝ }
+{
+    let verdict = then(model_check(model), year::year_check(year));
+    let at = year::model_place(year, model);
+    span_unless(verdict, at)
 }
 
 // The blended coefficients of the six maps at a sunspot number. Refuses 8, 9, 10, 11; the array

@@ -5,11 +5,11 @@ use crate::fields::factors;
 use crate::fields::pole;
 use crate::fields::route;
 use maps::inputs::Inputs;
-use worksheet::desks::opened;
+use worksheet::desks::sheet_opened;
 use worksheet::showing::drawn;
 use worksheet::showing::show;
 ghost use mathlib.Core.Path.{_≡_};
-ghost use Rattle.worksheet.specs.Desks.{openedOf};
+ghost use Rattle.worksheet.specs.Desks.{sheetOpenedOf};
 ghost use Rattle.worksheet.specs.Showing.{pair, drawnOf, drawnBuffer};
 ghost use Rattle.worksheet.specs.Journal.{show as showCall, step};
 ghost use Rattle.jutetrowel.specs.Answers.{showingOf};
@@ -58,19 +58,21 @@ pub extern "C" fn jt_figures(
         route: route(tlat, tlong, rlat, rlong, long_path),
         psc: factors(psc_e, psc_f1, psc_f2, psc_es),
         pole: pole(pole_lat, pole_lon),
+        model: 0,
     };
     shown_as(drawn(i, f2, file, out))
 }
 
 // A whole sheet of 14 little-endian words, an F2 record and a month file: the number of points,
-// with the figures in the buffer. Refuses the fields, 12, 8, 9, 10, 11; the buffer stays.
+// with the figures in the buffer. A 15th word is not read: the model is 0. Refuses the fields, 12,
+// 8, 9, 10, 11; the buffer stays.
 #[no_mangle]
 pub extern "C" fn jt_sheet(words: &[u8], f2: &[u8], file: &[u8], out: &mut [f32]) -> Showing
     ensures { λ r. ⌜ Shows (step (pair (now (f2 .entry)) (now (file .entry)))
-        (showCall 0 (now (out .entry))) (openedOf (now (words .entry)) .sheet) .answer)
+        (showCall 0 (now (out .entry))) (sheetOpenedOf (now (words .entry)) .sheet) .answer)
         r (now (out .exit)) ⌝ }
 {
-    let new = opened(words);
+    let new = sheet_opened(words);
     let w = new.sheet;
     shown_as(show(w, 0, f2, file, out))
 }

@@ -1,5 +1,5 @@
-// A worksheet's value in 90 words that the caller lends: the inputs, the earlier set and the drafts
-// of desks 1 to 4, 15 words each.
+// A worksheet's value in 96 words that the caller lends: the inputs, the earlier set and the drafts
+// of desks 1 to 4, 16 words each.
 use crate::answers::Answer;
 use crate::answers::answered;
 use base::refusal::Verdict;
@@ -47,7 +47,7 @@ fn copy(from: &[u32], at: usize, out: &mut [u32], to: usize, n: usize)
     }
 }
 
-// The 14 fields of the set at `at`.
+// The 15 fields of the set at `at`.
 fn inputs_in(sheet: &[u32; SHEET_WORDS], at: usize) -> Inputs
     requires { ⌜ at + setSize ≤ sheetSize ⌝ }
     ensures { λ r. ⌜ r ≡ inputsIn (now (sheet .entry)) at ⌝ }
@@ -81,7 +81,7 @@ fn draft_in(sheet: &[u32; SHEET_WORDS], at: usize) -> Draft
     }
 }
 
-// The worksheet that the words hold; any 90 words hold one.
+// The worksheet that the words hold; any 96 words hold one.
 pub(crate) fn load(sheet: &[u32; SHEET_WORDS]) -> Worksheet
     ensures { λ r. ⌜ r ≡ worksheetOf (now (sheet .entry)) ⌝ }
 {

@@ -1,12 +1,16 @@
--- A call as a run of little-endian words, as docs/PROGRAMS.md's table of calls has it. Assumes
+-- A call as a run of little-endian words, as docs/PROGRAMS.md's tables of calls have it. Assumes
 -- nothing.
 use Prim.Native.Nat.{ℕ, _*_}
+use mathlib.Core.Bool.{cond}
 use mathlib.Core.List.{List, [], _∷_}
+use lib.Dec.{ltb}
 use lib.ListN.{getD}
 use Rattle.base.specs.Words.{wordAt, floatAt}
 use Rattle.worksheet.specs.declared.inputs.Edit.{Edit}
-use Rattle.worksheet.specs.declared.inputs.Edit.the-variants.{Sunspot, Hour, Path, Psc, Pole}
+use Rattle.worksheet.specs.declared.inputs.Edit.the-variants.{Sunspot, Hour, Path, Psc, Pole, Month, Model}
 use Rattle.worksheet.specs.declared.journal.Call.the-variants.{Begin, Change, Commit, Cancel, TakeBack, Show}
+use Rattle.worksheet.specs.declared.showing.Lent.{Lent}
+use Rattle.worksheet.specs.declared.showing.Lent.the-variants.{Pair, Year}
 use Rattle.base.specs.declared.angle.Degrees.{Degrees}
 use Rattle.listing.specs.declared.call.Read.{Read}
 use Rattle.listing.specs.declared.call.Read.the-variants.{Bad, Call as Called}
@@ -76,10 +80,21 @@ operations =
     ∷ operation 0 (λ s. Called TakeBack)
     -- 10, desk: show the desk's draft, or the worksheet for desk 0
     ∷ operation 1 (λ s. Called (Show (deskIn s)))
+    -- over a year file: 11, desk, month: change its month; 12, desk, model: its F2 model
+    ∷ operation 2 (λ s. changeIn s (Month (wordAt s 4)))
+    ∷ operation 2 (λ s. changeIn s (Model (wordAt s 4)))
     ∷ []
 
 abbrev pub operationOf : ℕ → Operation
 operationOf number = getD operations number unknown
+
+-- a journal over a pair of files does not know 11 and 12
+unfoldable pub pairOperation : ℕ → ℕ
+pairOperation number = cond (ltb 10 number) 0 number
+
+abbrev pub operationIn : Lent → ℕ → ℕ
+operationIn Pair number = pairOperation number
+operationIn Year number = number
 
 -- how many bytes follow the operation's word
 unfoldable pub sizeOf : ℕ → ℕ

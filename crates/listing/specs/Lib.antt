@@ -6,3 +6,5 @@ pub mod Sheet
 pub mod Decimal
 pub mod Page
 pub mod Text
+pub mod Reason
+pub mod Survey

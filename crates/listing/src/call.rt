@@ -9,15 +9,20 @@ use maps::inputs::FIELD_BYTES;
 use maps::inputs::Factors;
 use maps::inputs::MagneticPole;
 use maps::inputs::Route;
+use maps::inputs::SHEET_BYTES;
 use worksheet::inputs::Edit;
 use worksheet::journal::Call;
+use worksheet::showing::Lent;
 ghost use mathlib.Core.Path.{_≡_};
 ghost use Prim.Native.Nat.{_≤_};
-ghost use Rattle.listing.specs.Calls.{pathEdit, pscEdit, poleEdit, changeIn, sizeOf, callIn};
+ghost use Rattle.listing.specs.Calls.{pathEdit, pscEdit, poleEdit, changeIn, pairOperation, operationIn, sizeOf, callIn};
 
-// The first byte of the first call of a journal: before it stand the words, the record and the
-// month file.
-pub const START: u64 = (FIELD_BYTES + RECORD + MONTH_FILE) as u64;
+// The first byte of the first call of a journal over a pair: before it stand the words, the record
+// and the month file.
+pub const START: u32 = (SHEET_BYTES + RECORD + MONTH_FILE) as u32;
+
+// The same over a year file without its bytes: before it stand the words and its length.
+pub const YEAR_START: u32 = (FIELD_BYTES + 4) as u32;
 
 pub enum Read {
     // The input has ended.
@@ -28,14 +33,31 @@ pub enum Read {
 }
 
 // By the operation's number, of which 0 is none.
-const SIZES: [usize; 11] = [0, 4, 8, 8, 24, 20, 12, 4, 4, 0, 4];
+const SIZES: [usize; 13] = [0, 4, 8, 8, 24, 20, 12, 4, 4, 0, 4, 8, 8];
+
+// An operation's number as a journal knows it: over a pair of files every number above 10
+// counts as 0, which is none.
+pub fn operation_in(lent: Lent, operation: u32) -> u32
+    ensures { λ r. ⌜ r ≡ operationIn lent operation ⌝ }
+{
+    match lent {
+        Lent::Pair => pair_operation(operation),
+        Lent::Year => operation,
+    }
+}
+
+fn pair_operation(operation: u32) -> u32
+    ensures { λ r. ⌜ r ≡ pairOperation operation ⌝ }
+{
+    if 10 < operation { 0 } else { operation }
+}
 
 // How many bytes follow the operation's word; none where it is unknown.
 pub fn size_of(operation: u32) -> usize
     ensures answer { λ r. ⌜ r ≡ sizeOf operation ⌝ }
     ensures bound { λ r. ⌜ r ≤ 24 ⌝ }
 {
-    if 10 < operation {
+    if 12 < operation {
         return 0;
     }
     SIZES[operation as usize]
@@ -95,6 +117,8 @@ pub fn call_in(operation: u32, s: &[u8]) -> Read
         8 => Read::Call(Call::Cancel(word(s, 0))),
         9 => Read::Call(Call::TakeBack),
         10 => Read::Call(Call::Show(word(s, 0))),
+        11 => change_in(s, Edit::Month(word(s, 4))),
+        12 => change_in(s, Edit::Model(word(s, 4))),
         _ => Read::Bad,
     }
 }

@@ -10,7 +10,7 @@ use base::refusal::Refusal;
 use maps::figures::FIGURES;
 use maps::figures::Shown;
 use maps::inputs::Inputs;
-use worksheet::desks::opened;
+use worksheet::desks::sheet_opened;
 use worksheet::showing::show;
 ghost use mathlib.Core.Path.{_≡_};
 ghost use lib.ListN.{take};
@@ -27,7 +27,7 @@ pub fn sheet_answer(words: &[u8], f2: &[u8], file: &[u8], out: &mut [u8; ANSWER]
     ensures count { λ r. ⌜ Counts r (now (out .exit)) ⌝ }
 {
     let mut figures = [0.0f32; FIGURES];
-    let o = opened(words);
+    let o = sheet_opened(words);
     let w = o.sheet;
     let shown = show(w, 0, f2, file, &mut figures);
     sheet_text(shown, &figures, out)
@@ -61,7 +61,7 @@ pub fn page_answer(words: &[u8], f2: &[u8], file: &[u8], out: &mut [u8; PAGE]) -
     ensures count { λ r. ⌜ Counts r (now (out .exit)) ⌝ }
 {
     let mut figures = [0.0f32; FIGURES];
-    let o = opened(words);
+    let o = sheet_opened(words);
     let w = o.sheet;
     let shown = show(w, 0, f2, file, &mut figures);
     page_for(w.inputs, shown, &figures, out)

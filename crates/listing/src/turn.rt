@@ -7,10 +7,11 @@ use worksheet::desks::Worksheet;
 use worksheet::journal::Answer;
 use worksheet::journal::Call;
 use worksheet::journal::make;
+use worksheet::showing::Lent;
 ghost use mathlib.Core.Path.{_≡_};
 ghost use lib.ListN.{take};
 ghost use Rattle.io.specs.Counts.{Counts};
-ghost use Rattle.worksheet.specs.Showing.{pair};
+ghost use Rattle.worksheet.specs.Showing.{lentAs};
 ghost use Rattle.worksheet.specs.Journal.{step};
 ghost use Rattle.worksheet.specs.Calls.{called};
 ghost use Rattle.listing.specs.Turn.{blank, handedText, answerText};
@@ -31,18 +32,28 @@ fn handed_text(a: Answer, figures: &[f32; FIGURES], out: &mut [u8; ANSWER]) -> u
     }
 }
 
-// Makes a call over a lent record and month file, a showing with a buffer of zeros, writes the text
-// of its answer and gives its length beside the worksheet that the call leaves.
-pub fn answered(w: Worksheet, call: Call, f2: &[u8], file: &[u8], out: &mut [u8; ANSWER]) -> Turn
-    ensures sheet { λ r. ⌜ r .sheet ≡ step (pair (now (f2 .entry)) (now (file .entry))) (called call blank) w .sheet ⌝ }
+// Makes a call over what is lent (an F2 record and a month file, or a year file), a showing with a
+// buffer of zeros, writes the text of its answer and gives its length beside the worksheet that the
+// call leaves.
+pub fn answered(
+    w: Worksheet,
+    call: Call,
+    lent: Lent,
+    a: &[u8],
+    b: &[u8],
+    out: &mut [u8; ANSWER],
+) -> Turn
+    ensures sheet { λ r. ⌜ (
+        r .sheet ≡ step (lentAs lent (now (a .entry)) (now (b .entry))) (called call blank) w .sheet
+        ) ⌝ }
     ensures text { λ r. ⌜ (
-        let s = step (pair (now (f2 .entry)) (now (file .entry))) (called call blank) w in
+        let s = step (lentAs lent (now (a .entry)) (now (b .entry))) (called call blank) w in
         take (r .size) (now (out .exit)) ≡ answerText (s .answer)
         ) ⌝ }
     ensures count { λ r. ⌜ Counts (r .size) (now (out .exit)) ⌝ }
 {
     let mut figures = [0.0f32; FIGURES];
-    let next = make(w, call, f2, file, &mut figures);
+    let next = make(w, call, lent, a, b, &mut figures);
     let answer = next.answer;
     let sheet = next.sheet;
     let size = handed_text(answer, &figures, out);

@@ -1,12 +1,13 @@
--- Document 01's 14 fields of a sheet as words: the month and the flag are whole numbers, the others
--- the bits of an f32. Assumes nothing.
-use Prim.Native.Nat.{ℕ}
-use mathlib.Core.Bool.{Bool, not}
+-- The 15 fields of a sheet as words, document 01's 14 and request 01's model: month, flag and model
+-- are whole numbers, the others the bits of an f32. Assumes nothing.
+use Prim.Native.Nat.{ℕ, _*_}
+use mathlib.Core.Bool.{Bool, cond, not}
 use mathlib.Core.List.{List, [], _∷_}
-use lib.Dec.{T, eqb}
+use lib.Dec.{T, eqb, ltb}
 use lib.Ieee.{Float, binary32, fits, ofBits, toBits}
 use Rattle.base.specs.declared.angle.Degrees.{Degrees}
 use Rattle.base.specs.Single.{decimal, minusDecimal}
+use Rattle.base.specs.Words.{wordAt}
 use Rattle.maps.specs.declared.inputs.Factors.{Factors}
 use Rattle.maps.specs.declared.inputs.Inputs.{Inputs}
 use Rattle.maps.specs.declared.inputs.MagneticPole.{MagneticPole}
@@ -23,7 +24,7 @@ poleLat = decimal 785 1
 unfoldable pub poleLon : Float
 poleLon = minusDecimal 690 1
 
--- ---- words read: f k is the field k, counted from 0 in document 01's order
+-- ---- words read: f k is the field k, counted from 0 in the documents' order
 
 abbrev pub floatFrom : (ℕ → ℕ) → ℕ → Float
 floatFrom f k = ofBits binary32 (f k)
@@ -56,12 +57,17 @@ inputsFrom f =
       route = routeFrom f;
       psc = factorsFrom f;
       pole = poleFrom f;
+      model = f 14;
     }
 
--- the 14 words one after the other
+-- '`sheet` keeps its 14 words and two files, with model 0': field k of a sheet's bytes
+abbrev pub wordOfSheet : List ℕ → ℕ → ℕ
+wordOfSheet s k = cond (ltb k 14) (wordAt s (4 * k)) 0
+
+-- the 15 words one after the other
 unfoldable pub wordsTo : (ℕ → ℕ) → List ℕ
 wordsTo f =
-    f 0 ∷ f 1 ∷ f 2 ∷ f 3 ∷ f 4 ∷ f 5 ∷ f 6 ∷ f 7 ∷ f 8 ∷ f 9 ∷ f 10 ∷ f 11 ∷ f 12 ∷ f 13 ∷ []
+    f 0 ∷ f 1 ∷ f 2 ∷ f 3 ∷ f 4 ∷ f 5 ∷ f 6 ∷ f 7 ∷ f 8 ∷ f 9 ∷ f 10 ∷ f 11 ∷ f 12 ∷ f 13 ∷ f 14 ∷ []
 
 -- ---- words written
 
@@ -85,6 +91,7 @@ fieldWords i =
     ∷ bitsOf (i .psc .es)
     ∷ bitsOf (i .pole .lat .0)
     ∷ bitsOf (i .pole .lon .0)
+    ∷ i .model
     ∷ []
 
 -- ---- numbers that an f32 can be

@@ -1,4 +1,4 @@
-// The 14 fields of a sheet, and the words that carry them.
+// The 15 fields of a sheet, and the words that carry them.
 use base::angle::Degrees;
 use base::number::bits32;
 use base::number::float32;
@@ -7,7 +7,7 @@ ghost use mathlib.Core.Path.{_≡_};
 ghost use Prim.Native.Nat.{ℕ, _*_, _<_};
 ghost use lib.ListN.{getD};
 ghost use Rattle.base.specs.Words.{wordAt};
-ghost use Rattle.maps.specs.Inputs.{poleLat, poleLon, degreesFrom, routeFrom, factorsFrom, poleFrom, inputsFrom, wordsTo, fieldWords};
+ghost use Rattle.maps.specs.Inputs.{poleLat, poleLon, degreesFrom, routeFrom, factorsFrom, poleFrom, inputsFrom, wordsTo, fieldWords, wordOfSheet};
 
 // Transmitter and receiver, and whether the path goes the long way round: 0 is the short way.
 pub struct Route {
@@ -54,18 +54,26 @@ pub struct Inputs {
     pub route: Route,
     pub psc: Factors,
     pub pole: MagneticPole,
+    // The F2 model: 0 is CCIR, 1 is URSI.
+    pub model: u32,
 }
 
-pub const FIELDS: usize = 14;
+pub const FIELDS: usize = 15;
 
 // The bytes of their words.
 pub const FIELD_BYTES: usize = 4 * FIELDS;
 
-// The words of the fields: month and flag are whole numbers, the others the bits of an `f32`.
+// The fields that a sheet over an F2 record and a month file has: all but the model.
+pub const SHEET_FIELDS: usize = 14;
+
+pub const SHEET_BYTES: usize = 4 * SHEET_FIELDS;
+
+// The words of the fields: month, flag and model are whole numbers, the others the bits of an
+// `f32`.
 pub type FieldWords = [u32; FIELDS];
 
 fn degrees_in(words: &FieldWords, k: usize) -> Degrees
-    requires { ⌜ k < 14 ⌝ }
+    requires { ⌜ k < 15 ⌝ }
     ensures { λ r. ⌜ r ≡ degreesFrom (λ (n : ℕ). getD (now (words .entry)) n 0) k ⌝ }
 {
     Degrees(float32(words[k]))
@@ -103,7 +111,7 @@ fn pole_in(words: &FieldWords) -> MagneticPole
     }
 }
 
-// The inputs whose 14 fields the words are, in document 01's order; any 14 words are some.
+// The inputs whose 15 fields the words are, in the documents' order; any 15 words are some.
 pub fn from_words(words: &FieldWords) -> Inputs
     ensures { λ r. ⌜ r ≡ inputsFrom (λ (k : ℕ). getD (now (words .entry)) k 0) ⌝ }
 {
@@ -114,10 +122,11 @@ pub fn from_words(words: &FieldWords) -> Inputs
         route: route_in(words),
         psc: factors_in(words),
         pole: pole_in(words),
+        model: words[14],
     }
 }
 
-// The first 14 words of some bytes.
+// The first 15 words of some bytes.
 fn words_in(s: &[u8]) -> FieldWords
     ensures { λ r. ⌜ r ≡ wordsTo (λ (k : ℕ). wordAt (now (s .entry)) (4 * k)) ⌝ }
 {
@@ -136,11 +145,12 @@ fn words_in(s: &[u8]) -> FieldWords
         word(s, 44),
         word(s, 48),
         word(s, 52),
+        word(s, 56),
     ]
 }
 
-// The inputs whose 14 fields are the little-endian words of the bytes; one that is not there counts
-// as 0.
+// The inputs whose 15 fields are the little-endian words of the bytes; a byte that is not there
+// counts as 0.
 pub fn inputs_in(s: &[u8]) -> Inputs
     ensures { λ r. ⌜ r ≡ inputsFrom (λ (k : ℕ). wordAt (now (s .entry)) (4 * k)) ⌝ }
 {
@@ -148,7 +158,17 @@ pub fn inputs_in(s: &[u8]) -> Inputs
     from_words(&words)
 }
 
-// The 14 words of the inputs' fields, in document 01's order; any NaN is 7fc00000.
+// The inputs whose first 14 fields are the little-endian words of the bytes, with model 0: a 15th
+// word does not count. A byte that is not there counts as 0.
+pub fn sheet_inputs_in(s: &[u8]) -> Inputs
+    ensures { λ r. ⌜ r ≡ inputsFrom (wordOfSheet (now (s .entry))) ⌝ }
+{
+    let mut words = words_in(s);
+    words[SHEET_FIELDS] = 0;
+    from_words(&words)
+}
+
+// The 15 words of the inputs' fields, in the documents' order; any NaN is 7fc00000.
 pub fn to_words(i: Inputs) -> FieldWords
     ensures { λ r. ⌜ r ≡ fieldWords i ⌝ }
 {
@@ -176,5 +196,6 @@ pub fn to_words(i: Inputs) -> FieldWords
         bits32(psc.es),
         bits32(lat.0),
         bits32(lon.0),
+        i.model,
     ]
 }

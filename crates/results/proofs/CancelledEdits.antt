@@ -7,6 +7,7 @@ use Prim.Native.Nat.{ℕ}
 use Rattle.base.specs.declared.refusal.Verdict.the-variants.{Accepted, Refused}
 use Rattle.worksheet.specs.declared.desks.Worksheet.{Worksheet}
 use Rattle.worksheet.specs.Journal.{Answer, told, shown, accepted, step}
+use Rattle.worksheet.specs.Showing.{pair}
 use Rattle.worksheet.proofs.drafts.Effects
 use Rattle.worksheet.proofs.lists.Rules as Rules
 use Rattle.results.proofs.lists.Kept as Kept
@@ -20,10 +21,10 @@ use Rattle.results.specs.CancelledEdits.{DemandThree, DemandThreeOver, D
 use Rattle.results.proofs.sheet.ClosedDesks.{at-rest}
 
 pub demand-3 : DemandThree
-demand-3 = Rules.demand-3
+demand-3 f2 file = Rules.demand-3 (pair f2 file)
 
 pub demand-3-over : DemandThreeOver
-demand-3-over = Carried.demand-3-over
+demand-3-over f2 file = Carried.demand-3-over (pair f2 file)
 
 pub demand-3-lent : DemandThreeLent
 demand-3-lent source w h = Rules.demand-3-lent source w (at-rest w h)

@@ -2,6 +2,7 @@
 -- Assumes nothing.
 use mathlib.Core.List.{reverse}
 use mathlib.Core.Path.{refl}
+use Rattle.worksheet.specs.Showing.{pair}
 use Rattle.results.proofs.force.Insured as Line
 use Rattle.results.proofs.force.Lasting as Lasting
 use Rattle.results.proofs.force.Unbroken as Unbroken
@@ -15,13 +16,13 @@ use Rattle.results.proofs.sheet.ClosedDesks.{at-rest}
 use Rattle.results.proofs.sheet.Opening as Opening
 
 pub insurers-sentence : InsurersSentence
-insurers-sentence = Unbroken.insurers-sentence
+insurers-sentence f2 file = Unbroken.insurers-sentence (pair f2 file)
 
 pub insurers-sentence-opened : InsurersSentenceOpened
-insurers-sentence-opened = Over.insurers-sentence-opened
+insurers-sentence-opened f2 file = Over.insurers-sentence-opened (pair f2 file)
 
 pub insurers-sentence-handed : InsurersSentenceHanded
-insurers-sentence-handed = HandedBack.insurers-sentence-handed
+insurers-sentence-handed f2 file = HandedBack.insurers-sentence-handed (pair f2 file)
 
 pub stay-in-range : StayInRange
 stay-in-range = Shown.stay-in-range
@@ -68,16 +69,16 @@ commit-undisturbed source w h cs c m =
     (k, Line.undisturbed-draft source w rest cs before (k .after) (c .entry) (c .desk) (k .split) committed (k .committed))
 
 pub insurers-line : InsurersLine
-insurers-line = Line.insurers-line
+insurers-line f2 file = Line.insurers-line (pair f2 file)
 
 pub insurers-line-lent : InsurersLineLent
 insurers-line-lent source w h = Line.insurers-line-lent source w (at-rest w h)
 
 pub insurers-line-over : InsurersLineOver
-insurers-line-over = Over.insurers-line-over
+insurers-line-over f2 file = Over.insurers-line-over (pair f2 file)
 
 pub opened-in-force : OpenedInForce
-opened-in-force = Line.opened-in-force
+opened-in-force f2 file = Line.opened-in-force (pair f2 file)
 
 pub in-force : InputsInForce
 in-force source w h = Line.in-force source w (at-rest w h)
@@ -95,4 +96,4 @@ pub in-force-exactly : InForceExactly
 in-force-exactly source w h = Lasting.in-force-exactly source w (at-rest w h)
 
 pub opened-exactly : OpenedExactly
-opened-exactly = Lasting.opened-exactly
+opened-exactly f2 file = Lasting.opened-exactly (pair f2 file)

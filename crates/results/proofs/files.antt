@@ -10,3 +10,5 @@ pub mod GoodFiles
 pub mod MonthRecords
 pub mod Later
 pub mod LaterParts
+pub mod YearDirectory
+pub mod PackedYear

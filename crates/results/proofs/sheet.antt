@@ -6,4 +6,10 @@ pub mod AlwaysShown
 pub mod HandedBack
 pub mod ClosedDesks
 pub mod ShownClocks
+pub mod OwnParts
+pub mod YearExactly
+pub mod PackedShown
+pub mod GoodYear
+pub mod December
+pub mod SheetWords
 pub mod Opening

@@ -14,7 +14,7 @@ use Rattle.base.specs.declared.refusal.Verdict.the-variants.{Accepted, Refused}
 use Rattle.maps.specs.declared.inputs.Inputs.{Inputs}
 use Rattle.maps.specs.declared.figures.Shown.the-variants.{Refused as NotShown}
 use Rattle.worksheet.specs.declared.desks.Worksheet.{Worksheet}
-use Rattle.worksheet.specs.Desks.{openOf, openedOf}
+use Rattle.worksheet.specs.Desks.{openOf, openedOf, sheetOpenedOf}
 use Rattle.worksheet.specs.Showing.{Source, pair, showOf, showBuffer}
 use Rattle.worksheet.specs.Journal.{Call, commit, show, shown, Entry, good, step, run, own, shorter, keep, keptByItself, OwnCall, keptOf, Demand3, accepted}
 use Rattle.jutetrowel.specs.Words.{worksheetOf, wordsAfter}
@@ -106,8 +106,8 @@ OpenRefused =
     (source : Source) (i : Inputs) (lent : List Float) (why : Refusal) → openOf i .answer ≡ Refused why →
     showOf source 0 lent (openOf i .sheet) ≡ NotShown why
 
--- The same of 14 words that are opened, with the buffer left as it was lent
+-- The same of the 14 words of a sheet, with the buffer left as it was lent
 abbrev pub SheetRefused : Type 0
 SheetRefused =
-    (source : Source) (s : List ℕ) (lent : List Float) (why : Refusal) → openedOf s .answer ≡ Refused why →
-    step source (show 0 lent) (openedOf s .sheet) .answer ≡ shown (NotShown why) lent
+    (source : Source) (s : List ℕ) (lent : List Float) (why : Refusal) → sheetOpenedOf s .answer ≡ Refused why →
+    step source (show 0 lent) (sheetOpenedOf s .sheet) .answer ≡ shown (NotShown why) lent

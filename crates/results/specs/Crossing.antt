@@ -1,5 +1,5 @@
 -- What crosses to bytes and words? Fields as words and read off them are crates/maps/specs/
--- Inputs.antt (`fieldWords`, `inputsFrom`), a worksheet as 90 words crates/jutetrowel/specs/
+-- Inputs.antt (`fieldWords`, `inputsFrom`), a worksheet as 96 words crates/jutetrowel/specs/
 -- Words.antt (`sheetWords`, `worksheetOf`), a list of the library's calls Calls.antt beside it.
 -- Assumes nothing.
 use mathlib.Core.List.{List}
@@ -26,7 +26,7 @@ use Rattle.jutetrowel.specs.Calls.{CallsSingles, entriesOver, wordsOver}
 -- ---- demand 3, 'bit for bit': fields cross to words and back. f k is the word of field k, counted
 -- from 0
 
--- Fields written as 14 words and read again are the same fields, if their numbers are values of an
+-- Fields written as 15 words and read again are the same fields, if their numbers are values of an
 -- f32
 abbrev pub FieldsBack : Type 0
 FieldsBack = (i : Inputs) → Singles i → inputsFrom (λ (k : ℕ). getD (fieldWords i) k 0) ≡ i
@@ -39,8 +39,8 @@ FromSingle = (f : ℕ → ℕ) → Singles (inputsFrom f)
 abbrev pub WrittenWord : ℕ → Type 0
 WrittenWord w = (w < 2 ^ 32) × (T (not (isNan (ofBits binary32 w))) ⊎ (w ≡ 2143289344))
 
--- 14 words read as fields and written again are the same words, if those of the numbers, which are
--- all but the month (0) and the flag (7), are the bits of an f32 that is no NaN, or 7fc00000
+-- 15 words read as fields and written again are the same words, if those of the numbers, which are
+-- all but the month (0), the flag (7) and the model (14), are the bits of an f32 that is no NaN, or 7fc00000
 abbrev pub WordsBack : Type 0
 WordsBack =
     (f : ℕ → ℕ) → ((k : ℕ) → k < 14 → (k ≡ 0 → ⊥) → (k ≡ 7 → ⊥) → WrittenWord (f k)) →
@@ -59,7 +59,7 @@ ShownNumber = (x : Shown) → showingOf x .number ≡ 0 → x ≡ Points (showin
 
 -- ---- demand 3 of the library's calls rests on this
 
--- A worksheet written as 90 words and read is the same worksheet, if its numbers are values of an
+-- A worksheet written as 96 words and read is the same worksheet, if its numbers are values of an
 -- f32
 abbrev pub ReadBack : Type 0
 ReadBack = (w : Worksheet) → SheetSingles w → worksheetOf (sheetWords w) ≡ w

@@ -2,15 +2,12 @@
 -- which every check accepts, and the files of document 01's known points (b) and (c). Assumes
 -- nothing.
 use mathlib.Core.List.{List, [], _∷_, _++_}
-use Prim.Native.Nat.{ℕ, _/_, _%_, _<_}
+use Prim.Native.Nat.{ℕ, _<_}
 use lib.ListN.{take, drop, replicate}
+use Rattle.base.specs.Words.{fourBytes}
 use Rattle.base.specs.MonthFile.{recordSize, sizes}
 
 -- ---- bytes
-
--- a number below 2 ^ 32 as four bytes, the lowest first
-abbrev pub fourBytes : ℕ → List ℕ
-fourBytes n = n % 256 ∷ n / 256 % 256 ∷ n / 65536 % 256 ∷ n / 16777216 ∷ []
 
 -- words as bytes
 abbrev pub wordBytes : List ℕ → List ℕ

@@ -151,8 +151,8 @@ PointNumbers =
     (f2 file : List ℕ) (i : Inputs) (p k : ℕ) → PointThere i p → k < 29 →
     pointNumber f2 file i p k ≡ getD (sheetRow f2 file i p) k nan
 
--- Inputs that the worksheet accepts have every field in range, but for the flag, of which nothing
--- is said here.
+-- Inputs that the worksheet accepts have every field in range, but for the flag and the model, of
+-- which nothing is said here.
 abbrev pub AcceptedInRange : Type 0
 AcceptedInRange = (i : Inputs) → inputsCheck i ≡ Accepted → RouteInRange i × FieldsInRange i × T (isMonth (i .month))
 
@@ -233,7 +233,7 @@ pub record SoundFiles (i : Inputs) : Type 0 where
   pub accepted : filesCheck f2 file ≡ Accepted
   pub sound : SoundSheet f2 file i
 
--- A sheet is sound if every field but month and flag is in range, the index table passes, and every
+-- A sheet is sound if every field but month, flag and model is in range, the index table passes, and every
 -- word of the F2 planes and of each table that figures read numbers from (`isRead`) is a number of
 -- at most 65,536 in size. For all inputs with those fields in range there are files that the checks
 -- accept, and with which the sheet is sound (`SoundFiles`).

@@ -106,7 +106,7 @@ FirstShowing =
     step (pair f2 file) (show 0 lent) (openOf i .sheet) .answer
     ≡ shown (Points (sheetPath i .count)) (figuresOf f2 file i)
 
--- There are 14 words, 56 bytes, that open
+-- There are 56 bytes, the 14 words of a sheet, that open; a 15th word, the model, then counts as 0
 abbrev pub SomeOpen : Type 0
 SomeOpen = (s : List ℕ) × ((length s ≡ 56) × (Below 256 s × (openedOf s .answer ≡ Accepted)))
 

@@ -6,6 +6,7 @@ pub mod FigureSources
 pub mod AsInTheRust
 pub mod FiniteOrNot
 pub mod AcceptedFiles
+pub mod OneYear
 pub mod ElementarySteps
 pub mod Crossing
 pub mod ExhibitedFiles

@@ -9,7 +9,7 @@ use listing::answer::ANSWER;
 use listing::page::PAGE;
 use listing::sheet::page_answer;
 use listing::sheet::sheet_answer;
-use maps::inputs::FIELD_BYTES;
+use maps::inputs::SHEET_BYTES;
 
 fn print_sheet(words: &[u8], record: &[u8], month: &[u8]) {
     let mut text = [0u8; ANSWER];
@@ -24,7 +24,7 @@ fn print_page(words: &[u8], record: &[u8], month: &[u8]) {
 }
 
 fn run(page: bool) {
-    let mut words = [0u8; FIELD_BYTES];
+    let mut words = [0u8; SHEET_BYTES];
     let mut record = [0u8; RECORD];
     let mut month = [0u8; MONTH_FILE];
     let a = io::read_full(STDIN_FILENO, &mut words);

@@ -130,6 +130,7 @@ fn in_range() -> Inputs {
             es: 0.7,
         },
         pole: MagneticPole::built_in(),
+        model: 0,
     }
 }
 

@@ -9,7 +9,7 @@ use Rattle.base.specs.declared.refusal.Verdict.{Verdict}
 use Rattle.base.specs.declared.refusal.Verdict.the-variants.{Accepted, Refused}
 use Rattle.maps.specs.declared.inputs.Inputs.{Inputs}
 use Rattle.base.specs.Words.{wordAt}
-use Rattle.maps.specs.Inputs.{inputsFrom}
+use Rattle.maps.specs.Inputs.{inputsFrom, wordOfSheet}
 use Rattle.worksheet.specs.declared.inputs.Edit.{Edit}
 use Rattle.worksheet.specs.declared.desks.Draft.{Draft}
 use Rattle.worksheet.specs.declared.desks.Draft.the-variants.{Closed, Fresh, Stale}
@@ -103,14 +103,18 @@ earlierCheck (Set i) = Accepted
 unfoldable pub freshSheet : Inputs → Worksheet
 freshSheet i = record { inputs = i; earlier = Nothing; d1 = Closed; d2 = Closed; d3 = Closed; d4 = Closed }
 
--- 'takes inputs; a refused one gives no worksheet': what stands beside a refusal holds the refused
--- inputs and is none to use; its own showing is refused by the same field (`open-refused`)
+-- 'takes inputs; a refused one gives no worksheet': of what stands beside a refusal its own showing
+-- is refused by the same field (`open-refused`), which is what `sheet` and `jt_sheet` go by
 unfoldable pub openOf : Inputs → Outcome
 openOf i = record { answer = inputsCheck i; sheet = freshSheet i }
 
--- of '14 little-endian 4-byte words'; 'missing bytes of these words count as 0'
+-- of 15 'little-endian 4-byte words'; 'missing bytes of these words count as 0'
 unfoldable pub openedOf : List ℕ → Outcome
 openedOf s = openOf (inputsFrom (λ (k : ℕ). wordAt s (4 * k)))
+
+-- of a sheet's '14 little-endian 4-byte words', 'with model 0'
+unfoldable pub sheetOpenedOf : List ℕ → Outcome
+sheetOpenedOf s = openOf (inputsFrom (wordOfSheet s))
 
 -- ---- Begin
 

@@ -7,6 +7,7 @@ use mathlib.Core.Path.{_≡_}
 use lib.Dec.{eqb}
 use lib.Ieee.{Float}
 use Rattle.base.specs.declared.refusal.Verdict.the-variants.{Accepted}
+use Rattle.base.specs.Files.{filesCheck}
 use Rattle.maps.specs.declared.inputs.Inputs.{Inputs}
 use Rattle.maps.specs.Figures.{sheetPath, figuresOf}
 use Rattle.worksheet.specs.declared.inputs.Edit.{Edit}
@@ -158,10 +159,12 @@ startLeft w entries = cond (takenBack entries) (setOf (w .earlier) (w .inputs)) 
 -- ---- the insurer's line
 
 module _ (source : Source) where
-  -- a showing's number of points and its whole figures are those of one set of inputs and of their
-  -- own two files
+  -- a showing's number of points and its whole figures are those of one set of inputs and of the two
+  -- files that the source gives them
   pub record FiguresOf (i : Inputs) (count : ℕ) (figures : List Float) : Type 0 where
     pub lent : source i .verdict ≡ Accepted
+    -- the two have passed their checks
+    pub checked : filesCheck (source i .f2) (source i .file) ≡ Accepted
     pub points : count ≡ sheetPath i .count
     pub whole : figures ≡ figuresOf (source i .f2) (source i .file) i
 

@@ -1,5 +1,5 @@
--- Document 01, Show: its answer and the buffer afterwards, over whatever source of files is lent.
--- Assumes nothing.
+-- Document 01, Show, with request 01: its answer and the buffer afterwards, over whatever source of
+-- files is lent. Assumes nothing.
 use Prim.Native.Nat.{ℕ}
 use mathlib.Core.Bool.{cond}
 use mathlib.Core.List.{List}
@@ -13,8 +13,13 @@ use Rattle.base.specs.Refusal.{refuseUnless, _then_, writtenOver}
 use Rattle.maps.specs.declared.inputs.Inputs.{Inputs}
 use Rattle.maps.specs.declared.figures.Shown.{Shown}
 use Rattle.base.specs.Files.{filesCheck}
+use Rattle.base.specs.MonthFile.{monthRecordCheck, monthPart}
+use Rattle.base.specs.Ranges.{monthCheck, modelCheck}
+use Rattle.base.specs.Year.{partBytes, yearCheck, yearMonth, yearModel}
 use Rattle.maps.specs.Figures.{sheetPath, figuresOf, pointsOr}
 use Rattle.worksheet.specs.declared.desks.Worksheet.{Worksheet}
+use Rattle.worksheet.specs.declared.showing.Lent.{Lent}
+use Rattle.worksheet.specs.declared.showing.Lent.the-variants.{Pair, Year}
 use Rattle.worksheet.specs.Inputs.{inputsCheck}
 use Rattle.worksheet.specs.Desks.{draftAt, inputsOf, deskCheck, draftCheck}
 
@@ -34,6 +39,35 @@ Source = Inputs → Files
 -- 'one F2 record and one month file throughout': the same two for all inputs
 abbrev pub pair : List ℕ → List ℕ → Source
 pair f2 file i = record { verdict = Accepted; f2 = f2; file = file }
+
+-- 'Showing picks its parts by these two', month and model: the month's record of the model's part,
+-- and the month's own part. '19 .. after 12 and before 8'; '8 is given when the chosen model's part
+-- has under month × 7,904 bytes'
+unfoldable pub yearFiles : List ℕ → ℕ → ℕ → Files
+yearFiles s month model =
+    let daw = partBytes s (yearModel s model) in
+    record {
+      verdict = yearCheck s then monthRecordCheck daw month;
+      f2 = partBytes daw (monthPart daw month);
+      file = partBytes s (yearMonth s month);
+    }
+
+-- what a showing of this month and model is refused by, where its desk, its other fields and its
+-- buffer pass
+unfoldable pub yearFilesCheck : List ℕ → ℕ → ℕ → Verdict
+yearFilesCheck s month model =
+    let files = yearFiles s month model in
+    (monthCheck month then modelCheck model) then files .verdict then filesCheck (files .f2) (files .file)
+
+-- 'with the year file lent throughout': the parts of the inputs' own month and model
+abbrev pub yearly : List ℕ → Source
+yearly s i = yearFiles s (i .month) (i .model)
+
+-- what a program lends to its calls: an F2 record and a month file, or a year file, beside which the
+-- second list is not looked at
+abbrev pub lentAs : Lent → List ℕ → List ℕ → Source
+lentAs Pair a b = pair a b
+lentAs Year a b = yearly a
 
 -- ---- what is refused
 
@@ -65,12 +99,13 @@ drawnBuffer s i lent = writtenOver (drawnCheck s (length lent)) (figuresOf (s .f
 
 -- ---- Show
 
--- '14 .., 16 .., the 14 fields of the inputs shown'
+-- '14 .., 16 .., the 14 fields of the inputs shown', and field 15
 unfoldable pub judgedCheck : ℕ → Worksheet → Verdict
 judgedCheck n w = askedCheck n w then inputsCheck (inputsShown n w)
 
 module _ (source : Source) where
-  -- 'It refuses 14 .., 16 .., the 14 fields of the inputs shown, 12 .., 8 .., 9, 10, 11'
+  -- 'It refuses 14 .., 16 .., the 14 fields of the inputs shown, 12 .., 8 .., 9, 10, 11', what the
+  -- source refuses after 12
   unfoldable pub showCheck : ℕ → ℕ → Worksheet → Verdict
   showCheck n size w = judgedCheck n w then drawnCheck (source (inputsShown n w)) size
 

@@ -10,9 +10,10 @@ use base::refusal::refuse_unless;
 use base::refusal::then;
 use maps::inputs::Inputs;
 use maps::inputs::inputs_in;
+use maps::inputs::sheet_inputs_in;
 ghost use mathlib.Core.Path.{_≡_};
 ghost use mathlib.Core.Bool.{cond};
-ghost use Rattle.worksheet.specs.Desks.{draftAt, withDraft, inputsOf, staleOf, movedTo, outcome, isDesk, deskCheck, closedCheck, draftCheck, freshCheck, earlierCheck, freshSheet, openOf, openedOf, beginCheck, beginOf, changeCheck, editedDraft, changeOf, commitCheck, commitOf, cancelCheck, withoutDraft, cancelOf, setOf, takeBackOf};
+ghost use Rattle.worksheet.specs.Desks.{draftAt, withDraft, inputsOf, staleOf, movedTo, outcome, isDesk, deskCheck, closedCheck, draftCheck, freshCheck, earlierCheck, freshSheet, openOf, openedOf, sheetOpenedOf, beginCheck, beginOf, changeCheck, editedDraft, changeOf, commitCheck, commitOf, cancelCheck, withoutDraft, cancelOf, setOf, takeBackOf};
 
 pub enum Draft {
     Closed,
@@ -199,7 +200,7 @@ fn fresh_sheet(i: Inputs) -> Worksheet
 }
 
 // A worksheet with all desks closed and nothing to take back, and the verdict on its inputs. What
-// stands beside a refusal holds the refused inputs and is no worksheet to use.
+// stands beside a refusal holds the refused inputs: drop it.
 pub fn open(i: Inputs) -> Outcome
     ensures { λ r. ⌜ r ≡ openOf i ⌝ }
 {
@@ -209,12 +210,19 @@ pub fn open(i: Inputs) -> Outcome
     }
 }
 
-// The worksheet of 14 little-endian words, as `open` makes it of their inputs; bytes that are not
+// The worksheet of 15 little-endian words, as `open` makes it of their inputs; bytes that are not
 // there count as 0, and later ones are not looked at.
 pub fn opened(words: &[u8]) -> Outcome
     ensures { λ r. ⌜ r ≡ openedOf (now (words .entry)) ⌝ }
 {
     open(inputs_in(words))
+}
+
+// The worksheet of a sheet's 14 words, with model 0; a 15th does not count.
+pub fn sheet_opened(words: &[u8]) -> Outcome
+    ensures { λ r. ⌜ r ≡ sheetOpenedOf (now (words .entry)) ⌝ }
+{
+    open(sheet_inputs_in(words))
 }
 
 // A fresh draft for a desk, a copy of the worksheet's inputs. Refuses 14 for a desk that is not 1

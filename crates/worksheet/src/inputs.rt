@@ -1,8 +1,10 @@
-// The 14 fields of the inputs: their ranges, and what a change puts in their place.
+// The 15 fields of the inputs: their ranges, and what a change puts in their place.
 use base::ranges::hour_check;
+use base::ranges::is_bit;
 use base::ranges::is_to;
 use base::ranges::latitude_check;
 use base::ranges::longitude_check;
+use base::ranges::model_check;
 use base::ranges::month_check;
 use base::refusal::Refusal;
 use base::refusal::Verdict;
@@ -13,16 +15,19 @@ use maps::inputs::Inputs;
 use maps::inputs::MagneticPole;
 use maps::inputs::Route;
 ghost use mathlib.Core.Path.{_≡_};
-ghost use Rattle.worksheet.specs.declared.inputs.Edit.the-variants.{Sunspot, Hour, Path, Psc, Pole};
+ghost use Rattle.worksheet.specs.declared.inputs.Edit.the-variants.{Sunspot, Hour, Path, Psc, Pole, Month, Model};
 ghost use Rattle.worksheet.specs.Inputs.{sunspotCheck, factorCheck, flagCheck, routeCheck, factorsCheck, poleCheck, inputsCheck, editCheck, edited};
 
-// A change, with all its numbers; a path is fields 4 to 8, the flag included.
+// A change, with all its numbers; a path is fields 4 to 8, the flag included. Over a pair of files a
+// changed month or model is shown from the files as they are lent (`showing`).
 pub enum Edit {
     Sunspot(f32),
     Hour(f32),
     Path(Route),
     Psc(Factors),
     Pole(MagneticPole),
+    Month(u32),
+    Model(u32),
 }
 
 fn sunspot_check(x: f32) -> Verdict
@@ -41,7 +46,7 @@ fn factor_check(field: u32, x: f32) -> Verdict
 fn flag_check(flag: u32) -> Verdict
     ensures { λ r. ⌜ r ≡ flagCheck flag ⌝ }
 {
-    refuse_unless(flag <= 1, Refusal::Flag)
+    refuse_unless(is_bit(flag), Refusal::Flag)
 }
 
 fn route_check(p: Route) -> Verdict
@@ -81,10 +86,8 @@ pub(crate) fn inputs_check(i: Inputs) -> Verdict
     let route = i.route;
     let psc = i.psc;
     let pole = i.pole;
-    let from_route = then(
-        route_check(route),
-        then(factors_check(psc), pole_check(pole)),
-    );
+    let from_pole = then(pole_check(pole), model_check(i.model));
+    let from_route = then(route_check(route), then(factors_check(psc), from_pole));
     let from_hour = then(hour_check(i.gmt), from_route);
     then(month_check(i.month), then(sunspot_check(i.ssn), from_hour))
 }
@@ -99,6 +102,8 @@ pub(crate) fn edit_check(e: Edit) -> Verdict
         Edit::Path(p) => route_check(p),
         Edit::Psc(p) => factors_check(p),
         Edit::Pole(p) => pole_check(p),
+        Edit::Month(m) => month_check(m),
+        Edit::Model(m) => model_check(m),
     }
 }
 
@@ -116,6 +121,7 @@ fn with_sunspot(x: f32, i: Inputs) -> Inputs
         route,
         psc,
         pole,
+        model: i.model,
     }
 }
 
@@ -132,6 +138,7 @@ fn with_hour(x: f32, i: Inputs) -> Inputs
         route,
         psc,
         pole,
+        model: i.model,
     }
 }
 
@@ -147,6 +154,7 @@ fn with_path(p: Route, i: Inputs) -> Inputs
         route: p,
         psc,
         pole,
+        model: i.model,
     }
 }
 
@@ -162,6 +170,7 @@ fn with_psc(p: Factors, i: Inputs) -> Inputs
         route,
         psc: p,
         pole,
+        model: i.model,
     }
 }
 
@@ -177,6 +186,41 @@ fn with_pole(p: MagneticPole, i: Inputs) -> Inputs
         route,
         psc,
         pole: p,
+        model: i.model,
+    }
+}
+
+fn with_month(m: u32, i: Inputs) -> Inputs
+    ensures { λ r. ⌜ r ≡ edited (Month m) i ⌝ }
+{
+    let route = i.route;
+    let psc = i.psc;
+    let pole = i.pole;
+    Inputs {
+        month: m,
+        ssn: i.ssn,
+        gmt: i.gmt,
+        route,
+        psc,
+        pole,
+        model: i.model,
+    }
+}
+
+fn with_model(m: u32, i: Inputs) -> Inputs
+    ensures { λ r. ⌜ r ≡ edited (Model m) i ⌝ }
+{
+    let route = i.route;
+    let psc = i.psc;
+    let pole = i.pole;
+    Inputs {
+        month: i.month,
+        ssn: i.ssn,
+        gmt: i.gmt,
+        route,
+        psc,
+        pole,
+        model: m,
     }
 }
 
@@ -190,5 +234,7 @@ pub(crate) fn apply(e: Edit, i: Inputs) -> Inputs
         Edit::Path(p) => with_path(p, i),
         Edit::Psc(p) => with_psc(p, i),
         Edit::Pole(p) => with_pole(p, i),
+        Edit::Month(m) => with_month(m, i),
+        Edit::Model(m) => with_model(m, i),
     }
 }

@@ -3,11 +3,12 @@ use crate::desks;
 use crate::desks::Outcome;
 use crate::desks::Worksheet;
 use crate::inputs::Edit;
-use crate::showing::show;
+use crate::showing::Lent;
+use crate::showing::show_lent;
 use base::refusal::Verdict;
 use maps::figures::Shown;
 ghost use mathlib.Core.Path.{_≡_};
-ghost use Rattle.worksheet.specs.Showing.{pair};
+ghost use Rattle.worksheet.specs.Showing.{lentAs};
 ghost use Rattle.worksheet.specs.Journal.{stepOf, step};
 ghost use Rattle.worksheet.specs.Calls.{called, bufferAfter, nextOf};
 
@@ -44,15 +45,16 @@ fn told(o: Outcome) -> Next
     }
 }
 
-// Makes a call on a worksheet, over a lent record, month file and figures buffer; only a showing
-// reads the files and writes the buffer.
-pub fn make(w: Worksheet, call: Call, f2: &[u8], file: &[u8], out: &mut [f32]) -> Next
+// Makes a call on a worksheet, over what is lent (an F2 record and a month file, or a year file) and
+// a figures buffer; only a showing reads the files and writes the buffer. Over a pair a showing takes
+// the files as lent, whatever month and model the inputs shown have.
+pub fn make(w: Worksheet, call: Call, lent: Lent, a: &[u8], b: &[u8], out: &mut [f32]) -> Next
     ensures answer { λ r. ⌜ (
-        let s = step (pair (now (f2 .entry)) (now (file .entry))) (called call (now (out .entry))) w in
+        let s = step (lentAs lent (now (a .entry)) (now (b .entry))) (called call (now (out .entry))) w in
         r ≡ nextOf s
         ) ⌝ }
     ensures buffer { λ _. ⌜ (
-        let s = step (pair (now (f2 .entry)) (now (file .entry))) (called call (now (out .entry))) w in
+        let s = step (lentAs lent (now (a .entry)) (now (b .entry))) (called call (now (out .entry))) w in
         now (out .exit) ≡ bufferAfter (s .answer) (now (out .entry))
         ) ⌝ }
 {
@@ -63,7 +65,7 @@ pub fn make(w: Worksheet, call: Call, f2: &[u8], file: &[u8], out: &mut [f32]) -
         Call::Cancel(desk) => told(desks::cancel(w, desk)),
         Call::TakeBack => told(desks::take_back(w)),
         Call::Show(desk) => Next {
-            answer: Answer::Shown(show(w, desk, f2, file, out)),
+            answer: Answer::Shown(show_lent(w, desk, lent, a, b, out)),
             sheet: w,
         },
     }

@@ -1,14 +1,25 @@
-// A showing: the figures of the worksheet's inputs or of a desk's draft. `f2` is the F2 record and
-// `file` the month file; that they are of the inputs' month is the caller's word.
+// A showing: the figures of the worksheet's inputs or of a desk's draft, over a year file, of which
+// it takes the parts of the inputs' month and model, or over a pair of files: `f2`, the F2 record,
+// and `file`, the month file. That a pair is of the inputs' month and model is the caller's word: a
+// month changed in the draft shown, or by a commit or take-back since the pair was chosen, gives the
+// new month's sun over the files as they are lent.
 use crate::desks::Worksheet;
 use crate::desks::desk_check;
 use crate::desks::draft_at;
 use crate::desks::draft_check;
 use crate::desks::inputs_of;
 use crate::inputs::inputs_check;
+use base::files::files_check;
+use base::month_file::month_record;
+use base::month_file::month_record_check;
+use base::ranges::model_check;
+use base::ranges::month_check;
 use base::refusal::Refusal;
 use base::refusal::Verdict;
 use base::refusal::then;
+use base::year::year_check;
+use base::year::year_model;
+use base::year::year_month;
 use maps::figures::FIGURES;
 use maps::figures::Shown;
 use maps::figures::figures;
@@ -18,7 +29,15 @@ ghost use Prim.Native.Nat.{ℕ};
 ghost use lib.ListN.{length, getD};
 ghost use lib.Ieee.{nan};
 ghost use Rattle.base.specs.Fill.{fill};
-ghost use Rattle.worksheet.specs.Showing.{pair, inputsShown, askedCheck, judgedCheck, drawnOf, drawnBuffer, showOf, showBuffer};
+ghost use Rattle.worksheet.specs.Showing.{pair, yearly, lentAs, yearFilesCheck, inputsShown, askedCheck, judgedCheck, drawnOf, drawnBuffer, showOf, showBuffer};
+
+// How the two slices lent to the calls of a journal are read.
+pub enum Lent {
+    // An F2 record and a month file.
+    Pair,
+    // A year file; the second slice is not looked at.
+    Year,
+}
 
 // The inputs that a showing of the desk is of: 0 is the worksheet. A stale draft is shown all the
 // same.
@@ -85,8 +104,44 @@ pub fn drawn(i: Inputs, f2: &[u8], file: &[u8], out: &mut [f32]) -> Shown
     }
 }
 
+// What a showing of a month and a model over a year file is refused by, where its desk, its other
+// fields and its buffer pass: 1 and 7 by the two words, 19 by the directory, 8 where the model's part has not
+// the month's record, then 9, 10 and 11 of the month's part.
+pub fn year_files_check(year: &[u8], month: u32, model: u32) -> Verdict
+    ensures { λ r. ⌜ r ≡ yearFilesCheck (now (year .entry)) month model ⌝ }
+{
+    let daw = year_model(year, model);
+    let words = then(month_check(month), model_check(model));
+    let check = then(year_check(year), month_record_check(daw, month));
+    let record = month_record(daw, month);
+    let file = year_month(year, month);
+    then(words, then(check, files_check(record, file)))
+}
+
+// As `drawn`, over a year file, of which the inputs' month and model pick the parts: 12, then 19 by
+// its directory, 8 where the model's part has not the month's record, and the month file's refusals.
+fn drawn_year(i: Inputs, year: &[u8], out: &mut [f32]) -> Shown
+    ensures answer { λ r. ⌜ r ≡ drawnOf (yearly (now (year .entry)) i) i (now (out .entry)) ⌝ }
+    ensures buffer { λ _. ⌜ now (out .exit) ≡ drawnBuffer (yearly (now (year .entry)) i) i (now (out .entry)) ⌝ }
+{
+    if out.len() != FIGURES {
+        return Shown::Refused(Refusal::Figures);
+    }
+    let daw = year_model(year, i.model);
+    let check = then(year_check(year), month_record_check(daw, i.month));
+    match check {
+        Verdict::Accepted => {
+            let record = month_record(daw, i.month);
+            let file = year_month(year, i.month);
+            drawn(i, record, file, out)
+        }
+        Verdict::Refused(why) => Shown::Refused(why),
+    }
+}
+
 // The number of points, with the figures of a desk's draft, of the worksheet for desk 0, in the
-// buffer. Refuses 14, 16, the 14 fields, 12, 8, 9, 10, 11; the buffer stays as it was lent.
+// buffer. Refuses 14, 16, the 15 fields of the inputs shown, 12, 8, 9, 10, 11; the buffer stays as it
+// was lent. The files are taken as lent, whatever month and model the inputs shown have.
 pub fn show(w: Worksheet, desk: u32, f2: &[u8], file: &[u8], out: &mut [f32]) -> Shown
     ensures answer { λ r. ⌜ r ≡ showOf (pair (now (f2 .entry)) (now (file .entry))) desk (now (out .entry)) w ⌝ }
     ensures buffer { λ _. ⌜ (
@@ -98,5 +153,39 @@ pub fn show(w: Worksheet, desk: u32, f2: &[u8], file: &[u8], out: &mut [f32]) ->
     match check {
         Verdict::Accepted => drawn(inputs_shown(w, desk), f2, file, out),
         Verdict::Refused(why) => Shown::Refused(why),
+    }
+}
+
+// The same over a year file: of the month and model of the inputs shown. Refuses 14, 16, the 15
+// fields of the inputs shown, 12, 19, 8, 9, 10, 11; the buffer stays as it was lent.
+pub fn show_year(w: Worksheet, desk: u32, year: &[u8], out: &mut [f32]) -> Shown
+    ensures answer { λ r. ⌜ r ≡ showOf (yearly (now (year .entry))) desk (now (out .entry)) w ⌝ }
+    ensures buffer { λ _. ⌜ now (out .exit) ≡ showBuffer (yearly (now (year .entry))) desk (now (out .entry)) w ⌝ }
+{
+    let check = judged_check(w, desk);
+    match check {
+        Verdict::Accepted => drawn_year(inputs_shown(w, desk), year, out),
+        Verdict::Refused(why) => Shown::Refused(why),
+    }
+}
+
+// The same over what is lent, which is read as `lent` says.
+pub(crate) fn show_lent(
+    w: Worksheet,
+    desk: u32,
+    lent: Lent,
+    a: &[u8],
+    b: &[u8],
+    out: &mut [f32],
+) -> Shown
+    ensures answer { λ r. ⌜ r ≡ showOf (lentAs lent (now (a .entry)) (now (b .entry))) desk (now (out .entry)) w ⌝ }
+    ensures buffer { λ _. ⌜ (
+        let files = lentAs lent (now (a .entry)) (now (b .entry)) in
+        now (out .exit) ≡ showBuffer files desk (now (out .entry)) w
+        ) ⌝ }
+{
+    match lent {
+        Lent::Pair => show(w, desk, a, b, out),
+        Lent::Year => show_year(w, desk, a, out),
     }
 }

@@ -1,10 +1,16 @@
-//! `replay`, `sheet` and `page`: what the model prints for standard input.
+//! `replay`, `replay year`, `sheet` and `page`: what the model prints for standard
+//! input.
 
 use crate::model::desks::{page, programs};
 use std::io::{self, Read, Write};
 
 pub fn replay() -> Result<(), String> {
     let replayed = programs::replay(&input()?);
+    print(&programs::replay_text(&replayed))
+}
+
+pub fn replay_year() -> Result<(), String> {
+    let replayed = programs::replay_year(&input()?);
     print(&programs::replay_text(&replayed))
 }
 
@@ -24,7 +30,7 @@ fn input() -> Result<Vec<u8>, String> {
     Ok(input)
 }
 
-fn print(text: &str) -> Result<(), String> {
+pub fn print(text: &str) -> Result<(), String> {
     let written = io::stdout().write_all(text.as_bytes());
     written.map_err(|e| format!("cannot write standard output: {e}"))
 }

@@ -2,23 +2,22 @@
 //! model over random journals, whole outputs byte by byte.
 
 use crate::commands::journals::counts::Counts;
-use crate::commands::journals::hold_to_demand_3;
+use crate::commands::journals::drawn::long;
+use crate::commands::journals::{self, hold_to_demand_3};
 use crate::commands::program::Compared;
 use crate::commands::whole;
 use crate::draw::generator::Generator;
-use crate::draw::journal_kinds::{any_field, bad_inputs, bytes, damaged, files, list, NO_CALLS};
-use crate::draw::sheet_kinds::{in_range, one_of};
+use crate::draw::journal_kinds::{damaged, files, OVER_A_PAIR};
+use crate::draw::sheet_kinds::one_of;
 use crate::model::desks::lent::Lent;
 use crate::model::desks::programs::{replay_text, replay_with, CALLS};
-use crate::model::desks::Worksheet;
-use crate::month_file::push_words;
 
 /// Journals for each pair of files.
 const JOURNALS: u64 = 10;
 
 pub fn run(count: &str, seed: &str, program: &str) -> Result<(), String> {
     let (count, seed) = (whole(count)?, whole(seed)?);
-    let mut compared = Compared::new(program);
+    let mut compared = Compared::new(program, &[]);
     let mut counts = Counts::default();
     for case in 0..count.div_ceil(JOURNALS) {
         let mut random = Generator::of_case(seed, case);
@@ -27,7 +26,7 @@ pub fn run(count: &str, seed: &str, program: &str) -> Result<(), String> {
             0 => damaged(&mut random, &pair.month),
             _ => pair.month,
         };
-        let lent = Lent::new(&pair.daw, &month);
+        let lent = Lent::pair(&pair.daw, &month);
         let files = [pair.daw, month].concat();
         for number in 0..JOURNALS.min(count - case * JOURNALS) {
             let input = journal(&mut random, &files);
@@ -46,23 +45,11 @@ pub fn run(count: &str, seed: &str, program: &str) -> Result<(), String> {
 /// Mostly 40 to 200 calls; some opens are refused, some journals end with what
 /// is no call, some are cut before their calls.
 fn journal(random: &mut Generator, files: &[u8]) -> Vec<u8> {
-    let good = in_range(random).words();
-    let opened = Worksheet::open(good).expect("in range");
-    let field = any_field(random);
-    let inputs = match random.below(16) {
-        0 => bad_inputs(random, field),
-        _ => good,
-    };
-    let count = 40 + random.below(161);
-    let calls = list(random, &opened, count);
-    let last = calls.iter().fold(opened, |sheet, call| sheet.after(call));
-    let mut input = Vec::with_capacity(CALLS);
-    push_words(&mut input, &inputs);
-    input.extend(files);
-    input.extend(bytes(&calls));
+    let (journal, last) = long(random, &OVER_A_PAIR);
+    let mut input = journals::input(&journal, files);
     match random.below(16) {
         0 | 1 => {
-            let (_, no_call) = one_of(random, &NO_CALLS);
+            let (_, no_call) = one_of(random, &OVER_A_PAIR.no_calls);
             input.extend(no_call(random, &last));
         }
         2 => input.truncate(random.below(60) as usize),

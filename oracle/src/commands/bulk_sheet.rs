@@ -8,7 +8,8 @@ use crate::draw::damage::Damage;
 use crate::draw::data_files::Pair;
 use crate::draw::generator::Generator;
 use crate::draw::journal_kinds::{any_field, bad_inputs, files};
-use crate::draw::sheet_kinds::in_range;
+use crate::draw::sheet_kinds::inputs;
+use crate::model::desks::fields::SHEET_FIELDS;
 use crate::model::desks::programs::{sheet, sheet_text, CALLS};
 use crate::month_file::push_words;
 use crate::reference::voacap::coefficients::F2_RECORD_BYTES;
@@ -18,7 +19,7 @@ const INPUTS: u64 = 20;
 
 pub fn run(count: &str, seed: &str, program: &str) -> Result<(), String> {
     let (count, seed) = (whole(count)?, whole(seed)?);
-    let mut compared = Compared::new(program);
+    let mut compared = Compared::new(program, &[]);
     let mut counts = Counts::default();
     for case in 0..count.div_ceil(INPUTS) {
         let mut random = Generator::of_case(seed, case);
@@ -38,10 +39,10 @@ pub fn run(count: &str, seed: &str, program: &str) -> Result<(), String> {
 /// Mostly good; otherwise with bad fields, a damaged month file, a record of
 /// another length or cut anywhere.
 fn input(random: &mut Generator, pair: &Pair) -> Vec<u8> {
-    let field = any_field(random);
+    let field = any_field(random, SHEET_FIELDS);
     let fields = match random.below(8) {
         0 => bad_inputs(random, field),
-        _ => in_range(random).words(),
+        _ => inputs(random),
     };
     let record = match random.below(32) {
         0 => random.below(F2_RECORD_BYTES as u64) as usize,
@@ -52,7 +53,7 @@ fn input(random: &mut Generator, pair: &Pair) -> Vec<u8> {
         _ => pair.month.clone(),
     };
     let mut input = Vec::with_capacity(CALLS);
-    push_words(&mut input, &fields);
+    push_words(&mut input, &fields[..SHEET_FIELDS]);
     input.extend(&pair.daw[..record]);
     input.extend(month);
     match random.below(16) {

@@ -9,6 +9,7 @@ use crate::commands::whole;
 use crate::draw::data_files::Pair;
 use crate::draw::generator::Generator;
 use crate::draw::sheet_kinds::one_of;
+use crate::model::desks::fields::{with_model, CCIR};
 use crate::model::desks::{Refusal, Worksheet};
 use crate::port::sheets::figures_by;
 use crate::reference::sheets::{put_all_months, refusal, showing, Sheet, FIGURES};
@@ -90,19 +91,23 @@ impl<'a> Lent<'a> {
         }
     }
 
-    /// A bad field is refused before buffer and files.
+    /// A bad field is refused before buffer and files; a 15th word is not read.
     fn difference_by_words(&self, random: &mut Generator) -> Option<String> {
         let Files { record, file } = &self.files;
         let mut words = self.sheet.words();
+        let mut further = Vec::new();
         match random.below(32) {
             0 => words[0] = one_of(random, &[0, 13, u32::MAX]),
             1 => words[7] = one_of(random, &[2, 256, u32::MAX]),
+            2 => further.push(1),
+            3 => further.push(u32::MAX),
             _ => {}
         }
-        let bytes: Vec<u8> = words.into_iter().flat_map(u32::to_le_bytes).collect();
+        let all = words.into_iter().chain(further);
+        let bytes: Vec<u8> = all.flat_map(u32::to_le_bytes).collect();
         let mut buffer = lent::buffer(random, self.buffer);
         let answer = raw::sheet(&bytes, record, file, buffer.lent());
-        let why = match Worksheet::open(words) {
+        let why = match Worksheet::open(with_model(words, CCIR)) {
             Ok(_) => refusal(record, file, self.buffer),
             Err(Refusal { number, place }) => (number, place),
         };

@@ -1,10 +1,13 @@
 //! What the commands share that compare larger answers of the port with the
 //! Rust's.
 
+#[cfg(linked)]
 use crate::bits::Answer;
+#[cfg(linked)]
 use jutetrowel::raw;
 
 /// What an untouched buffer holds: no NaN, and no likely answer.
+#[cfg(linked)]
 const UNTOUCHED: u32 = 0x5a5a_5a5a;
 
 pub struct Tally {
@@ -32,6 +35,14 @@ impl Tally {
         }
     }
 
+    /// An error if fewer answers than so many were compared.
+    pub fn refuse_rare(&self, least: u64) -> Result<(), String> {
+        match self.compared {
+            count if count < least => Err(format!("{} came only {count} times", self.name)),
+            _ => Ok(()),
+        }
+    }
+
     /// Prints one line and gives the number of answers that differ.
     fn print(&self) -> u64 {
         println!(
@@ -56,6 +67,7 @@ pub fn report(tallies: &[Tally]) -> Result<(), String> {
 
 /// An accepted call fills the array with the values that are wanted; a refused
 /// one leaves it as it was.
+#[cfg(linked)]
 pub fn filled<const N: usize>(
     answer: (u32, u32),
     wanted: Option<Vec<f32>>,
@@ -71,6 +83,7 @@ pub fn filled<const N: usize>(
 }
 
 /// The first place at which the words differ; NaNs are one word.
+#[cfg(linked)]
 fn difference(ours: &[f32], wanted: &[f32]) -> Option<String> {
     let words = |values: &[f32]| -> Vec<u64> { values.iter().map(|v| v.to_word()).collect() };
     let (ours, wanted) = (words(ours), words(wanted));

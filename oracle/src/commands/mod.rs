@@ -18,6 +18,9 @@ pub mod bulk_sheet;
 pub mod bulk_sheets;
 #[cfg(linked)]
 pub mod bulk_tables;
+pub mod bulk_year_journals;
+#[cfg(any(linked, test))]
+pub mod bulk_years;
 pub mod clocks;
 pub mod data;
 pub mod files;
@@ -26,6 +29,7 @@ pub mod numbers;
 pub mod pages;
 #[cfg(linked)]
 pub mod repeat_sheets;
+pub mod replay_input;
 pub mod routes;
 pub mod self_check;
 pub mod sheet_inputs;
@@ -35,10 +39,14 @@ pub mod time_layers;
 #[cfg(linked)]
 pub mod time_numbers;
 pub mod time_sheets;
+#[cfg(linked)]
+pub mod time_years;
+pub mod year;
+pub mod year_journals;
 
 #[cfg(any(linked, test))]
 mod buffer;
-#[cfg(linked)]
+#[cfg(any(linked, test))]
 mod compare;
 #[cfg(any(linked, test))]
 mod growth;

@@ -8,9 +8,7 @@ use crate::draw::generator::Generator;
 use crate::draw::ranges::inside;
 use crate::draw::specials::specials;
 use crate::functions::{Function, FUNCTIONS};
-use crate::reference::voacap::con::{
-    MagneticPole, D2R, DCL, GAMA, PI, PI2, PIO2, R2D, RZ, VOFL,
-};
+use crate::reference::voacap::con::{MagneticPole, D2R, DCL, GAMA, PI, PI2, PIO2, R2D, RZ, VOFL};
 use std::collections::HashSet;
 
 const SEED: u64 = 0x6a75_7465;

@@ -7,8 +7,8 @@ use super::write_file;
 use crate::draw::data_files::{far_below_zero, named, Pair};
 use crate::draw::generator::Generator;
 use crate::draw::journal_kinds::bad_inputs;
-use crate::draw::sheet_kinds::in_range;
-use crate::model::desks::fields::Inputs;
+use crate::draw::sheet_kinds;
+use crate::model::desks::fields::{Inputs, SHEET_FIELDS};
 use crate::model::desks::lent::Lent;
 use crate::model::desks::page::{page_text, printed};
 use crate::month_file::push_words;
@@ -168,7 +168,7 @@ fn search(
     count: usize,
     wanted: impl Fn(&[u32]) -> bool,
 ) -> Vec<Case> {
-    let drawn = (0..FAR).map(|_| in_range(random).words());
+    let drawn = (0..FAR).map(|_| sheet_kinds::inputs(random));
     let found = drawn.filter(|inputs| wanted(&numbers(&lent[pair], inputs)));
     let cases: Vec<Case> = found
         .take(count)
@@ -188,7 +188,7 @@ fn numbers(lent: &Lent, inputs: &Inputs) -> Vec<u32> {
 fn vectors() -> (Vec<u8>, Counts) {
     let pairs = pairs();
     let lent = pairs.each_ref();
-    let lent = lent.map(|pair| Lent::new(&pair.daw, &pair.month));
+    let lent = lent.map(|pair| Lent::pair(&pair.daw, &pair.month));
     let cases = cases(&lent);
     let mut bytes = Vec::new();
     push_words(&mut bytes, &[pairs.len() as u32]);
@@ -200,12 +200,12 @@ fn vectors() -> (Vec<u8>, Counts) {
     let mut pages = Vec::new();
     for Case { pair, inputs } in &cases {
         let mut input = Vec::new();
-        push_words(&mut input, inputs);
+        push_words(&mut input, &inputs[..SHEET_FIELDS]);
         input.extend(&pairs[*pair].daw);
         input.extend(&pairs[*pair].month);
         let text = page_text(&input);
         push_words(&mut bytes, &[*pair as u32]);
-        push_words(&mut bytes, inputs);
+        push_words(&mut bytes, &inputs[..SHEET_FIELDS]);
         push_words(&mut bytes, &[text.len() as u32]);
         bytes.extend(text.as_bytes());
         pages.push(text);

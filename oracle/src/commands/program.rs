@@ -11,14 +11,16 @@ const FIRST: [&str; 3] = ["differs.in", "differs.wanted", "differs.given"];
 
 pub struct Compared<'a> {
     program: &'a str,
+    arguments: &'a [&'a str],
     compared: u64,
     differing: u64,
 }
 
 impl<'a> Compared<'a> {
-    pub fn new(program: &'a str) -> Self {
+    pub fn new(program: &'a str, arguments: &'a [&'a str]) -> Self {
         Self {
             program,
+            arguments,
             compared: 0,
             differing: 0,
         }
@@ -28,7 +30,7 @@ impl<'a> Compared<'a> {
     /// open by document 01, but a signal is no end.
     pub fn note(&mut self, name: &str, input: &[u8], wanted: &str) -> Result<(), String> {
         self.compared += 1;
-        let Output { status, stdout, .. } = run(self.program, input)?;
+        let Output { status, stdout, .. } = run(self.program, self.arguments, input)?;
         if status.code().is_some() && stdout == wanted.as_bytes() {
             return Ok(());
         }
@@ -78,9 +80,10 @@ fn shortened(line: &str) -> String {
 }
 
 /// The input is written beside the reading, so that neither waits for ever.
-fn run(program: &str, input: &[u8]) -> Result<Output, String> {
+fn run(program: &str, arguments: &[&str], input: &[u8]) -> Result<Output, String> {
     let failed = |e| format!("cannot run {program}: {e}");
     let mut command = Command::new(program);
+    command.args(arguments);
     command.stdin(Stdio::piped()).stdout(Stdio::piped());
     let mut child = command.spawn().map_err(failed)?;
     let stdin = child.stdin.take().expect("a pipe was asked for");
@@ -110,10 +113,16 @@ mod tests {
     #[test]
     fn a_program_gets_its_input_and_gives_its_output() {
         let input = vec![7; 300_000];
-        let output = run("cat", &input).expect("cat is everywhere");
+        let output = run("cat", &[], &input).expect("cat is everywhere");
         assert!(output.stdout == input);
-        assert!(run("true", &input).is_ok_and(|output| output.stdout.is_empty()));
-        assert!(run("no-such-program", &input).is_err());
+        assert!(run("true", &[], &input).is_ok_and(|output| output.stdout.is_empty()));
+        assert!(run("no-such-program", &[], &input).is_err());
+    }
+
+    #[test]
+    fn a_program_gets_its_arguments() {
+        let output = run("echo", &["year"], &[]).expect("echo is everywhere");
+        assert_eq!(output.stdout, b"year\n");
     }
 
     #[test]

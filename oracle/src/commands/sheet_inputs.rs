@@ -9,6 +9,7 @@ use crate::draw::data_files::{extreme, named, Pair};
 use crate::draw::generator::Generator;
 use crate::draw::journal_kinds::with_a_nan;
 use crate::draw::sheet_kinds::in_range;
+use crate::model::desks::fields::SHEET_FIELDS;
 use crate::model::desks::programs::{sheet, sheet_text, CALLS};
 use crate::month_file::push_words;
 use crate::reference::voacap::coefficients::F2_RECORD_BYTES;
@@ -88,7 +89,7 @@ fn vectors() -> (Vec<u8>, Counts) {
             value,
             total,
         } = case;
-        push_words(&mut bytes, &fields);
+        push_words(&mut bytes, &fields[..SHEET_FIELDS]);
         push_words(&mut bytes, &[record, month, place, value, total]);
         push_words(&mut bytes, &[text.len() as u32]);
         bytes.extend(text.as_bytes());

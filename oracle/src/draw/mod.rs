@@ -9,3 +9,4 @@ pub mod ranges;
 pub mod route_kinds;
 pub mod sheet_kinds;
 pub mod specials;
+pub mod year_files;

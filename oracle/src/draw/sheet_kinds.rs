@@ -3,7 +3,7 @@
 
 use crate::draw::generator::Generator;
 use crate::draw::route_kinds::of_any_kind;
-use crate::model::desks::fields::check;
+use crate::model::desks::fields::{check, with_model, Inputs, CCIR, URSI};
 use crate::reference::sheets::Sheet;
 
 /// What is in no range of document 01, or only just.
@@ -34,6 +34,18 @@ pub fn in_range(random: &mut Generator) -> Sheet {
         route: of_any_kind(random),
         psc: factors(random),
     }
+}
+
+/// The same as a worksheet's inputs, with the model of a sheet over a pair of
+/// files.
+pub fn inputs(random: &mut Generator) -> Inputs {
+    with_model(in_range(random).words(), CCIR)
+}
+
+/// With either model.
+pub fn year_inputs(random: &mut Generator) -> Inputs {
+    let model = one_of(random, &[CCIR, URSI]);
+    with_model(in_range(random).words(), model)
 }
 
 /// Whether every field is in its range.

@@ -1,5 +1,5 @@
-//! Document 01's worksheet, written from its part 'At the desks' alone: the
-//! Rust has none and gives only the figures.
+//! Document 01's worksheet, written from its part 'At the desks' alone, with
+//! document 02's request 01: the Rust has none and gives only the figures.
 
 pub mod fields;
 pub mod lent;
@@ -8,6 +8,7 @@ pub mod library;
 pub mod page;
 pub mod programs;
 pub mod shorter;
+pub mod survey;
 #[cfg(any(linked, test))]
 pub mod words;
 
@@ -49,7 +50,8 @@ pub struct Worksheet {
     pub drafts: [Option<Draft>; DESKS],
 }
 
-/// A change with all its numbers as f32 bits; a path's flag is any word.
+/// A change with all its numbers as f32 bits; a path's flag, a month and a model
+/// are any words.
 #[derive(Debug, Clone, Copy, PartialEq, Eq)]
 pub enum Edit {
     Sunspots(u32),
@@ -57,6 +59,8 @@ pub enum Edit {
     Path { ends: [u32; 4], flag: u32 },
     Factors([u32; 4]),
     Pole([u32; 2]),
+    Month(u32),
+    Model(u32),
 }
 
 impl Edit {
@@ -69,6 +73,8 @@ impl Edit {
             Edit::Path { ends, flag } => (4, [&ends[..], &[flag]].concat()),
             Edit::Factors(words) => (9, words.to_vec()),
             Edit::Pole(words) => (13, words.to_vec()),
+            Edit::Month(word) => (1, vec![word]),
+            Edit::Model(word) => (15, vec![word]),
         }
     }
 }

@@ -1,4 +1,6 @@
-//! What the Rust has not, from document 01 alone: the desks, the index check.
+//! What the Rust has not, from documents 01 and 02 alone: the desks, the index
+//! check, the year file's directory.
 
 pub mod desks;
 pub mod index_check;
+pub mod year;

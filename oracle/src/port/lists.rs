@@ -1,7 +1,6 @@
-//! The port's worksheet calls over 90 lent words.
+//! The port's worksheet calls over 96 lent words.
 
-use crate::draw::data_files::Pair;
-use crate::model::desks::library::{Desks, Told};
+use crate::model::desks::library::{Desks, Files, Told};
 use crate::model::desks::words::Words;
 use crate::model::desks::{Call, Edit};
 use jutetrowel::raw::{self, Answer, Showing};
@@ -38,14 +37,17 @@ impl Desks for Library {
         raw::open(inputs, sheet).into()
     }
 
-    fn call(&self, sheet: &mut Words, call: &Call, files: &Pair, out: &mut [f32]) -> Told {
+    fn call(&self, sheet: &mut Words, call: &Call, files: &Files, out: &mut [f32]) -> Told {
         match call {
             Call::Begin(desk) => raw::jt_begin(sheet, *desk).into(),
             Call::Change(desk, edit) => change(sheet, *desk, edit).into(),
             Call::Commit(desk) => raw::jt_commit(sheet, *desk).into(),
             Call::Cancel(desk) => raw::jt_cancel(sheet, *desk).into(),
             Call::TakeBack => raw::jt_take_back(sheet).into(),
-            Call::Show(desk, _) => raw::show(sheet, *desk, &files.daw, &files.month, out).into(),
+            Call::Show(desk, _) => match files {
+                Files::Pair(pair) => raw::show(sheet, *desk, &pair.daw, &pair.month, out).into(),
+                Files::Year(year) => raw::show_year(sheet, *desk, year, out).into(),
+            },
         }
     }
 }
@@ -67,5 +69,7 @@ fn change(sheet: &mut Words, desk: u32, edit: &Edit) -> Answer {
             let [lat, lon] = pole.map(f32::from_bits);
             raw::jt_change_pole(sheet, desk, lat, lon)
         }
+        Edit::Month(month) => raw::jt_change_month(sheet, desk, month),
+        Edit::Model(model) => raw::jt_change_model(sheet, desk, model),
     }
 }

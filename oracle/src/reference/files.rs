@@ -9,6 +9,7 @@ use crate::reference::voacap::data;
 use crate::reference::voacap::ionosphere::cofion;
 use std::io::{ErrorKind, Result};
 use std::path::Path;
+use std::rc::Rc;
 
 /// The refusal of a month file and its place, both 0 for a good file.
 pub fn walk(file: &[u8]) -> (u32, u32) {
@@ -31,11 +32,32 @@ pub fn walk(file: &[u8]) -> (u32, u32) {
 /// Holds both files for `read`, as those of one month.
 pub fn put(daw: &[u8], file: &[u8], month: u32) {
     data::put("coeffs/fof2CCIR.daw", daw.to_vec());
-    data::put(&format!("coeffs/coeff{month:02}w.bin"), file.to_vec());
+    data::put(&month_name(month), file.to_vec());
+}
+
+fn month_name(month: u32) -> String {
+    format!("coeffs/coeff{month:02}w.bin")
+}
+
+/// Holds twelve month files, then the `.daw` files of CCIR and URSI, each under
+/// the name by which the Rust asks for it.
+pub fn put_year(parts: &[Rc<[u8]>; 14]) {
+    let (months, daws) = parts.split_at(12);
+    for (month, file) in (1..).zip(months) {
+        data::put(&month_name(month), file.clone());
+    }
+    for (model, daw) in [FoF2Model::Ccir, FoF2Model::Ursi].into_iter().zip(daws) {
+        data::put(&format!("coeffs/{}", model.daw_name()), daw.clone());
+    }
 }
 
 pub fn read(month: u32, ssn: f32) -> Result<CoefficientSet> {
-    redmap(Path::new(""), FoF2Model::Ccir, month, ssn)
+    read_of(FoF2Model::Ccir, month, ssn)
+}
+
+/// From the files that are put: the Rust chooses by month and model.
+pub fn read_of(model: FoF2Model, month: u32, ssn: f32) -> Result<CoefficientSet> {
+    redmap(Path::new(""), model, month, ssn)
 }
 
 /// The refusal of a month record, its place and the record's start, for a

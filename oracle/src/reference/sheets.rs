@@ -18,7 +18,7 @@ pub const ROW: usize = 29;
 /// Six numbers of the path, then the rows of five points.
 pub const FIGURES: usize = 6 + 5 * ROW;
 
-/// The 14 fields of a worksheet.
+/// The 14 fields of a sheet over an F2 record and a month file.
 #[derive(Debug, Clone, Copy)]
 pub struct Sheet {
     pub month: u32,

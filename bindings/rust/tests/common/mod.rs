@@ -1,5 +1,8 @@
 //! The repository's data, and files read piece by piece.
 
+// No test needs all of it.
+#![allow(dead_code)]
+
 pub use jutetrowel::raw::{
     INPUT_BYTES as WORDS, MONTH_FILE_BYTES as MONTH_FILE, RECORD_BYTES as RECORD,
 };
@@ -23,6 +26,12 @@ impl<'a> Reader<'a> {
 
     pub fn word(&mut self) -> u32 {
         u32::from_le_bytes(self.bytes(4).try_into().expect("four bytes"))
+    }
+
+    /// Bytes after their length.
+    pub fn part(&mut self) -> &'a [u8] {
+        let length = self.word() as usize;
+        self.bytes(length)
     }
 
     pub fn is_empty(&self) -> bool {

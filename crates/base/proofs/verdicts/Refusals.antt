@@ -7,7 +7,7 @@ use Prim.Native.Nat.{_≤_}
 use native.Mathlib.Omega.{arith}
 use lib.Dec.{lit≤}
 use Rattle.base.specs.declared.refusal.Refusal.{Refusal}
-use Rattle.base.specs.declared.refusal.Refusal.the-variants.{Month, Sunspot, Hour, Latitude, Longitude, Factor, Flag, Record, Ended, Marker, Index, Figures, Table, Desk, Drafted, NoDraft, Stale, NothingEarlier}
+use Rattle.base.specs.declared.refusal.Refusal.the-variants.{Month, Sunspot, Hour, Latitude, Longitude, Factor, Flag, Record, Ended, Marker, Index, Figures, Table, Desk, Drafted, NoDraft, Stale, NothingEarlier, Model, Year}
 use Rattle.base.specs.declared.refusal.Verdict.{Verdict}
 use Rattle.base.specs.declared.refusal.Verdict.the-variants.{Accepted, Refused}
 use Rattle.base.specs.Refusal.{reportOf, verdictReport, isAccepted, refuseUnless, _then_}
@@ -45,6 +45,8 @@ numbered Drafted = lit≤ tt
 numbered NoDraft = lit≤ tt
 numbered Stale = lit≤ tt
 numbered NothingEarlier = lit≤ tt
+numbered Model = lit≤ tt
+numbered (Year pair) = lit≤ tt
 
 pub accepted-by-number : (v : Verdict) → verdictReport v .0 ≡ 0 → v ≡ Accepted
 accepted-by-number Accepted e = refl

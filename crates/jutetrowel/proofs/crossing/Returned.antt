@@ -39,27 +39,27 @@ draft-back (Stale i) rest h = ap Stale (inputs-back 2 i rest h)
 
 -- ---- a set read behind another
 
-module _ (v rest : List ℕ) (n : length v ≡ 15) where
-  behind : (k : ℕ) → wordIn (v ++ rest) (15 + k) ≡ wordIn rest k
+module _ (v rest : List ℕ) (n : length v ≡ 16) where
+  behind : (k : ℕ) → wordIn (v ++ rest) (16 + k) ≡ wordIn rest k
   behind k = ap (λ (m : ℕ). getD (v ++ rest) (m + k) 0) (sym n) ∙ getD-append-add v rest k 0
 
-  further : (at k : ℕ) → fieldIn (v ++ rest) (15 + at) k ≡ fieldIn rest at k
+  further : (at k : ℕ) → fieldIn (v ++ rest) (16 + at) k ≡ fieldIn rest at k
   further at k =
-      let e : 15 + at + 1 + k ≡ 15 + (at + 1 + k) = omega arith in
+      let e : 16 + at + 1 + k ≡ 16 + (at + 1 + k) = omega arith in
       ap (wordIn (v ++ rest)) e ∙ behind (at + 1 + k)
 
-  inputs-behind : (at : ℕ) → inputsIn (v ++ rest) (15 + at) ≡ inputsIn rest at
+  inputs-behind : (at : ℕ) → inputsIn (v ++ rest) (16 + at) ≡ inputsIn rest at
   unfolding inputsIn
   inputs-behind at = λ t. inputsFrom (λ (k : ℕ). further at k t)
 
-  earlier-behind : (at : ℕ) → earlierIn (v ++ rest) (15 + at) ≡ earlierIn rest at
+  earlier-behind : (at : ℕ) → earlierIn (v ++ rest) (16 + at) ≡ earlierIn rest at
   unfolding earlierIn
   earlier-behind at =
       let x = behind at in
       let i = inputs-behind at in
       λ t. cond (eqb (x t) 0) Nothing (Set (i t))
 
-  draft-behind : (at : ℕ) → draftIn (v ++ rest) (15 + at) ≡ draftIn rest at
+  draft-behind : (at : ℕ) → draftIn (v ++ rest) (16 + at) ≡ draftIn rest at
   unfolding draftIn
   draft-behind at =
       let x = behind at in
@@ -87,19 +87,19 @@ module _ (w : Worksheet) (h : SheetSingles w) where
   abbrev v5 : List ℕ
   v5 = draftWords (w .d4)
 
-  n0 : length v0 ≡ 15
+  n0 : length v0 ≡ 16
   n0 = set-length 1 (w .inputs)
 
-  n1 : length v1 ≡ 15
+  n1 : length v1 ≡ 16
   n1 = earlier-length (w .earlier)
 
-  n2 : length v2 ≡ 15
+  n2 : length v2 ≡ 16
   n2 = draft-length (w .d1)
 
-  n3 : length v3 ≡ 15
+  n3 : length v3 ≡ 16
   n3 = draft-length (w .d2)
 
-  n4 : length v4 ≡ 15
+  n4 : length v4 ≡ 16
   n4 = draft-length (w .d3)
 
   pub read-back : worksheetOf (sheetWords w) ≡ w
@@ -111,15 +111,15 @@ module _ (w : Worksheet) (h : SheetSingles w) where
       let r1 = v1 ++ r2 in
       let inputs = inputs-back 1 (w .inputs) r1 (h .inputs) in
       let earlier = earlier-behind v0 r1 n0 0 ∙ earlier-back (w .earlier) r2 (h .earlier) in
-      let d1 = draft-behind v0 r1 n0 15 ∙ draft-behind v1 r2 n1 0 ∙ draft-back (w .d1) r3 (h .d1) in
+      let d1 = draft-behind v0 r1 n0 16 ∙ draft-behind v1 r2 n1 0 ∙ draft-back (w .d1) r3 (h .d1) in
       let d2 =
-      draft-behind v0 r1 n0 30 ∙ draft-behind v1 r2 n1 15 ∙ draft-behind v2 r3 n2 0 ∙ draft-back (w .d2) r4 (h .d2) in
+      draft-behind v0 r1 n0 32 ∙ draft-behind v1 r2 n1 16 ∙ draft-behind v2 r3 n2 0 ∙ draft-back (w .d2) r4 (h .d2) in
       let d3 =
-      draft-behind v0 r1 n0 45 ∙ draft-behind v1 r2 n1 30 ∙ draft-behind v2 r3 n2 15 ∙ draft-behind v3 r4 n3 0
+      draft-behind v0 r1 n0 48 ∙ draft-behind v1 r2 n1 32 ∙ draft-behind v2 r3 n2 16 ∙ draft-behind v3 r4 n3 0
       ∙ draft-back (w .d3) v5 (h .d3) in
       let last = ap (λ (x : List ℕ). draftIn x 0) (sym (append-nil v5)) ∙ draft-back (w .d4) [] (h .d4) in
       let d4 =
-      draft-behind v0 r1 n0 60 ∙ draft-behind v1 r2 n1 45 ∙ draft-behind v2 r3 n2 30 ∙ draft-behind v3 r4 n3 15
+      draft-behind v0 r1 n0 64 ∙ draft-behind v1 r2 n1 48 ∙ draft-behind v2 r3 n2 32 ∙ draft-behind v3 r4 n3 16
       ∙ draft-behind v4 v5 n4 0 ∙ last in
       λ t. record { inputs = inputs t; earlier = earlier t; d1 = d1 t; d2 = d2 t; d3 = d3 t; d4 = d4 t }
 
@@ -152,9 +152,9 @@ module _ (l : List ℕ) where
   read-single =
       record {
         inputs = inputs-single 0;
-        earlier = earlier-single 15;
-        d1 = draft-single 30;
-        d2 = draft-single 45;
-        d3 = draft-single 60;
-        d4 = draft-single 75;
+        earlier = earlier-single 16;
+        d1 = draft-single 32;
+        d2 = draft-single 48;
+        d3 = draft-single 64;
+        d4 = draft-single 80;
       }

@@ -12,11 +12,11 @@ use Rattle.maps.specs.Inputs.{Single, Singles}
 use Rattle.maps.specs.declared.inputs.Inputs.{Inputs}
 use Rattle.maps.proofs.sheet.Codec.{from-single}
 use Rattle.worksheet.specs.declared.inputs.Edit.{Edit}
-use Rattle.worksheet.specs.declared.inputs.Edit.the-variants.{Sunspot, Hour, Path, Psc, Pole}
+use Rattle.worksheet.specs.declared.inputs.Edit.the-variants.{Sunspot, Hour, Path, Psc, Pole, Month, Model}
 use Rattle.worksheet.specs.declared.desks.Worksheet.{Worksheet}
 use Rattle.worksheet.specs.Inputs.{edited}
 use Rattle.worksheet.specs.Desks.{outcome, beginOf, changeOf, commitOf, cancelOf, takeBackOf, freshSheet, openOf, openedOf}
-use Rattle.worksheet.specs.Showing.{Source, pair}
+use Rattle.worksheet.specs.Showing.{Source}
 use Rattle.worksheet.specs.Journal.{Call, begin, commit, cancel, change, takeBack, show, Entry, Run, Role, beginning, ending, settling, belonging, returning, showing, roleIn, good, step, entryOf, run, begins, belongs, own, keptFor, shorter, callsOf, keptOf, shortRun, Demand3}
 use Rattle.worksheet.proofs.drafts.Drafts.{atRest}
 use Rattle.worksheet.proofs.drafts.Keeps.{step-keeps}
@@ -27,7 +27,7 @@ use Rattle.jutetrowel.proofs.crossing.Returned.{read-back, read-single}
 
 -- ---- every call keeps the numbers f32 values
 
--- inputs by their five parts that a change can be of
+-- inputs by their parts that have numbers
 assembled : (x : Inputs) → Single (x .ssn) → Single (x .gmt) →
     EditSingles (Path (x .route)) → EditSingles (Psc (x .psc)) → EditSingles (Pole (x .pole)) → Singles x
 assembled x ssn gmt route psc pole =
@@ -63,6 +63,8 @@ module _ (x : Inputs) (k : Singles x) where
   edited-single (Path p) h = assembled _ (k .ssn) (k .gmt) h psc-single pole-single
   edited-single (Psc p) h = assembled _ (k .ssn) (k .gmt) route-single h pole-single
   edited-single (Pole p) h = assembled _ (k .ssn) (k .gmt) route-single psc-single h
+  edited-single (Month m) h = assembled _ (k .ssn) (k .gmt) route-single psc-single pole-single
+  edited-single (Model m) h = assembled _ (k .ssn) (k .gmt) route-single psc-single pole-single
 
 module _ (source : Source) where
   left-single : (c : Call) (l : List ℕ) → CallSingles c → SheetSingles (step source c (worksheetOf l) .sheet)
@@ -191,11 +193,10 @@ open-read s lent h =
     ap (λ (v : Verdict). worksheetOf (writtenOver v (sheetWords w) lent)) h
     ∙ read-back w (record { inputs = from-single _; earlier = tt; d1 = tt; d2 = tt; d3 = tt; d4 = tt })
 
--- DEMAND 3: for every record and month file, all words that open, and every list of calls by f32
--- numbers
+-- DEMAND 3: for every source of files, all words that open, and every list of calls by f32 numbers
 pub demand-3-over :
-    (f2 file s lent : List ℕ) → openedOf s .answer ≡ Accepted → (cs : List Call) → CallsSingles cs →
-    Demand3Over (pair f2 file) (wordsAfter (openedOf s) lent) cs
+    (source : Source) (s lent : List ℕ) → openedOf s .answer ≡ Accepted → (cs : List Call) → CallsSingles cs →
+    Demand3Over source (wordsAfter (openedOf s) lent) cs
 unfolding openedOf openOf freshSheet
-demand-3-over f2 file s lent h cs k =
-    demand-3-over-lent (pair f2 file) (wordsAfter (openedOf s) lent) (openedOf s .sheet) (open-read s lent h) refl cs k
+demand-3-over source s lent h cs k =
+    demand-3-over-lent source (wordsAfter (openedOf s) lent) (openedOf s .sheet) (open-read s lent h) refl cs k

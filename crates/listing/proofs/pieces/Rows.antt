@@ -63,7 +63,7 @@ its-unit w = unitText (w .unit)
 abbrev nobody : Row
 nobody = record { name = ""; unit = "" }
 
-any-default : {A : Type 0} (l : List A) (k : ℕ) (d d' : A) → k < length l → getD l k d ≡ getD l k d'
+pub any-default : {A : Type 0} (l : List A) (k : ℕ) (d d' : A) → k < length l → getD l k d ≡ getD l k d'
 any-default [] k d d' h = absurd (omega arith)
 any-default (x ∷ l) zero d d' h = refl
 any-default (x ∷ l) (suc k) d d' h = any-default l k d d' (omega arith)

@@ -47,6 +47,7 @@ fields-back i h =
           };
       psc = record { e = e t; f1 = f1 t; f2 = f2 t; es = es t };
       pole = record { lat = record { 0 = lat t }; lon = record { 0 = lon t } };
+      model = i .model;
     }
 
 module _ (f : ℕ → ℕ) where
@@ -109,4 +110,4 @@ module _ (f : ℕ → ℕ) where
       let es = again 11 (h .es) in
       let lat = again 12 (h .lat) in
       let lon = again 13 (h .lon) in
-      λ t. f 0 ∷ ssn t ∷ gmt t ∷ tlat t ∷ tlong t ∷ rlat t ∷ rlong t ∷ f 7 ∷ e t ∷ f1 t ∷ f2 t ∷ es t ∷ lat t ∷ lon t ∷ []
+      λ t. f 0 ∷ ssn t ∷ gmt t ∷ tlat t ∷ tlong t ∷ rlat t ∷ rlong t ∷ f 7 ∷ e t ∷ f1 t ∷ f2 t ∷ es t ∷ lat t ∷ lon t ∷ f 14 ∷ []

@@ -13,7 +13,8 @@ use Rattle.base.specs.Single.{decimal}
 use Rattle.base.specs.Words.{wordAt}
 use Rattle.base.specs.MonthFile.{sizes, monthFileCheck, MarkedToLast}
 use Rattle.base.specs.Blend.{blendOf, f2Weights, eWeights, heightWeights}
-use Rattle.results.specs.ExhibitedFiles.{fourBytes, fileOf, endingIn, cutFile, wrongFile}
+use Rattle.base.specs.Words.{fourBytes}
+use Rattle.results.specs.ExhibitedFiles.{fileOf, endingIn, cutFile, wrongFile}
 use Rattle.base.proofs.layout.Walks.{no-open}
 use Rattle.results.proofs.files.Marks.{cut-short, last-wrong}
 use Rattle.results.proofs.files.MadeFiles.{word-in, length-file, length-front, marked}

@@ -15,11 +15,11 @@ use Rattle.base.specs.declared.refusal.Verdict.{Verdict}
 use Rattle.base.specs.declared.refusal.Verdict.the-variants.{Accepted}
 use Rattle.base.specs.Refusal.{_then_}
 use Rattle.base.specs.Number.{signedOf}
-use Rattle.base.specs.Words.{wordAt}
+use Rattle.base.specs.Words.{wordAt, fourBytes}
 use Rattle.base.specs.MonthFile.{recordSize, monthFileSize, sizes, monthFileCheck, Marked}
 use Rattle.base.specs.Index.{indexOf, mapWord, rows, harmonics, climbs, goodMap, indexCheck, GoodIndex}
 use Rattle.base.specs.Files.{fileCheck, filesCheck}
-use Rattle.results.specs.ExhibitedFiles.{fourBytes, fileOf, Below}
+use Rattle.results.specs.ExhibitedFiles.{fileOf, Below}
 unfoldable pub use Rattle.results.specs.ExhibitedFiles.{wordBytes, fileWith, goodIndexTable, goodMonthFile, goodRecord}
 use Rattle.base.proofs.verdicts.Picks.{cond-true}
 use Rattle.base.proofs.ladder.Ladders.{six, limits, good-known}
@@ -94,14 +94,14 @@ module _ (table : List ℕ) (n : length table ≡ 60) where
 
 -- ---- it is made of bytes, where the table is of words
 
-below-append : (limit : ℕ) (xs ys : List ℕ) → Below limit xs → Below limit ys → Below limit (xs ++ ys)
+pub below-append : (limit : ℕ) (xs ys : List ℕ) → Below limit xs → Below limit ys → Below limit (xs ++ ys)
 below-append limit [] ys a b = b
 below-append limit (x ∷ xs) ys a b = (a .0, below-append limit xs ys (a .1) b)
 
-four-bytes : (n : ℕ) → n < 2 ^ 32 → Below 256 (fourBytes n)
+pub four-bytes : (n : ℕ) → n < 2 ^ 32 → Below 256 (fourBytes n)
 four-bytes n h = (omega arith, (omega arith, (omega arith, (omega arith, tt))))
 
-zero-bytes : (n : ℕ) → Below 256 (replicate n 0)
+pub zero-bytes : (n : ℕ) → Below 256 (replicate n 0)
 zero-bytes zero = tt
 zero-bytes (suc n) = (lit< tt, zero-bytes n)
 
@@ -149,8 +149,12 @@ month-file-accepted = made-walks goodIndexTable refl
 pub index-accepted : indexCheck goodMonthFile ≡ Accepted
 index-accepted = made-index goodIndexTable refl table-good
 
+-- with any record that is long enough
+pub accepted-with : (f2 : List ℕ) → recordSize ≤ length f2 → filesCheck f2 goodMonthFile ≡ Accepted
+accepted-with = made-accepted goodIndexTable refl table-good
+
 pub files-accepted : filesCheck goodRecord goodMonthFile ≡ Accepted
-files-accepted = made-accepted goodIndexTable refl table-good goodRecord (omega (arith, length-replicate {A = ℕ} recordSize 0))
+files-accepted = accepted-with goodRecord (omega (arith, length-replicate {A = ℕ} recordSize 0))
 
 pub file-of-bytes : Below 256 goodMonthFile
 unfolding all-below

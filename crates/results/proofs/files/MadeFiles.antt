@@ -8,7 +8,8 @@ use lib.ListN.{length, getD, replicate, length-append, length-replicate}
 use lib.Seq.{getD-append-seam, getD-append-add}
 use Rattle.base.specs.Words.{wordAt}
 use Rattle.base.specs.MonthFile.{Marked}
-pub use Rattle.results.specs.ExhibitedFiles.{fourBytes, fileOf}
+pub use Rattle.base.specs.Words.{fourBytes}
+pub use Rattle.results.specs.ExhibitedFiles.{fileOf}
 use Rattle.results.specs.AcceptedFiles.{withMarkers}
 
 pub length-file : (ns : List ℕ) → length (fileOf ns) ≡ withMarkers ns

@@ -1,5 +1,5 @@
 -- Inputs that the worksheet accepts have every field in range, each by the check of its own: the
--- 14 fields' check is one after the other. Assumes nothing.
+-- 15 fields' check is one after the other. Assumes nothing.
 use mathlib.Core.Path.{_≡_, sym, subst}
 use Prim.Native.Nat.{ℕ}
 use lib.Dec.{T}
@@ -9,7 +9,7 @@ use Rattle.base.specs.declared.refusal.Refusal.the-variants.{Month, Hour, Latit
 use Rattle.base.specs.declared.refusal.Verdict.the-variants.{Accepted}
 use Rattle.base.specs.Refusal.{_then_}
 use Rattle.base.specs.Single.{decimal, minusDecimal}
-use Rattle.base.specs.Ranges.{isTo, isMonth, monthCheck, hourCheck, latitudeCheck, longitudeCheck}
+use Rattle.base.specs.Ranges.{isTo, isMonth, monthCheck, hourCheck, latitudeCheck, longitudeCheck, modelCheck}
 use Rattle.base.proofs.verdicts.Refusals.{then-both, passed}
 use Rattle.maps.specs.declared.inputs.Inputs.{Inputs}
 use Rattle.maps.specs.declared.inputs.MagneticPole.{MagneticPole}
@@ -66,12 +66,13 @@ accepted-in-range i h =
     let t = hourCheck (i .gmt) in
     let u = routeCheck (i .route) in
     let v = factorsCheck p in
-    let w = poleCheck (i .pole) in
+    let w = poleCheck (i .pole) then modelCheck (i .model) in
     let a = then-both (monthCheck (i .month)) (s then t then u then v then w) h in
     let b = then-both s (t then u then v then w) (a .1) in
     let c = then-both t (u then v then w) (b .1) in
     let d = then-both u (v then w) (c .1) in
     let e = then-both v w (d .1) in
+    let o = then-both (poleCheck (i .pole)) (modelCheck (i .model)) (e .1) in
     let x = factorCheck 10 (p .f1) in
     let y = factorCheck 11 (p .f2) in
     let z = factorCheck 12 (p .es) in
@@ -79,7 +80,7 @@ accepted-in-range i h =
     let g = then-both x (y then z) (f .1) in
     let k = then-both y z (g .1) in
     let r = ends-in (i .route) (d .0) in (
-      record { ends = record { transmitter = r .0; receiver = r .1 }; pole = pole-in (i .pole) (e .1) },
+      record { ends = record { transmitter = r .0; receiver = r .1 }; pole = pole-in (i .pole) (o .0) },
       record {
         sunspots = subst T (sym (passed (isTo (decimal 0 1) (decimal 300 0) (i .ssn)) Sunspot (b .0))) tt;
         hour = subst T (sym (passed (isTo (decimal 0 1) (decimal 24 0) (i .gmt)) Hour (c .0))) tt;

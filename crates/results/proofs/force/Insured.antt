@@ -22,7 +22,7 @@ use Rattle.worksheet.specs.declared.inputs.Edit.{Edit}
 use Rattle.worksheet.specs.declared.desks.Worksheet.{Worksheet}
 use Rattle.worksheet.specs.declared.desks.Draft.the-variants.{Fresh}
 use Rattle.worksheet.specs.Desks.{draftAt, freshSheet, openOf}
-use Rattle.worksheet.specs.Showing.{Source, pair, inputsShown, bufferCheck, drawnCheck, judgedCheck, showCheck, showOf, showBuffer}
+use Rattle.worksheet.specs.Showing.{Source, inputsShown, bufferCheck, drawnCheck, judgedCheck, showCheck, showOf, showBuffer}
 use Rattle.worksheet.specs.Journal.{Call, begin, commit, cancel, change, takeBack, show, shown, Role, beginning, ending, settling, belonging, returning, showing, roleOf, Entry, accepted, roleIn, good, Step, step, entryOf, run, isBegin, isOwn, begins, belongs, own, none}
 use Rattle.worksheet.specs.InForce.{editsIn, editsOf, AcceptedCommit, changesBy, inputsBy, Force, forceIn, forceAfter, commitsInForce, inForce, FiguresOf, disturbs, DraftUndisturbed, CommitInForce, InForceBy}
 use Rattle.worksheet.proofs.drafts.Drafts.{atRest, rest-none}
@@ -120,31 +120,34 @@ begun-in-force source w rest cs n a =
     ∙ ap Fresh (in-force source w rest cs)
 
 -- the same of every worksheet that open gives
-pub opened-in-force : (f2 file : List ℕ) (opened : Inputs) → openOf opened .answer ≡ Accepted → (cs : List Call)
-    → run (pair f2 file) cs (openOf opened .sheet) .sheet .inputs ≡ inForce (openOf opened .sheet) (run (pair f2 file) cs (openOf opened .sheet) .entries)
+pub opened-in-force : (source : Source) (opened : Inputs) → openOf opened .answer ≡ Accepted → (cs : List Call)
+    → run source cs (openOf opened .sheet) .sheet .inputs ≡ inForce (openOf opened .sheet) (run source cs (openOf opened .sheet) .entries)
 unfolding openOf freshSheet
-opened-in-force f2 file opened given cs = in-force (pair f2 file) (openOf opened .sheet) refl cs
+opened-in-force source opened given cs = in-force source (openOf opened .sheet) refl cs
 
 -- ---- THE INSURER'S LINE
 
--- an accepted showing of the worksheet s
-shown-figures : (source : Source) (s : Worksheet) (lent after : List Float) (count : ℕ)
-    → shown (Points count) after ≡ step source (show 0 lent) s .answer → FiguresOf source (s .inputs) count after
-unfolding step showOf showBuffer showCheck inputsShown drawnCheck
-shown-figures source s lent after count h =
-    go (judgedCheck 0 s then drawnCheck (source (s .inputs)) (length lent)) refl h
+-- an accepted showing on the worksheet s, of its inputs or of a desk
+pub shown-figures : (source : Source) (n : ℕ) (s : Worksheet) (lent after : List Float) (count : ℕ)
+    → shown (Points count) after ≡ step source (show n lent) s .answer → FiguresOf source (inputsShown n s) count after
+unfolding step showOf showBuffer showCheck drawnCheck
+shown-figures source n s lent after count h =
+    go (judgedCheck n s then drawnCheck (source i) (length lent)) refl h
   where
-    files : Verdict
-    files = source (s .inputs) .verdict then filesCheck (source (s .inputs) .f2) (source (s .inputs) .file)
+    i : Inputs
+    i = inputsShown n s
 
-    go : (v : Verdict) → (judgedCheck 0 s then bufferCheck (length lent) then files) ≡ v
-        → shown (Points count) after ≡ shown (pointsOr v (sheetPath (s .inputs) .count)) (writtenOver v (figuresOf (source (s .inputs) .f2) (source (s .inputs) .file) (s .inputs)) lent)
-        → FiguresOf source (s .inputs) count after
+    files : Verdict
+    files = source i .verdict then filesCheck (source i .f2) (source i .file)
+
+    go : (v : Verdict) → (judgedCheck n s then bufferCheck (length lent) then files) ≡ v
+        → shown (Points count) after ≡ shown (pointsOr v (sheetPath i .count)) (writtenOver v (figuresOf (source i .f2) (source i .file) i) lent)
+        → FiguresOf source i count after
     go Accepted c e =
-        let a = then-both (judgedCheck 0 s) (bufferCheck (length lent) then files) c in
+        let a = then-both (judgedCheck n s) (bufferCheck (length lent) then files) c in
         let b = then-both (bufferCheck (length lent)) files (a .1) in
-        let d = then-both (source (s .inputs) .verdict) (filesCheck (source (s .inputs) .f2) (source (s .inputs) .file)) (b .1) in
-        record { lent = d .0; points = (cc); whole = (cc) }
+        let d = then-both (source i .verdict) (filesCheck (source i .f2) (source i .file)) (b .1) in
+        record { lent = d .0; checked = d .1; points = (cc); whole = (cc) }
     go (Refused why) c e = let z : _≡_ {A = ℕ} 0 1 = cc in absurd (omega arith)
 
 -- Over any source of files, of every worksheet whose desks are closed and every list of calls: each
@@ -154,22 +157,21 @@ pub insurers-line-lent : (source : Source) (w : Worksheet) → atRest w ≡ w
     → (cs : List Call) (before later : List Entry) (lent figures : List Float) (count : ℕ)
     → run source cs w .entries ≡ before ++ (record { call = show 0 lent; answer = shown (Points count) figures } ∷ later)
     → FiguresOf source (inForce w before) count figures
-unfolding inForce
+unfolding inForce inputsShown
 insurers-line-lent source w rest cs before later lent figures count h =
     let x : Entry = record { call = show 0 lent; answer = shown (Points count) figures } in
     let a = run-split source cs w before x later h in
     let s = run source (a .calls) w .sheet in
     subst (λ (j : Inputs). FiguresOf source j count figures) (at-holds source w rest before x a .at-present)
-    (shown-figures source s lent figures count (ap (λ (y : Entry). y .answer) (a .there)))
+    (shown-figures source 0 s lent figures count (ap (λ (y : Entry). y .answer) (a .there)))
 
--- THE INSURER'S LINE for every record and month file, lent throughout, and every worksheet that
--- open gives
-pub insurers-line : (f2 file : List ℕ) (opened : Inputs) → openOf opened .answer ≡ Accepted
+-- THE INSURER'S LINE for every source of files and every worksheet that open gives
+pub insurers-line : (source : Source) (opened : Inputs) → openOf opened .answer ≡ Accepted
     → (cs : List Call) (before later : List Entry) (lent figures : List Float) (count : ℕ)
-    → run (pair f2 file) cs (openOf opened .sheet) .entries ≡ before ++ (record { call = show 0 lent; answer = shown (Points count) figures } ∷ later)
-    → FiguresOf (pair f2 file) (inForce (openOf opened .sheet) before) count figures
+    → run source cs (openOf opened .sheet) .entries ≡ before ++ (record { call = show 0 lent; answer = shown (Points count) figures } ∷ later)
+    → FiguresOf source (inForce (openOf opened .sheet) before) count figures
 unfolding openOf freshSheet
-insurers-line f2 file opened given = insurers-line-lent (pair f2 file) (openOf opened .sheet) refl
+insurers-line source opened given = insurers-line-lent source (openOf opened .sheet) refl
 
 -- ---- A COMMIT'S DRAFT: since its own begin nobody committed or took back, and it was not
 -- cancelled; so it started from the inputs in force

@@ -12,7 +12,7 @@ use Rattle.maps.specs.declared.inputs.Inputs.{Inputs}
 use Rattle.worksheet.specs.declared.desks.Worksheet.{Worksheet}
 use Rattle.worksheet.specs.declared.inputs.Edit.{Edit}
 use Rattle.worksheet.specs.Desks.{setOf, freshSheet, openOf, openedOf}
-use Rattle.worksheet.specs.Showing.{Source, pair}
+use Rattle.worksheet.specs.Showing.{Source}
 use Rattle.worksheet.specs.Journal.{Call, show, shown, Entry, run}
 use Rattle.worksheet.specs.InForce.{changesBy, commitsInForce, inForce, takenBack, startLeft, FiguresOf, NeverCancelled, Insured}
 use Rattle.worksheet.proofs.drafts.Drafts.{atRest}
@@ -73,26 +73,26 @@ pub open-rest :
 unfolding openedOf openOf freshSheet
 open-rest s lent h = ap atRest (open-read s lent h) ∙ sym (open-read s lent h)
 
--- THE INSURER'S LINE for every record and month file, all words that open, and every list of calls
--- by f32 numbers
+-- THE INSURER'S LINE for every source of files, all words that open, and every list of calls by f32
+-- numbers
 pub insurers-line-over :
-    (f2 file s words : List ℕ) → openedOf s .answer ≡ Accepted → (cs : List Call) → CallsSingles cs →
+    (source : Source) (s words : List ℕ) → openedOf s .answer ≡ Accepted → (cs : List Call) → CallsSingles cs →
     (before later : List Entry) (lent figures : List Float) (count : ℕ) →
-    entriesOver (pair f2 file) cs (wordsAfter (openedOf s) words)
+    entriesOver source cs (wordsAfter (openedOf s) words)
     ≡ before ++ (record { call = show 0 lent; answer = shown (Points count) figures } ∷ later) →
-    FiguresOf (pair f2 file) (inForce (worksheetOf (wordsAfter (openedOf s) words)) before) count figures
-insurers-line-over f2 file s words h cs k =
-    insurers-line-over-lent (pair f2 file) (wordsAfter (openedOf s) words) (open-rest s words h) cs k
+    FiguresOf source (inForce (worksheetOf (wordsAfter (openedOf s) words)) before) count figures
+insurers-line-over source s words h cs k =
+    insurers-line-over-lent source (wordsAfter (openedOf s) words) (open-rest s words h) cs k
 
 -- THE INSURER'S SENTENCE of the same, from the inputs that the words open with
 pub insurers-sentence-opened :
-    (f2 file s words : List ℕ) → openedOf s .answer ≡ Accepted → (cs : List Call) → CallsSingles cs →
+    (source : Source) (s words : List ℕ) → openedOf s .answer ≡ Accepted → (cs : List Call) → CallsSingles cs →
     (before later : List Entry) (lent figures : List Float) (count : ℕ) →
-    entriesOver (pair f2 file) cs (wordsAfter (openedOf s) words)
+    entriesOver source cs (wordsAfter (openedOf s) words)
     ≡ before ++ (record { call = show 0 lent; answer = shown (Points count) figures } ∷ later) →
-    Insured (pair f2 file) (openedOf s .sheet .inputs) before count figures
+    Insured source (openedOf s .sheet .inputs) before count figures
 unfolding openedOf openOf freshSheet setOf
-insurers-sentence-opened f2 file s words h cs k before later lent figures count e =
-    subst (λ (i : Inputs). Insured (pair f2 file) i before count figures)
+insurers-sentence-opened source s words h cs k before later lent figures count e =
+    subst (λ (i : Inputs). Insured source i before count figures)
     (ap (λ (w : Worksheet). startLeft w before) (open-read s words h) ∙ same-start (takenBack before) (openedOf s .sheet .inputs))
-    (insurers-sentence-over (pair f2 file) (wordsAfter (openedOf s) words) (open-rest s words h) cs k before later lent figures count e)
+    (insurers-sentence-over source (wordsAfter (openedOf s) words) (open-rest s words h) cs k before later lent figures count e)

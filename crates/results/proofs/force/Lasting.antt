@@ -13,7 +13,7 @@ use Rattle.worksheet.specs.declared.desks.Earlier.{Earlier}
 use Rattle.worksheet.specs.declared.desks.Earlier.the-variants.{Nothing, Set}
 use Rattle.worksheet.specs.declared.desks.Worksheet.{Worksheet}
 use Rattle.worksheet.specs.Desks.{setOf, freshSheet, openOf}
-use Rattle.worksheet.specs.Showing.{Source, pair}
+use Rattle.worksheet.specs.Showing.{Source}
 use Rattle.worksheet.specs.Journal.{Call, Role, beginning, ending, settling, belonging, returning, showing, roleOf, Entry, accepted, roleIn, good, step, entryOf, run}
 use Rattle.worksheet.specs.InForce.{changed, AcceptedCommit, Standing, changesBy, inputsBy, Force, standingAt, standingBefore, forceIn, pushed, returnedTo, forceBy, forceAfter, commitsInForce, inForce, takenBackBy, takenBack, leftBy, commitsLeft, startLeft, CommitInForce}
 use Rattle.worksheet.proofs.drafts.Drafts.{atRest, rest-none}
@@ -164,14 +164,14 @@ same-start true i = refl
 same-start false i = refl
 
 -- of a worksheet that open gives, the inputs that it was opened with
-pub opened-exactly : (f2 file : List ℕ) (opened : Inputs) → openOf opened .answer ≡ Accepted → (cs : List Call)
-    → let w = openOf opened .sheet in let entries = run (pair f2 file) cs w .entries in
+pub opened-exactly : (source : Source) (opened : Inputs) → openOf opened .answer ≡ Accepted → (cs : List Call)
+    → let w = openOf opened .sheet in let entries = run source cs w .entries in
     inForce w entries ≡ changed opened (changesBy (commitsLeft [] entries))
 unfolding openOf freshSheet setOf
-opened-exactly f2 file opened given cs =
+opened-exactly source opened given cs =
     let w = openOf opened .sheet in
-    let l = run (pair f2 file) cs w .entries in
-    in-force-exactly (pair f2 file) w refl cs
+    let l = run source cs w .entries in
+    in-force-exactly source w refl cs
     ∙ ap (λ (i : Inputs). changed i (changesBy (commitsLeft [] l))) (same-start (takenBack l) opened)
 
 -- ---- each of them was accepted and not taken back

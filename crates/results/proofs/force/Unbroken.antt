@@ -16,7 +16,7 @@ use Rattle.maps.specs.declared.figures.Shown.the-variants.{Points}
 use Rattle.worksheet.specs.declared.inputs.Edit.{Edit}
 use Rattle.worksheet.specs.declared.desks.Worksheet.{Worksheet}
 use Rattle.worksheet.specs.Desks.{setOf, freshSheet, openOf}
-use Rattle.worksheet.specs.Showing.{Source, pair}
+use Rattle.worksheet.specs.Showing.{Source}
 use Rattle.worksheet.specs.Journal.{Call, begin, commit, cancel, change, takeBack, show, shown, Role, beginning, ending, settling, belonging, returning, showing, roleOf, Entry, good, run, isBegin, isOwn, belongs, own, keep, none}
 use Rattle.worksheet.specs.InForce.{editsIn, changed, changesBy, commitsInForce, inForce, takenBack, commitsLeft, startLeft, FiguresOf, disturbs, NeverCancelled, Insured}
 use Rattle.worksheet.proofs.drafts.Drafts.{atRest}
@@ -195,13 +195,13 @@ insurers-sentence-lent source w rest cs before later lent figures count h =
           (never-cancelled source w rest (r .0) e (subst (λ (k : List Edit). List·Memᴰ e k) edits m));
     }
 
--- for every record and month file, lent throughout, and every worksheet that open gives: from the
--- inputs that it was opened with
-pub insurers-sentence : (f2 file : List ℕ) (opened : Inputs) → openOf opened .answer ≡ Accepted
+-- for every source of files and every worksheet that open gives: from the inputs that it was opened
+-- with
+pub insurers-sentence : (source : Source) (opened : Inputs) → openOf opened .answer ≡ Accepted
     → (cs : List Call) (before later : List Entry) (lent figures : List Float) (count : ℕ)
-    → run (pair f2 file) cs (openOf opened .sheet) .entries ≡ before ++ (record { call = show 0 lent; answer = shown (Points count) figures } ∷ later)
-    → Insured (pair f2 file) opened before count figures
+    → run source cs (openOf opened .sheet) .entries ≡ before ++ (record { call = show 0 lent; answer = shown (Points count) figures } ∷ later)
+    → Insured source opened before count figures
 unfolding openOf freshSheet setOf
-insurers-sentence f2 file opened given cs before later lent figures count h =
-    subst (λ (i : Inputs). Insured (pair f2 file) i before count figures) (same-start (takenBack before) opened)
-    (insurers-sentence-lent (pair f2 file) (openOf opened .sheet) refl cs before later lent figures count h)
+insurers-sentence source opened given cs before later lent figures count h =
+    subst (λ (i : Inputs). Insured source i before count figures) (same-start (takenBack before) opened)
+    (insurers-sentence-lent source (openOf opened .sheet) refl cs before later lent figures count h)

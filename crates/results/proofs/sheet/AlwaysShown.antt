@@ -1,33 +1,35 @@
 -- On a worksheet that opens, the inputs, the earlier set and every draft stay in range, whatever
 -- the calls: a change is judged before it is made, and nothing else makes new numbers. So over
--- files that pass their checks every showing of the worksheet in a buffer of 151 numbers is
--- accepted. Assumes nothing.
+-- files that pass their checks, a pair or a year's, every showing of the worksheet in a buffer of 151
+-- numbers is accepted. Assumes nothing.
 use mathlib.Core.List.{List, [], _∷_}
+use mathlib.Core.Bool.{true}
 use mathlib.Core.Path.{_≡_, ap}
 use Prim.Native.Nat.{ℕ}
 use lib.ListN.{length}
 use lib.Ieee.{Float}
+use Rattle.base.specs.declared.refusal.Refusal.the-variants.{Month, Model}
 use Rattle.base.specs.declared.refusal.Verdict.{Verdict}
 use Rattle.base.specs.declared.refusal.Verdict.the-variants.{Accepted}
 use Rattle.base.specs.Refusal.{_then_, writtenOver}
-use Rattle.base.specs.Ranges.{monthCheck, hourCheck}
+use Rattle.base.specs.Ranges.{isMonth, isBit, monthCheck, hourCheck, modelCheck}
 use Rattle.base.specs.Files.{filesCheck}
-use Rattle.base.proofs.verdicts.Refusals.{then-both}
+use Rattle.base.proofs.verdicts.Refusals.{then-both, passed}
 use Rattle.maps.specs.declared.inputs.Inputs.{Inputs}
 use Rattle.maps.specs.declared.figures.Shown.the-variants.{Points}
 use Rattle.maps.specs.Figures.{sheetPath, figuresOf, pointsOr}
 use Rattle.worksheet.specs.declared.inputs.Edit.{Edit}
-use Rattle.worksheet.specs.declared.inputs.Edit.the-variants.{Sunspot, Hour, Path, Psc, Pole}
+use Rattle.worksheet.specs.declared.inputs.Edit.the-variants.{Sunspot, Hour, Path, Psc, Pole, Month as Monthly, Model as Modelled}
 use Rattle.worksheet.specs.declared.desks.Worksheet.{Worksheet}
 use Rattle.worksheet.specs.Inputs.{sunspotCheck, routeCheck, factorsCheck, poleCheck, inputsCheck, editCheck, edited}
 use Rattle.worksheet.specs.Desks.{freshSheet, openOf, SheetHas}
-use Rattle.worksheet.specs.Showing.{Source, pair, inputsShown, askedCheck, bufferCheck, drawnCheck, judgedCheck, showCheck, showOf, showBuffer}
+use Rattle.worksheet.specs.Showing.{Files, Source, pair, yearFilesCheck, yearly, inputsShown, askedCheck, bufferCheck, drawnCheck, judgedCheck, showCheck, showOf, showBuffer}
 use Rattle.worksheet.specs.Journal.{Call, show, shown, step, run}
 use Rattle.worksheet.proofs.drafts.Keeps.{step-keeps}
 
 -- ---- inputs in range, and a change of them that is judged
 
-abbrev InRange : Inputs → Type 0
+abbrev pub InRange : Inputs → Type 0
 InRange i = inputsCheck i ≡ Accepted
 
 record Ranges (i : Inputs) : Type 0 where
@@ -37,6 +39,7 @@ record Ranges (i : Inputs) : Type 0 where
   route : routeCheck (i .route) ≡ Accepted
   psc : factorsCheck (i .psc) ≡ Accepted
   pole : poleCheck (i .pole) ≡ Accepted
+  model : modelCheck (i .model) ≡ Accepted
 
 each : (i : Inputs) → InRange i → Ranges i
 unfolding inputsCheck
@@ -46,30 +49,44 @@ each i h =
     let c = then-both (hourCheck (i .gmt)) _ (b .1) in
     let d = then-both (routeCheck (i .route)) _ (c .1) in
     let e = then-both (factorsCheck (i .psc)) _ (d .1) in
-    record { month = a .0; ssn = b .0; gmt = c .0; route = d .0; psc = e .0; pole = e .1 }
+    let f = then-both (poleCheck (i .pole)) _ (e .1) in
+    record { month = a .0; ssn = b .0; gmt = c .0; route = d .0; psc = e .0; pole = f .0; model = f .1 }
 
 all : (i : Inputs) → Ranges i → InRange i
 unfolding inputsCheck
-all i r = λ t. r .month t then r .ssn t then r .gmt t then r .route t then r .psc t then r .pole t
+all i r = λ t. r .month t then r .ssn t then r .gmt t then r .route t then r .psc t then r .pole t then r .model t
 
 module _ (x : Inputs) (h : InRange x) where
   edited-range : (e : Edit) → editCheck e ≡ Accepted → InRange (edited e x)
   unfolding edited editCheck
   edited-range (Sunspot s) k =
       let r = each x h in
-      all _ (record { month = r .month; ssn = k; gmt = r .gmt; route = r .route; psc = r .psc; pole = r .pole })
+      all _ (record { month = r .month; ssn = k; gmt = r .gmt; route = r .route; psc = r .psc; pole = r .pole; model = r .model })
   edited-range (Hour s) k =
       let r = each x h in
-      all _ (record { month = r .month; ssn = r .ssn; gmt = k; route = r .route; psc = r .psc; pole = r .pole })
+      all _ (record { month = r .month; ssn = r .ssn; gmt = k; route = r .route; psc = r .psc; pole = r .pole; model = r .model })
   edited-range (Path s) k =
       let r = each x h in
-      all _ (record { month = r .month; ssn = r .ssn; gmt = r .gmt; route = k; psc = r .psc; pole = r .pole })
+      all _ (record { month = r .month; ssn = r .ssn; gmt = r .gmt; route = k; psc = r .psc; pole = r .pole; model = r .model })
   edited-range (Psc s) k =
       let r = each x h in
-      all _ (record { month = r .month; ssn = r .ssn; gmt = r .gmt; route = r .route; psc = k; pole = r .pole })
+      all _ (record { month = r .month; ssn = r .ssn; gmt = r .gmt; route = r .route; psc = k; pole = r .pole; model = r .model })
   edited-range (Pole s) k =
       let r = each x h in
-      all _ (record { month = r .month; ssn = r .ssn; gmt = r .gmt; route = r .route; psc = r .psc; pole = k })
+      all _ (record { month = r .month; ssn = r .ssn; gmt = r .gmt; route = r .route; psc = r .psc; pole = k; model = r .model })
+  edited-range (Monthly s) k =
+      let r = each x h in
+      all _ (record { month = k; ssn = r .ssn; gmt = r .gmt; route = r .route; psc = r .psc; pole = r .pole; model = r .model })
+  edited-range (Modelled s) k =
+      let r = each x h in
+      all _ (record { month = r .month; ssn = r .ssn; gmt = r .gmt; route = r .route; psc = r .psc; pole = r .pole; model = k })
+
+-- the month is one, and the model is one
+pub month-and-model : (i : Inputs) → InRange i → (isMonth (i .month) ≡ true) × (isBit (i .model) ≡ true)
+unfolding monthCheck modelCheck
+month-and-model i h =
+    let r = each i h in
+    (passed (isMonth (i .month)) Month (r .month), passed (isBit (i .model)) Model (r .model))
 
 -- ---- every call keeps a worksheet in range
 
@@ -99,29 +116,50 @@ fits : (lent : List Float) → length lent ≡ 151 → bufferCheck (length lent)
 unfolding bufferCheck
 fits lent h = ap bufferCheck h
 
-module _ (f2 file : List ℕ) (good : filesCheck f2 file ≡ Accepted) where
-  -- a worksheet with inputs in range
-  shown-sheet : (w : Worksheet) → inputsCheck (w .inputs) ≡ Accepted → (lent : List Float) → length lent ≡ 151 →
-      step (pair f2 file) (show 0 lent) w .answer
-      ≡ shown (Points (sheetPath (w .inputs) .count)) (figuresOf f2 file (w .inputs))
-  unfolding step showOf showBuffer showCheck judgedCheck askedCheck inputsShown drawnCheck
-  shown-sheet w h lent l =
-      let i = w .inputs in
-      let b = fits lent l in
-      let e : (inputsCheck i then bufferCheck (length lent) then Accepted then filesCheck f2 file) ≡ Accepted =
-      λ t. h t then b t then Accepted then good t in
-      ap (λ (v : Verdict). shown (pointsOr v (sheetPath i .count)) (writtenOver v (figuresOf f2 file i) lent)) e
+-- the files of some inputs pass their checks
+abbrev Good : Files → Type 0
+Good files = (files .verdict then filesCheck (files .f2) (files .file)) ≡ Accepted
 
+-- a worksheet with inputs in range, over good files
+shown-sheet : (source : Source) (w : Worksheet) → inputsCheck (w .inputs) ≡ Accepted → Good (source (w .inputs)) →
+    (lent : List Float) → length lent ≡ 151 → let files = source (w .inputs) in
+    step source (show 0 lent) w .answer
+    ≡ shown (Points (sheetPath (w .inputs) .count)) (figuresOf (files .f2) (files .file) (w .inputs))
+unfolding step showOf showBuffer showCheck judgedCheck askedCheck inputsShown drawnCheck
+shown-sheet source w h good lent l =
+    let i = w .inputs in
+    let f = source i in
+    let b = fits lent l in
+    let e : (inputsCheck i then bufferCheck (length lent) then f .verdict then filesCheck (f .f2) (f .file)) ≡ Accepted =
+    λ t. h t then b t then good t in
+    ap (λ (v : Verdict). shown (pointsOr v (sheetPath i .count)) (writtenOver v (figuresOf (f .f2) (f .file) i) lent)) e
+
+module _ (f2 file : List ℕ) (good : filesCheck f2 file ≡ Accepted) where
   pub always-shown : (i : Inputs) → openOf i .answer ≡ Accepted → (cs : List Call) →
       (lent : List Float) → length lent ≡ 151 →
       let w = run (pair f2 file) cs (openOf i .sheet) .sheet in
       step (pair f2 file) (show 0 lent) w .answer
       ≡ shown (Points (sheetPath (w .inputs) .count)) (figuresOf f2 file (w .inputs))
-  always-shown i h cs = shown-sheet _ (stay-in-range (pair f2 file) i h cs)
+  always-shown i h cs = shown-sheet (pair f2 file) _ (stay-in-range (pair f2 file) i h cs) good
 
   -- the list of no calls
   pub first-showing : (i : Inputs) → openOf i .answer ≡ Accepted → (lent : List Float) → length lent ≡ 151 →
       step (pair f2 file) (show 0 lent) (openOf i .sheet) .answer
       ≡ shown (Points (sheetPath i .count)) (figuresOf f2 file i)
   unfolding openOf freshSheet
-  first-showing i h = shown-sheet (openOf i .sheet) h
+  first-showing i h = shown-sheet (pair f2 file) (openOf i .sheet) h good
+
+-- over a year file that refuses nothing of the month and model that the inputs have then
+pub year-shown : (s : List ℕ) (i : Inputs) → openOf i .answer ≡ Accepted → (cs : List Call) (lent : List Float) → length lent ≡ 151 →
+    let w = run (yearly s) cs (openOf i .sheet) .sheet in
+    let files = yearly s (w .inputs) in
+    yearFilesCheck s (w .inputs .month) (w .inputs .model) ≡ Accepted →
+    step (yearly s) (show 0 lent) w .answer
+    ≡ shown (Points (sheetPath (w .inputs) .count)) (figuresOf (files .f2) (files .file) (w .inputs))
+unfolding yearFilesCheck
+year-shown s i h cs lent l good =
+    let w = run (yearly s) cs (openOf i .sheet) .sheet in
+    let month = w .inputs .month in
+    let model = w .inputs .model in
+    let both = then-both (monthCheck month then modelCheck model) _ good in
+    shown-sheet (yearly s) w (stay-in-range (yearly s) i h cs) (both .1) lent l

@@ -11,7 +11,7 @@ use Rattle.base.proofs.verdicts.Refusals.{accepted-by-number}
 use Rattle.maps.specs.declared.figures.Shown.{Shown}
 use Rattle.maps.specs.declared.figures.Shown.the-variants.{Points, Refused as NotShown}
 use Rattle.worksheet.specs.Desks.{openedOf}
-use Rattle.worksheet.specs.Showing.{Source, pair, showOf, showBuffer}
+use Rattle.worksheet.specs.Showing.{Source, showOf, showBuffer}
 use Rattle.worksheet.specs.Journal.{Call, show, Answer, shown, Entry, step, entryOf}
 use Rattle.worksheet.specs.InForce.{Insured}
 use Rattle.jutetrowel.specs.declared.answers.Showing.{Showing}
@@ -49,14 +49,13 @@ singles-after (d ∷ cs) c h k = (h .0, singles-after cs c (h .1) k)
 -- ---- the insurer's sentence
 
 pub insurers-sentence-handed :
-    (f2 file s words : List ℕ) → openedOf s .answer ≡ Accepted → (cs : List Call) → CallsSingles cs →
+    (source : Source) (s words : List ℕ) → openedOf s .answer ≡ Accepted → (cs : List Call) → CallsSingles cs →
     (lent figures : List Float) (r : Showing) → let l = wordsAfter (openedOf s) words in
-    Shows (step (pair f2 file) (show 0 lent) (worksheetOf (wordsOver (pair f2 file) cs l)) .answer) r figures →
+    Shows (step source (show 0 lent) (worksheetOf (wordsOver source cs l)) .answer) r figures →
     r .number ≡ 0 →
-    Insured (pair f2 file) (openedOf s .sheet .inputs) (entriesOver (pair f2 file) cs l) (r .points) figures
+    Insured source (openedOf s .sheet .inputs) (entriesOver source cs l) (r .points) figures
 unfolding step
-insurers-sentence-handed f2 file s words h cs k lent figures r given zero =
-    let source = pair f2 file in
+insurers-sentence-handed source s words h cs k lent figures r given zero =
     let l = wordsAfter (openedOf s) words in
     let w = worksheetOf (wordsOver source cs l) in
     let number : showingOf (showOf source 0 lent w) .number ≡ 0 =
@@ -67,6 +66,6 @@ insurers-sentence-handed f2 file s words h cs k lent figures r given zero =
     let x : Entry = record { call = show 0 lent; answer = shown (Points (r .points)) figures } in
     let last : entryOf source (show 0 lent) w ≡ x =
     λ t. record { call = show 0 lent; answer = shown (points t) (whole t) } in
-    insurers-sentence-opened f2 file s words h (cs ++ (show 0 lent ∷ [])) (singles-after cs (show 0 lent) k tt)
+    insurers-sentence-opened source s words h (cs ++ (show 0 lent ∷ [])) (singles-after cs (show 0 lent) k tt)
     (entriesOver source cs l) [] lent figures (r .points)
     (entries-after source cs (show 0 lent) l ∙ ap (λ (y : Entry). entriesOver source cs l ++ (y ∷ [])) last)

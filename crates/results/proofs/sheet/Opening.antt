@@ -6,7 +6,7 @@ use lib.Ieee.{round, le, ofBits}
 use Rattle.base.specs.declared.refusal.Verdict.the-variants.{Accepted}
 use Rattle.base.specs.Single.{decimal, minusDecimal}
 use Rattle.base.specs.Words.{wordAt}
-use Rattle.base.specs.Ranges.{monthCheck, hourCheck, latitudeCheck, longitudeCheck}
+use Rattle.base.specs.Ranges.{monthCheck, hourCheck, latitudeCheck, longitudeCheck, modelCheck}
 use Rattle.maps.specs.Inputs.{routeFrom, factorsFrom, poleFrom, inputsFrom}
 use Rattle.worksheet.specs.Inputs.{sunspotCheck, factorCheck, flagCheck, routeCheck, factorsCheck, poleCheck, inputsCheck}
 use Rattle.worksheet.specs.Desks.{openOf, openedOf}
@@ -38,5 +38,5 @@ unfolding all-below
 of-bytes = below-all 256 openingBytes tt
 
 pub opens : openedOf openingBytes .answer ≡ Accepted
-unfolding openedOf openOf inputsFrom routeFrom factorsFrom poleFrom wordAt ofBits inputsCheck monthCheck sunspotCheck hourCheck routeCheck latitudeCheck longitudeCheck flagCheck factorsCheck factorCheck poleCheck decimal minusDecimal round le
+unfolding openedOf openOf inputsFrom routeFrom factorsFrom poleFrom wordAt ofBits inputsCheck monthCheck sunspotCheck hourCheck routeCheck latitudeCheck longitudeCheck flagCheck factorsCheck factorCheck poleCheck modelCheck decimal minusDecimal round le
 opens = refl

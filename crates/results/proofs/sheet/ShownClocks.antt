@@ -1,5 +1,5 @@
 -- Document 01, Figures: the clock of every point that a showing shows 'is above 0 and at most 24',
--- at its place in the buffer. By what the 14 fields' check leaves of the hour and the route.
+-- at its place in the buffer. By what the 15 fields' check leaves of the hour and the route.
 -- Assumes nothing.
 use Prim.Native.Nat.{ℕ, _+_, _*_, _-_, _≤_}
 use mathlib.Core.Bool.{true}
@@ -15,7 +15,7 @@ use Rattle.base.specs.declared.refusal.Verdict.{Verdict}
 use Rattle.base.specs.declared.refusal.Verdict.the-variants.{Accepted, Refused}
 use Rattle.base.specs.Refusal.{_then_, writtenOver}
 use Rattle.base.specs.Single.{decimal, minusDecimal}
-use Rattle.base.specs.Ranges.{isTo, monthCheck, hourCheck, latitudeCheck, longitudeCheck}
+use Rattle.base.specs.Ranges.{isTo, monthCheck, hourCheck, latitudeCheck, longitudeCheck, modelCheck}
 use Rattle.base.proofs.order.Order.{Between}
 use Rattle.maps.specs.declared.inputs.Inputs.{Inputs}
 use Rattle.maps.specs.declared.inputs.Route.{Route}
@@ -63,7 +63,7 @@ pub in-range : (i : Inputs) → inputsCheck i ≡ Accepted
     → Hour (i .gmt) × Typed (i .route .tlat) (i .route .tlong) × Typed (i .route .rlat) (i .route .rlong)
 unfolding inputsCheck
 in-range i h =
-    let rest = factorsCheck (i .psc) then poleCheck (i .pole) in
+    let rest = factorsCheck (i .psc) then poleCheck (i .pole) then modelCheck (i .model) in
     let a = then-both (monthCheck (i .month)) (sunspotCheck (i .ssn) then hourCheck (i .gmt) then routeCheck (i .route) then rest) h in
     let b = then-both (sunspotCheck (i .ssn)) (hourCheck (i .gmt) then routeCheck (i .route) then rest) (a .1) in
     let c = then-both (hourCheck (i .gmt)) (routeCheck (i .route) then rest) (b .1) in

@@ -14,17 +14,20 @@ use Rattle.base.specs.declared.refusal.Refusal.the-variants.{Figures}
 use Rattle.base.specs.declared.refusal.Verdict.{Verdict}
 use Rattle.base.specs.declared.refusal.Verdict.the-variants.{Accepted, Refused}
 use Rattle.base.specs.Refusal.{refuseUnless, _then_, writtenOver}
+use Rattle.base.specs.Ranges.{monthCheck, modelCheck}
 use Rattle.maps.specs.declared.inputs.Inputs.{Inputs}
 use Rattle.maps.specs.declared.figures.Shown.{Shown}
 use Rattle.maps.specs.declared.figures.Shown.the-variants.{Points, Refused as NotShown}
 use Rattle.base.specs.Files.{filesCheck}
+use Rattle.base.specs.MonthFile.{monthRecordCheck, monthPart}
+use Rattle.base.specs.Year.{partBytes, yearCheck, yearMonth, yearModel}
 use Rattle.maps.specs.Figures.{sheetPath, figuresOf, pointsOr, shownOf, figuresBuffer as mapsBuffer}
 use Rattle.base.specs.Fill.{fill, tabulate}
 use Rattle.base.proofs.lists.Fills.{fill-all}
 use Rattle.maps.proofs.lists.Written.{elements, all-elements}
 use Rattle.maps.proofs.sheet.Alone.{figures-length}
 use Rattle.worksheet.specs.declared.desks.Worksheet.{Worksheet}
-use Rattle.worksheet.specs.Showing.{Files, Source, pair, inputsShown, bufferCheck, drawnCheck, drawnOf, drawnBuffer, judgedCheck, showCheck, showOf, showBuffer}
+use Rattle.worksheet.specs.Showing.{Files, Source, pair, yearFiles, yearFilesCheck, yearly, inputsShown, bufferCheck, drawnCheck, drawnOf, drawnBuffer, judgedCheck, showCheck, showOf, showBuffer}
 
 -- ---- the figures' part, by its check
 
@@ -36,13 +39,24 @@ module _ (s : Files) (i : Inputs) (lent : List Float) {v : Verdict} (check : dra
     sym (ap (λ (z : Verdict). writtenOver z (figuresOf (s .f2) (s .file) i) lent) check),
   )
 
-module _ (f2 file : List ℕ) (i : Inputs) (lent : List Float) where
+module _ (s : Files) (i : Inputs) (lent : List Float) where
   -- the buffer has not 151 numbers
-  pub drawn-unfit : (length lent ≡ 151 → ⊥) → (NotShown Figures ≡ drawnOf (pair f2 file i) i lent) × (lent ≡ drawnBuffer (pair f2 file i) i lent)
+  pub drawn-unfit : (length lent ≡ 151 → ⊥) → (NotShown Figures ≡ drawnOf s i lent) × (lent ≡ drawnBuffer s i lent)
   unfolding drawnCheck bufferCheck
-  drawn-unfit h = drawn-as (pair f2 file i) i lent {v = Refused Figures} (ap (λ (b : Bool). refuseUnless b Figures then filesCheck f2 file) (ne-eqb (length lent) 151 h))
+  drawn-unfit h =
+      drawn-as s i lent {v = Refused Figures}
+      (ap (λ (b : Bool). refuseUnless b Figures then s .verdict then filesCheck (s .f2) (s .file)) (ne-eqb (length lent) 151 h))
 
-  -- it has: the files decide
+  -- it has: the source refuses the files before they are looked into
+  pub drawn-withheld : (why : Refusal) → length lent ≡ 151 → s .verdict ≡ Refused why
+      → (NotShown why ≡ drawnOf s i lent) × (lent ≡ drawnBuffer s i lent)
+  unfolding drawnCheck bufferCheck
+  drawn-withheld why n e =
+      drawn-as s i lent {v = Refused why}
+      (ap₂ (λ (b : Bool) (v : Verdict). refuseUnless b Figures then v then filesCheck (s .f2) (s .file)) (eq-eqb (length lent) 151 n) e)
+
+module _ (f2 file : List ℕ) (i : Inputs) (lent : List Float) where
+  -- the files decide
   fit : length lent ≡ 151 → drawnCheck (pair f2 file i) (length lent) ≡ filesCheck f2 file
   unfolding drawnCheck bufferCheck
   fit h = ap (λ (b : Bool). refuseUnless b Figures then filesCheck f2 file) (eq-eqb (length lent) 151 h)
@@ -73,6 +87,45 @@ module _ (f2 file : List ℕ) (i : Inputs) (lent : List Float) where
           → (NotShown why ≡ drawnOf (pair f2 file i) i lent) × (lent ≡ drawnBuffer (pair f2 file i) i lent)
       go Accepted e x = let z : _≡_ {A = ℕ} 0 1 = cc in absurd (omega arith)
       go (Refused other) e x = let d = drawn-as (pair f2 file i) i lent (fit n ∙ e) in (x ∙ d .0, d .1)
+
+-- ---- over a year file
+
+module _ (s : List ℕ) (month model : ℕ) {daw : List ℕ} (part : daw ≡ partBytes s (yearModel s model)) where
+  -- what the year's own check and the model's part refuse
+  abbrev yearVerdict : Verdict
+  yearVerdict = yearCheck s then monthRecordCheck daw month
+
+  -- the year's files, by the parts that were taken
+  taken : {f2 file : List ℕ} → f2 ≡ partBytes daw (monthPart daw month) → file ≡ partBytes s (yearMonth s month)
+      → record { verdict = yearVerdict; f2 = f2; file = file } ≡ yearFiles s month model
+  unfolding yearFiles
+  taken p q =
+      let r = p ∙ ap (λ (d : List ℕ). partBytes d (monthPart d month)) part in
+      λ t. record { verdict = yearCheck s then monthRecordCheck (part t) month; f2 = r t; file = q t }
+
+  pub year-files : {f2 file : List ℕ} → f2 ≡ partBytes daw (monthPart daw month) → file ≡ partBytes s (yearMonth s month)
+      → ((monthCheck month then modelCheck model) then yearVerdict then filesCheck f2 file) ≡ yearFilesCheck s month model
+  unfolding yearFilesCheck
+  year-files p q =
+      ap (λ (z : Files). (monthCheck month then modelCheck model) then z .verdict then filesCheck (z .f2) (z .file)) (taken p q)
+
+module _ (s : List ℕ) (i : Inputs) {daw : List ℕ} (part : daw ≡ partBytes s (yearModel s (i .model))) where
+  pub year-drawn : {f2 file : List ℕ} {after : List Float} {shown : Shown} (lent : List Float)
+      → (yearCheck s then monthRecordCheck daw (i .month)) ≡ Accepted
+      → f2 ≡ partBytes daw (monthPart daw (i .month)) → file ≡ partBytes s (yearMonth s (i .month))
+      → shown ≡ drawnOf (pair f2 file i) i lent → after ≡ drawnBuffer (pair f2 file i) i lent
+      → (shown ≡ drawnOf (yearly s i) i lent) × (after ≡ drawnBuffer (yearly s i) i lent)
+  year-drawn {f2} {file} lent e p q x y =
+      let same : pair f2 file i ≡ yearly s i =
+      (λ t. record { verdict = sym e t; f2 = f2; file = file }) ∙ taken s (i .month) (i .model) part p q in
+      (x ∙ ap (λ (z : Files). drawnOf z i lent) same, y ∙ ap (λ (z : Files). drawnBuffer z i lent) same)
+
+  pub year-withheld : (lent : List Float) (why : Refusal) → length lent ≡ 151
+      → (yearCheck s then monthRecordCheck daw (i .month)) ≡ Refused why
+      → (NotShown why ≡ drawnOf (yearly s i) i lent) × (lent ≡ drawnBuffer (yearly s i) i lent)
+  year-withheld lent why n e =
+      drawn-withheld (yearly s i) i lent why n
+      (ap (λ (z : Files). z .verdict) (sym (taken s (i .month) (i .model) part refl refl)) ∙ e)
 
 -- ---- the whole showing, by what is judged before
 

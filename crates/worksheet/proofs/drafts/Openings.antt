@@ -3,11 +3,11 @@ use mathlib.Core.List.{List, [], _∷_}
 use mathlib.Core.Path.{_≡_, refl, ap}
 use lib.Ieee.{Float, nan, round, le}
 use Rattle.base.specs.declared.angle.Degrees.{Degrees}
-use Rattle.base.specs.declared.refusal.Refusal.the-variants.{Month, Sunspot, Hour, Latitude, Longitude, Factor, Flag}
+use Rattle.base.specs.declared.refusal.Refusal.the-variants.{Month, Sunspot, Hour, Latitude, Longitude, Factor, Flag, Model}
 use Rattle.base.specs.declared.refusal.Verdict.the-variants.{Accepted, Refused}
 use Rattle.base.specs.Single.{decimal, minusDecimal}
 use Rattle.base.specs.Words.{wordAt}
-use Rattle.base.specs.Ranges.{monthCheck, hourCheck, latitudeCheck, longitudeCheck}
+use Rattle.base.specs.Ranges.{monthCheck, hourCheck, latitudeCheck, longitudeCheck, modelCheck}
 use Rattle.maps.specs.Inputs.{inputsFrom}
 use Rattle.worksheet.specs.Inputs.{sunspotCheck, factorCheck, flagCheck, inputsCheck}
 use Rattle.base.specs.declared.refusal.Refusal.{Refusal}
@@ -17,12 +17,12 @@ use lib.ListN.{length}
 use Rattle.maps.specs.declared.inputs.Inputs.{Inputs}
 use Rattle.maps.specs.declared.figures.Shown.the-variants.{Refused as NotShown}
 use Rattle.maps.specs.Figures.{sheetPath, pointsOr}
-use Rattle.worksheet.specs.Desks.{freshSheet, openOf, openedOf}
+use Rattle.worksheet.specs.Desks.{freshSheet, openOf, sheetOpenedOf}
 use Rattle.worksheet.specs.Showing.{Source, inputsShown, askedCheck, judgedCheck, drawnCheck, showCheck, showOf}
 
 -- 'Empty input prints exactly `refused 1 1`': every byte counts as 0
-pub no-words : openedOf [] .answer ≡ Refused Month
-unfolding openedOf openOf inputsCheck monthCheck inputsFrom wordAt
+pub no-words : sheetOpenedOf [] .answer ≡ Refused Month
+unfolding sheetOpenedOf openOf inputsCheck monthCheck inputsFrom wordAt
 no-words = refl
 
 -- what stands beside a refused opening: its own showing is refused by the same field, whatever is
@@ -69,3 +69,7 @@ factors = refl
 pub flags : flagCheck 0 ∷ flagCheck 1 ∷ flagCheck 2 ∷ [] ≡ Accepted ∷ Accepted ∷ Refused Flag ∷ []
 unfolding flagCheck
 flags = refl
+
+pub models : modelCheck 0 ∷ modelCheck 1 ∷ modelCheck 2 ∷ modelCheck 4294967295 ∷ [] ≡ Accepted ∷ Accepted ∷ Refused Model ∷ Refused Model ∷ []
+unfolding modelCheck
+models = refl

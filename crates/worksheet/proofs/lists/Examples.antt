@@ -11,7 +11,7 @@ use Rattle.maps.specs.declared.inputs.Inputs.{Inputs}
 use Rattle.maps.specs.declared.figures.Shown.the-variants.{Refused as NotShown}
 use Rattle.worksheet.specs.declared.inputs.Edit.{Edit}
 use Rattle.worksheet.specs.declared.inputs.Edit.the-variants.{Sunspot, Hour}
-use Rattle.base.specs.Ranges.{monthCheck, hourCheck, latitudeCheck, longitudeCheck}
+use Rattle.base.specs.Ranges.{monthCheck, hourCheck, latitudeCheck, longitudeCheck, modelCheck}
 use Rattle.worksheet.specs.Inputs.{sunspotCheck, factorCheck, flagCheck, routeCheck, factorsCheck, poleCheck, inputsCheck, editCheck, edited}
 use Rattle.worksheet.specs.Desks.{draftAt, withDraft, inputsOf, staleOf, movedTo, outcome, deskCheck, closedCheck, draftCheck, freshCheck, earlierCheck, freshSheet, openOf, beginCheck, beginOf, changeCheck, editedDraft, changeOf, commitCheck, commitOf, cancelCheck, cancelOf, setOf, takeBackOf}
 use Rattle.worksheet.specs.Showing.{Source, inputsShown, askedCheck, bufferCheck, drawnCheck, judgedCheck, showCheck, showOf, showBuffer}
@@ -35,7 +35,7 @@ late = Hour (decimal 25 0)
 -- inputs that no open accepts, which a worksheet handed in may hold all the same: every showing of
 -- them is refused
 abbrev outOfRange : Inputs → Inputs
-outOfRange i = record { month = 1; ssn = decimal 100 0; gmt = decimal 25 0; route = i .route; psc = i .psc; pole = i .pole }
+outOfRange i = record { month = 1; ssn = decimal 100 0; gmt = decimal 25 0; route = i .route; psc = i .psc; pole = i .pole; model = 0 }
 
 -- inputs that open accepts
 abbrev pub inRange : Inputs
@@ -46,10 +46,11 @@ inRange = record {
   route = record { tlat = degrees (decimal 0 1); tlong = degrees (decimal 0 1); rlat = degrees (decimal 90 0); rlong = degrees (decimal 0 1); «long_path» = 0 };
   psc = record { e = decimal 1 0; f1 = decimal 1 0; f2 = decimal 1 0; es = decimal 1 0 };
   pole = record { lat = degrees (decimal 785 1); lon = degrees (decimal 0 1) };
+  model = 0;
 }
 
 pub in-range : openOf inRange .answer ≡ Accepted
-unfolding openOf inputsCheck monthCheck sunspotCheck hourCheck routeCheck latitudeCheck longitudeCheck flagCheck factorsCheck factorCheck poleCheck decimal minusDecimal round le
+unfolding openOf inputsCheck monthCheck sunspotCheck hourCheck routeCheck latitudeCheck longitudeCheck flagCheck factorsCheck factorCheck poleCheck modelCheck decimal minusDecimal round le
 in-range = refl
 
 abbrev entry : Call → Answer → Entry
@@ -59,7 +60,7 @@ module _ (source : Source) (i : Inputs) (x : Float) (a b c d : List Float) where
   -- the entries of a run on a worksheet just opened, and the shorter list's; every rule is open to
   -- computation
   full : Inputs → List Call → List Entry
-  unfolding run step freshSheet draftAt withDraft inputsOf staleOf movedTo outcome deskCheck closedCheck draftCheck freshCheck earlierCheck beginCheck beginOf changeCheck editedDraft changeOf commitCheck commitOf cancelCheck cancelOf setOf takeBackOf editCheck edited sunspotCheck hourCheck monthCheck latitudeCheck longitudeCheck factorCheck flagCheck routeCheck factorsCheck poleCheck inputsCheck inputsShown askedCheck bufferCheck drawnCheck judgedCheck showCheck showOf showBuffer decimal minusDecimal round le
+  unfolding run step freshSheet draftAt withDraft inputsOf staleOf movedTo outcome deskCheck closedCheck draftCheck freshCheck earlierCheck beginCheck beginOf changeCheck editedDraft changeOf commitCheck commitOf cancelCheck cancelOf setOf takeBackOf editCheck edited sunspotCheck hourCheck monthCheck latitudeCheck longitudeCheck factorCheck flagCheck routeCheck factorsCheck poleCheck modelCheck inputsCheck inputsShown askedCheck bufferCheck drawnCheck judgedCheck showCheck showOf showBuffer decimal minusDecimal round le
   full j cs = run source cs (freshSheet j) .entries
 
   short : Inputs → List Call → List Entry

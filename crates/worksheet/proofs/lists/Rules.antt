@@ -18,7 +18,7 @@ use Rattle.worksheet.specs.declared.desks.Worksheet.{Worksheet}
 use Rattle.base.specs.Refusal.{_then_, writtenOver}
 use Rattle.worksheet.specs.Inputs.{inputsCheck, edited}
 use Rattle.worksheet.specs.Desks.{draftAt, withDraft, inputsOf, movedTo, deskCheck, draftCheck, freshSheet, openOf, editedDraft}
-use Rattle.worksheet.specs.Showing.{Source, pair, inputsShown, askedCheck, drawnCheck, judgedCheck, showCheck, showOf, showBuffer}
+use Rattle.worksheet.specs.Showing.{Source, inputsShown, askedCheck, drawnCheck, judgedCheck, showCheck, showOf, showBuffer}
 use Rattle.worksheet.specs.Journal.{Call, begin, commit, cancel, change, takeBack, show, shown, Role, beginning, ending, settling, belonging, returning, showing, roleOf, accepted, Step, step, Demand3}
 use Rattle.worksheet.specs.InForce.{changed}
 use Rattle.worksheet.proofs.drafts.Drafts.{atRest, FreshAt, alone, closed-not-fresh, fresh-same, rest-draft, rest-with, inputs-with, earlier-with, with-with, with-fresh, with-draft, with-other, moved-not-fresh, moved-rest, settled-not-fresh, settled-rest}
@@ -188,8 +188,7 @@ module _ (source : Source) where
   pub demand-3-lent : (w : Worksheet) → atRest w ≡ w → (cs : List Call) → Demand3 source w cs
   demand-3-lent w h cs = alike source law w h cs
 
--- DEMAND 3: for every record and month file, every worksheet that open gives, and every list of
--- calls
-pub demand-3 : (f2 file : List ℕ) (i : Inputs) → openOf i .answer ≡ Accepted → (cs : List Call) → Demand3 (pair f2 file) (openOf i .sheet) cs
+-- DEMAND 3: for every source of files, every worksheet that open gives, and every list of calls
+pub demand-3 : (source : Source) (i : Inputs) → openOf i .answer ≡ Accepted → (cs : List Call) → Demand3 source (openOf i .sheet) cs
 unfolding openOf freshSheet
-demand-3 f2 file i h cs = demand-3-lent (pair f2 file) (openOf i .sheet) refl cs
+demand-3 source i h cs = demand-3-lent source (openOf i .sheet) refl cs

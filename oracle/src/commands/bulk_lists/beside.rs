@@ -3,10 +3,9 @@
 use super::drawn::{List, Start};
 use crate::bits::F32;
 use crate::commands::buffer::Buffer;
-use crate::draw::data_files::Pair;
 use crate::draw::generator::Generator;
 use crate::model::desks::lent::Lent;
-use crate::model::desks::library::{Desks, Told};
+use crate::model::desks::library::{Desks, Files, Told};
 use crate::model::desks::programs::Replayed;
 use crate::model::desks::words::{self, Words, WORDS};
 use crate::model::desks::{Answer, Call};
@@ -16,16 +15,11 @@ pub fn run(
     desks: &impl Desks,
     random: &mut Generator,
     list: &List,
-    files: &Pair,
+    files: &Files,
     lent: &Lent,
 ) -> (Replayed, Option<String>) {
     let (mut given, mut first) = started(desks, random, &list.start);
-    let mut replayed = Replayed {
-        opened: list.start.worksheet(),
-        calls: Vec::new(),
-        answers: Vec::new(),
-        stopped: None,
-    };
+    let mut replayed = Replayed::of(list.start.worksheet());
     let Ok(mut sheet) = replayed.opened else {
         return (replayed, first);
     };
@@ -66,7 +60,7 @@ fn one_call(
     random: &mut Generator,
     sheet: &mut Words,
     call: &Call,
-    files: &Pair,
+    files: &Files,
     answer: &Answer,
 ) -> Option<String> {
     let Call::Show(_, length) = call else {

@@ -1,26 +1,25 @@
 //! Many lists, each with a library and the model beside it.
 
 use super::beside;
-use super::drawn::{self, List, Start};
+use super::drawn::{self, Draw, List, Start};
 use crate::commands::journals::counts::Counts;
-use crate::draw::data_files::Pair;
 use crate::draw::generator::Generator;
 use crate::model::desks::lent::Lent;
-use crate::model::desks::library::Desks;
+use crate::model::desks::library::{Desks, Files};
 use crate::model::desks::shorter::check;
 
-/// Lists for each pair of files, which takes longer to make than a list.
+/// Lists over the same files, which take longer to make than a list.
 const LISTS: u64 = 20;
 
-pub fn run(desks: &impl Desks, count: u64, seed: u64) -> Result<(), String> {
+pub fn run(desks: &impl Desks, draw: Draw, count: u64, seed: u64) -> Result<(), String> {
     let mut compared = Compared::default();
     for case in 0..count.div_ceil(LISTS) {
         let mut random = Generator::of_case(seed, case);
-        let pair = drawn::files(&mut random);
-        let lent = Lent::new(&pair.daw, &pair.month);
+        let files = draw(&mut random);
+        let lent = files.lent();
         for number in 0..LISTS.min(count - case * LISTS) {
             let list = drawn::list(&mut random);
-            let one = compared.one(desks, &mut random, list, (&pair, &lent));
+            let one = compared.one(desks, &mut random, list, (&files, &lent));
             one.map_err(|text| format!("list {number} of case {case}: {text}"))?;
         }
     }
@@ -46,7 +45,7 @@ impl Compared {
         desks: &impl Desks,
         random: &mut Generator,
         list: List,
-        files: (&Pair, &Lent),
+        files: (&Files, &Lent),
     ) -> Result<(), String> {
         self.lists += 1;
         self.both(desks, random, &list, files);
@@ -66,9 +65,9 @@ impl Compared {
         desks: &impl Desks,
         random: &mut Generator,
         list: &List,
-        (pair, lent): (&Pair, &Lent),
+        (files, lent): (&Files, &Lent),
     ) {
-        let (replayed, difference) = beside::run(desks, random, list, pair, lent);
+        let (replayed, difference) = beside::run(desks, random, list, files, lent);
         self.calls += replayed.calls.len();
         match list.start {
             Start::Open(_) => self.counts.note(&replayed),

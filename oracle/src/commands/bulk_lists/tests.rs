@@ -2,15 +2,20 @@
 //! library, with one slip at a time.
 
 use super::compared::run;
-use crate::draw::data_files::Pair;
+use super::drawn::{pair, year};
+use crate::model::desks::fields::{Inputs, FIELDS};
 use crate::model::desks::lent::Lent;
-use crate::model::desks::library::{Desks, Told};
+use crate::model::desks::library::{Desks, Files, Told};
 use crate::model::desks::programs::inputs;
 use crate::model::desks::words::{self, Words};
 use crate::model::desks::{Answer, Call, Draft, Worksheet};
 
-/// Answers as the model does; `slip` may change what is given back.
-struct Model<Slip>(Slip);
+/// Answers as the model does; `shown` may change what a showing is of, and `slip`
+/// what is given back.
+struct Model<Slip> {
+    shown: fn(&mut Inputs),
+    slip: Slip,
+}
 
 type Given<'a> = (
     &'a Call,
@@ -21,13 +26,19 @@ type Given<'a> = (
 );
 
 fn with<Slip: Fn(Given)>(slip: Slip) -> Result<(), String> {
-    run(&Model(slip), 60, 1)
+    let shown = |_: &mut Inputs| {};
+    run(&Model { shown, slip }, pair, 60, 1)
+}
+
+fn over_years(shown: fn(&mut Inputs)) -> Result<(), String> {
+    let slip = |_: Given| {};
+    run(&Model { shown, slip }, year, 60, 1)
 }
 
 /// The worksheet of these words, as they are written.
 fn held(words: &Words) -> Worksheet {
-    let mut sets = words.chunks(15).map(|set| {
-        let inputs = set[1..].try_into().expect("14 fields");
+    let mut sets = words.chunks(1 + FIELDS).map(|set| {
+        let inputs = set[1..].try_into().expect("15 fields");
         (set[0], inputs)
     });
     let mut next = || sets.next().expect("six sets");
@@ -44,6 +55,18 @@ fn held(words: &Words) -> Worksheet {
     }
 }
 
+impl<Slip> Model<Slip> {
+    /// The worksheet as a showing takes it.
+    fn seen(&self, held: &Worksheet) -> Worksheet {
+        let mut sheet = *held;
+        (self.shown)(&mut sheet.inputs);
+        for draft in sheet.drafts.iter_mut().flatten() {
+            (self.shown)(&mut draft.inputs);
+        }
+        sheet
+    }
+}
+
 impl<Slip: Fn(Given)> Desks for Model<Slip> {
     fn open(&self, open: &[u8], sheet: &mut Words) -> Told {
         let opened = Worksheet::open(inputs(open));
@@ -56,9 +79,12 @@ impl<Slip: Fn(Given)> Desks for Model<Slip> {
         }
     }
 
-    fn call(&self, sheet: &mut Words, call: &Call, files: &Pair, out: &mut [f32]) -> Told {
+    fn call(&self, sheet: &mut Words, call: &Call, files: &Files, out: &mut [f32]) -> Told {
         let held = held(sheet);
-        let answer = held.answer(call, &Lent::new(&files.daw, &files.month));
+        let answer = match call {
+            Call::Show(..) => self.seen(&held).answer(call, &files.lent()),
+            _ => held.answer(call, &Lent::pair(&[], &[])),
+        };
         *sheet = words::of(&held.after(call));
         if let Answer::Points(shown) = &answer {
             for (v, word) in out.iter_mut().zip(shown.words) {
@@ -66,7 +92,7 @@ impl<Slip: Fn(Given)> Desks for Model<Slip> {
             }
         }
         let mut told = Told::wanted(&answer);
-        (self.0)((call, &answer, sheet, out, &mut told));
+        (self.slip)((call, &answer, sheet, out, &mut told));
         told
     }
 }
@@ -74,6 +100,15 @@ impl<Slip: Fn(Given)> Desks for Model<Slip> {
 #[test]
 fn the_model_agrees_with_itself() {
     assert_eq!(with(|_| {}), Ok(()));
+    assert_eq!(over_years(|_| {}), Ok(()));
+}
+
+#[test]
+fn wrong_parts_are_found_out() {
+    // Always CCIR, always January's files, the next month's.
+    assert!(over_years(|inputs| inputs[FIELDS - 1] &= !1).is_err());
+    assert!(over_years(|inputs| inputs[0] = inputs[0].min(1)).is_err());
+    assert!(over_years(|inputs| inputs[0] = inputs[0] % 12 + 1).is_err());
 }
 
 #[test]
@@ -110,14 +145,14 @@ fn slips_are_found_out() {
     assert!(with(place).is_err());
     let refused = |(_, answer, sheet, _, _): Given| {
         if answer.is_refused() {
-            sheet[89] ^= 1;
+            sheet[95] ^= 1;
         }
     };
     assert!(with(refused).is_err());
     // A cancel that leaves the draft's words behind.
     let cancelled = |(call, answer, sheet, _, _): Given| {
         if let (Call::Cancel(1), Answer::Accepted) = (call, answer) {
-            sheet[32] = 1;
+            sheet[33] = 1;
         }
     };
     assert!(with(cancelled).is_err());

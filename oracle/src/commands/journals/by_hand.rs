@@ -1,13 +1,13 @@
 //! Lists that tell one rule each.
 
-use crate::model::desks::fields::{self, Inputs};
+use crate::model::desks::fields::{self, Inputs, URSI};
 use crate::model::desks::{Call, Edit};
 use crate::reference::sheets::FIGURES;
 use Call::{Begin, Cancel, Commit, TakeBack};
 
-const SHOW: Call = show(0);
+pub const SHOW: Call = show(0);
 
-const fn show(desk: u32) -> Call {
+pub const fn show(desk: u32) -> Call {
     Call::Show(desk, FIGURES)
 }
 
@@ -19,20 +19,20 @@ pub fn inputs() -> Inputs {
     fields::inputs(6, numbers, false)
 }
 
-fn sunspots(desk: u32, v: f32) -> Call {
+pub fn sunspots(desk: u32, v: f32) -> Call {
     Call::Change(desk, Edit::Sunspots(v.to_bits()))
 }
 
-fn hour(desk: u32, v: f32) -> Call {
+pub fn hour(desk: u32, v: f32) -> Call {
     Call::Change(desk, Edit::Hour(v.to_bits()))
 }
 
-fn path(desk: u32, ends: [f32; 4], flag: u32) -> Call {
+pub fn path(desk: u32, ends: [f32; 4], flag: u32) -> Call {
     let ends = ends.map(f32::to_bits);
     Call::Change(desk, Edit::Path { ends, flag })
 }
 
-fn factors(desk: u32, values: [f32; 4]) -> Call {
+pub fn factors(desk: u32, values: [f32; 4]) -> Call {
     Call::Change(desk, Edit::Factors(values.map(f32::to_bits)))
 }
 
@@ -40,11 +40,19 @@ fn pole(desk: u32, lat: f32, lon: f32) -> Call {
     Call::Change(desk, Edit::Pole([lat, lon].map(f32::to_bits)))
 }
 
-/// Far enough for five points.
-const FAR: [f32; 4] = [60.0, 5.0, -30.0, 15.0];
+pub fn month(desk: u32, word: u32) -> Call {
+    Call::Change(desk, Edit::Month(word))
+}
 
-const SHORT: u32 = 0;
-const LONG: u32 = 1;
+pub fn model(desk: u32, word: u32) -> Call {
+    Call::Change(desk, Edit::Model(word))
+}
+
+/// Far enough for five points.
+pub const FAR: [f32; 4] = [60.0, 5.0, -30.0, 15.0];
+
+pub const SHORT: u32 = 0;
+pub const LONG: u32 = 1;
 /// Some would be 0 or 1 if cut to a byte or to two, or without their highest
 /// bit; one is 1.0.
 const NO_FLAGS: [u32; 8] = [2, 3, 256, 257, 65_537, 0x3f80_0000, 0x8000_0000, u32::MAX];
@@ -213,6 +221,15 @@ pub fn lists() -> Vec<Vec<Call>> {
     }
     lists.extend(NO_FLAGS.map(bad_flag));
     lists
+}
+
+/// Lists that end with a whole call which only a journal over a year file knows:
+/// for a desk with a draft, for one without, and for none.
+pub fn of_a_year() -> Vec<Vec<Call>> {
+    let desks = [1, 2, 5].into_iter();
+    let last = desks.flat_map(|desk| [month(desk, 7), model(desk, URSI)]);
+    last.map(|call| vec![Begin(1), hour(1, 18.0), call])
+        .collect()
 }
 
 /// A bad flag is refused after desk, draft and the path's numbers; it leaves the

@@ -1,12 +1,13 @@
 //! What the journals must show of the call rules and of each clause of demand
-//! 3's shorter list.
+//! 3's shorter list, and over a year file of months and models.
 
+use crate::model::desks::fields::{model, month, Inputs};
 use crate::model::desks::programs::Replayed;
 use crate::model::desks::shorter::Answered;
 use crate::model::desks::{Answer, Call, Draft, Edit, Worksheet};
 
 /// One call of a replayed journal.
-struct Seen<'a> {
+pub struct Seen<'a> {
     list: Answered<'a>,
     /// The worksheet before each call.
     before: &'a [Worksheet],
@@ -70,8 +71,31 @@ impl Seen<'_> {
     }
 
     fn refused_with(&self, numbers: &[u32]) -> bool {
-        let answer = &self.list.answers[self.i];
+        self.is_refused(self.i, numbers)
+    }
+
+    fn is_refused(&self, i: usize, numbers: &[u32]) -> bool {
+        let answer = &self.list.answers[i];
         matches!(answer, Answer::Refused(refusal) if numbers.contains(&refusal.number))
+    }
+
+    /// This desk's draft differs from the worksheet in a field.
+    fn differs(&self, field: fn(&Inputs) -> u32) -> bool {
+        let own = self.draft().map(|draft| field(&draft.inputs));
+        own.is_some_and(|word| word != field(&self.sheet().inputs))
+    }
+
+    /// Another desk has a draft that is such beside this desk's.
+    fn other_draft(&self, wanted: fn(&Inputs, &Inputs) -> bool) -> bool {
+        let mut drafts = self.sheet().drafts.iter().flatten();
+        let own = self.draft();
+        own.is_some_and(|own| drafts.any(|draft| wanted(&own.inputs, &draft.inputs)))
+    }
+
+    /// The earlier set has another word in a field.
+    fn takes_back(&self, field: fn(&Inputs) -> u32) -> bool {
+        let earlier = self.sheet().earlier.as_ref().map(field);
+        earlier.is_some_and(|word| word != field(&self.sheet().inputs))
     }
 
     /// Refused as stale, and the last accepted commit or take-back before was
@@ -87,6 +111,22 @@ impl Seen<'_> {
 /// The path of a change has a flag that is neither 0 nor 1.
 fn bad_flag(call: &Call) -> bool {
     matches!(call, Call::Change(_, Edit::Path { flag: 2.., .. }))
+}
+
+fn is_month(edit: &Edit) -> bool {
+    matches!(edit, Edit::Month(_))
+}
+
+fn is_model(edit: &Edit) -> bool {
+    matches!(edit, Edit::Model(_))
+}
+
+fn bad_month(call: &Call) -> bool {
+    matches!(call, Call::Change(_, Edit::Month(0 | 13..)))
+}
+
+fn bad_model(call: &Call) -> bool {
+    matches!(call, Call::Change(_, Edit::Model(2..)))
 }
 
 /// The desk that a call names; 0 for a take-back.
@@ -133,9 +173,9 @@ fn show_worksheet(call: &Call) -> bool {
     matches!(call, Call::Show(0, _))
 }
 
-type Clause = (&'static str, fn(&Seen) -> bool);
+pub type Clause = (&'static str, fn(&Seen) -> bool);
 
-const CLAUSES: [Clause; 37] = [
+pub const DEMAND_3: [Clause; 30] = [
     ("cancelled after changes", |s| {
         s.accepted(cancel) && s.had(|_| true)
     }),
@@ -253,6 +293,9 @@ const CLAUSES: [Clause; 37] = [
         let taken = |i: usize, call: &Call| take_back(call) && s.is_accepted(i);
         show_worksheet(s.call()) && s.sheet().earlier.is_none() && s.earlier(taken)
     }),
+];
+
+pub const BAD_FLAGS: [Clause; 7] = [
     ("bad flag after good numbers", |s| {
         bad_flag(s.call()) && s.refused_with(&[7])
     }),
@@ -279,19 +322,89 @@ const CLAUSES: [Clause; 37] = [
     }),
 ];
 
-pub struct Clauses {
-    counts: [u64; CLAUSES.len()],
-}
+/// Of months and models, which a year file has.
+pub const OVER_A_YEAR: [Clause; 21] = [
+    ("draft shown in a changed month", |s| {
+        s.accepted(show_draft) && s.had(is_month)
+    }),
+    ("draft shown with a changed model", |s| {
+        s.accepted(show_draft) && s.had(is_model)
+    }),
+    ("draft shown with both changed", |s| {
+        s.accepted(show_draft) && s.had(is_month) && s.had(is_model)
+    }),
+    ("drafts of two months, one of them shown", |s| {
+        s.accepted(show_draft) && s.other_draft(|own, other| month(own) != month(other))
+    }),
+    ("drafts of two models, one of them shown", |s| {
+        s.accepted(show_draft) && s.other_draft(|own, other| model(own) != model(other))
+    }),
+    ("stale draft shown in a month of its own", |s| {
+        s.accepted(show_draft) && s.is_stale() && s.differs(month)
+    }),
+    ("stale draft shown with a model of its own", |s| {
+        s.accepted(show_draft) && s.is_stale() && s.differs(model)
+    }),
+    ("commit of another month, then shown", |s| {
+        s.accepted(commit) && s.differs(month) && s.later(|_, call| show_worksheet(call))
+    }),
+    ("commit of another model, then shown", |s| {
+        s.accepted(commit) && s.differs(model) && s.later(|_, call| show_worksheet(call))
+    }),
+    ("cancelled after a month, then shown", |s| {
+        s.accepted(cancel) && s.had(is_month) && s.later(|_, call| show_worksheet(call))
+    }),
+    ("cancelled after a model, then shown", |s| {
+        s.accepted(cancel) && s.had(is_model) && s.later(|_, call| show_worksheet(call))
+    }),
+    ("take-back of a month, then shown", |s| {
+        s.accepted(take_back) && s.takes_back(month) && s.later(|_, call| show_worksheet(call))
+    }),
+    ("take-back of a model, then shown", |s| {
+        s.accepted(take_back) && s.takes_back(model) && s.later(|_, call| show_worksheet(call))
+    }),
+    ("bad month of a draft", |s| {
+        bad_month(s.call()) && s.refused_with(&[1])
+    }),
+    ("bad month without a draft", |s| {
+        bad_month(s.call()) && s.refused_with(&[16])
+    }),
+    ("bad month at no desk", |s| {
+        bad_month(s.call()) && s.refused_with(&[14])
+    }),
+    ("bad model of a draft", |s| {
+        bad_model(s.call()) && s.refused_with(&[7])
+    }),
+    ("bad model without a draft", |s| {
+        bad_model(s.call()) && s.refused_with(&[16])
+    }),
+    ("bad model at no desk", |s| {
+        bad_model(s.call()) && s.refused_with(&[14])
+    }),
+    ("draft shown after a bad month or model", |s| {
+        let desk = s.desk();
+        let bad = |call: &Call| bad_month(call) || bad_model(call);
+        s.accepted(show_draft) && s.since_begin(|_, call| bad(call) && self::desk(call) == desk)
+    }),
+    ("shown after a part that was refused", |s| {
+        let refused = |i: usize, call: &Call| {
+            (show_draft(call) || show_worksheet(call)) && s.is_refused(i, &[8, 9, 10, 11])
+        };
+        (s.accepted(show_draft) || s.accepted(show_worksheet)) && s.earlier(refused)
+    }),
+];
 
-impl Default for Clauses {
-    fn default() -> Self {
-        Self {
-            counts: [0; CLAUSES.len()],
-        }
-    }
+pub struct Clauses {
+    counts: Vec<(Clause, u64)>,
 }
 
 impl Clauses {
+    pub fn of(clauses: &[Clause]) -> Self {
+        Self {
+            counts: clauses.iter().map(|clause| (*clause, 0)).collect(),
+        }
+    }
+
     pub fn note(&mut self, replayed: &Replayed) {
         let Ok(mut sheet) = replayed.opened else {
             return;
@@ -308,22 +421,21 @@ impl Clauses {
         for i in 0..list.calls.len() {
             let before = &before;
             let seen = Seen { list, before, i };
-            for (count, (_, holds)) in self.counts.iter_mut().zip(CLAUSES) {
+            for ((_, holds), count) in &mut self.counts {
                 *count += u64::from(holds(&seen));
             }
         }
     }
 
     pub fn print(&self) {
-        for (count, (name, _)) in self.counts.iter().zip(CLAUSES) {
+        for ((name, _), count) in &self.counts {
             println!("{count:>10}  {name}");
         }
     }
 
     pub fn refuse_rare(&self, least: u64) -> Result<(), String> {
-        let mut all = self.counts.iter().zip(CLAUSES);
-        match all.find(|(count, _)| **count < least) {
-            Some((_, (name, _))) => Err(format!("{name} is too rare")),
+        match self.counts.iter().find(|(_, count)| *count < least) {
+            Some(((name, _), _)) => Err(format!("{name} is too rare")),
             None => Ok(()),
         }
     }

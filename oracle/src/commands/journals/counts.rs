@@ -34,12 +34,15 @@ const BY_CHANGES: [(&str, u32, u32); 13] = [
     ("change pole", 5, 14),
 ];
 /// What the desks refuse calls with, beside numbers out of range.
-const BY_DESKS: [u32; 6] = [7, 14, 15, 16, 17, 18];
+pub const BY_DESKS: [u32; 6] = [7, 14, 15, 16, 17, 18];
 const BY_OPEN: [u32; 14] = [1, 2, 3, 4, 5, 4, 5, 7, 6, 6, 6, 6, 4, 5];
+
+/// A call's name and an answer.
+pub type Key = (&'static str, String);
 
 #[derive(Default)]
 pub struct Counts {
-    counts: BTreeMap<(&'static str, String), u64>,
+    counts: BTreeMap<Key, u64>,
 }
 
 impl Counts {
@@ -96,31 +99,31 @@ impl Counts {
             .sum()
     }
 
-    pub fn print_refusals(&self) {
-        for number in BY_DESKS {
+    pub fn print_refusals(&self, numbers: &[u32]) {
+        for number in numbers {
             println!(
                 "{:>10}  refused {number}, by all calls",
-                self.of_refusal(number)
+                self.of_refusal(*number)
             );
         }
     }
 
-    pub fn refuse_rare_refusals(&self, least: u64) -> Result<(), String> {
-        let mut all = BY_DESKS.into_iter();
-        match all.find(|number| self.of_refusal(*number) < least) {
+    pub fn refuse_rare_refusals(&self, numbers: &[u32], least: u64) -> Result<(), String> {
+        let mut all = numbers.iter();
+        match all.find(|number| self.of_refusal(**number) < least) {
             Some(number) => Err(format!("refusal {number} is too rare")),
             None => Ok(()),
         }
     }
 
-    /// Every answer that a call can get from good files must have come, those
-    /// of an open at least `opens` times.
-    pub fn refuse_rare(&self, least: u64, opens: u64) -> Result<(), String> {
-        let rare = |(name, answer): &(&'static str, String)| {
+    /// Every answer that is possible must have come, those of an open at least
+    /// `opens` times.
+    pub fn refuse_rare(&self, possible: &[Key], least: u64, opens: u64) -> Result<(), String> {
+        let rare = |(name, answer): &Key| {
             let least = if *name == "open" { opens } else { least };
             self.of(name, answer) < least
         };
-        match possible().iter().find(|key| rare(key)) {
+        match possible.iter().find(|key| rare(key)) {
             Some((name, answer)) => Err(format!("{name}: {answer} is too rare")),
             None => Ok(()),
         }
@@ -135,6 +138,8 @@ fn name(call: &Call) -> &'static str {
         Call::Change(_, Edit::Path { .. }) => "change path",
         Call::Change(_, Edit::Factors(_)) => "change factors",
         Call::Change(_, Edit::Pole(_)) => "change pole",
+        Call::Change(_, Edit::Month(_)) => "change month",
+        Call::Change(_, Edit::Model(_)) => "change model",
         Call::Commit(_) => "commit",
         Call::Cancel(_) => "cancel",
         Call::TakeBack => "take back",
@@ -159,10 +164,33 @@ fn text_of(refusal: Option<&Refusal>) -> String {
     }
 }
 
+fn refused(number: u32, place: u32) -> String {
+    text_of(Some(&Refusal { number, place }))
+}
+
+fn accepted() -> String {
+    text_of(None)
+}
+
+/// What each call over a year file can answer: over a good one, and what its
+/// showings can be refused with over others.
+pub fn possible_over_a_year() -> Vec<Key> {
+    let mut all = possible();
+    all.push(("open", refused(7, 15)));
+    for (name, number, place) in [("change month", 1, 1), ("change model", 7, 15)] {
+        let refusals = [(14, 0), (16, 0), (number, place)];
+        all.extend(refusals.map(|(number, place)| (name, refused(number, place))));
+        all.push((name, accepted()));
+    }
+    for name in ["show the worksheet", "show a draft"] {
+        all.extend((1..=14).map(|pair| (name, refused(19, pair))));
+        all.extend([8, 9, 10].map(|number| (name, refused(number, 0))));
+    }
+    all
+}
+
 /// What each call can answer when its files are good and its buffer is right.
-fn possible() -> Vec<(&'static str, String)> {
-    let refused = |number: u32, place: u32| text_of(Some(&Refusal { number, place }));
-    let accepted = || text_of(None);
+pub fn possible() -> Vec<Key> {
     let mut all = vec![
         ("open", accepted()),
         ("begin", accepted()),

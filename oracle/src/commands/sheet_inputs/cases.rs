@@ -4,8 +4,8 @@
 use crate::draw::damage::set_byte;
 use crate::draw::data_files::Pair;
 use crate::draw::generator::Generator;
-use crate::draw::sheet_kinds::in_range;
-use crate::model::desks::fields::{self, range, Inputs, Range, FIELDS};
+use crate::draw::sheet_kinds::inputs;
+use crate::model::desks::fields::{self, range, Inputs, Range, SHEET_FIELDS};
 use crate::model::desks::programs::{CALLS, HEAD, MONTH};
 use crate::month_file::{markers, push_words, BYTES};
 use crate::reference::voacap::coefficients::F2_RECORD_BYTES;
@@ -72,7 +72,7 @@ impl Case {
         set_byte(&mut month, self.place, self.value);
         month.resize(self.month as usize, FURTHER);
         let mut input = Vec::new();
-        push_words(&mut input, &self.fields);
+        push_words(&mut input, &self.fields[..SHEET_FIELDS]);
         input.extend(&pair.daw[..self.record as usize]);
         input.extend(month);
         input.truncate(self.total as usize);
@@ -110,7 +110,7 @@ fn good() -> Vec<Case> {
         cases.push(Case::whole(std::array::from_fn(|i| end(i + 1, high))));
     }
     let mut random = Generator::new(702);
-    cases.extend((0..8).map(|_| Case::whole(in_range(&mut random).words())));
+    cases.extend((0..8).map(|_| Case::whole(inputs(&mut random))));
     // Longer than needed.
     for further in [1, 3, 4, 1000] {
         cases.push(Case::whole(usual()).with_files(F2_RECORD_BYTES, BYTES + further));
@@ -170,7 +170,7 @@ fn cuts() -> Vec<Case> {
 /// input is whole, and the others end with the 14 words.
 fn bad_fields() -> Vec<Case> {
     let mut cases = Vec::new();
-    for field in 1..=FIELDS {
+    for field in 1..=SHEET_FIELDS {
         let words = match range(field) {
             Range::Whole(low, high) => {
                 let mut words = vec![high + 1, 256 + low, 1 << 31, u32::MAX, 1f32.to_bits()];
@@ -196,7 +196,7 @@ fn bad_fields() -> Vec<Case> {
 /// Two bad fields or more, and a bad field with bad files: the first decides.
 fn several_bad() -> Vec<Case> {
     let mut cases = Vec::new();
-    for first in 1..=FIELDS {
+    for first in 1..=SHEET_FIELDS {
         let mut inputs = usual();
         inputs[first - 1..].fill(u32::MAX);
         cases.push(Case::whole(inputs).cut(HEAD));

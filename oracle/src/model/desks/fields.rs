@@ -1,13 +1,19 @@
-//! The 14 fields of a worksheet's inputs and their ranges.
+//! The 15 fields of a worksheet's inputs and their ranges.
 
 use super::Refusal;
 use crate::reference::routes::{end, Route};
 use crate::reference::sheets::Sheet;
 
-pub const FIELDS: usize = 14;
+/// The fields of a sheet over an F2 record and a month file: all but the model.
+pub const SHEET_FIELDS: usize = 14;
+pub const FIELDS: usize = SHEET_FIELDS + 1;
 
-/// In document 01's order: month and flag as whole numbers, the others as f32
-/// bits.
+/// The F2 models, as field 15 has them.
+pub const CCIR: u32 = 0;
+pub const URSI: u32 = 1;
+
+/// In the documents' order: month, flag and model as whole numbers, the others
+/// as f32 bits.
 pub type Inputs = [u32; FIELDS];
 
 #[derive(Debug, Clone, Copy, PartialEq)]
@@ -30,6 +36,7 @@ const LATITUDE: (u32, Range) = (4, Range::Number(-90.0, 90.0));
 const LONGITUDE: (u32, Range) = (5, Range::Number(-180.0, 180.0));
 const FLAG: (u32, Range) = (7, Range::Whole(0, 1));
 const FACTOR: (u32, Range) = (6, Range::Number(0.125, 8.0));
+const MODEL: (u32, Range) = (7, Range::Whole(CCIR, URSI));
 
 /// Each field's refusal and range.
 const ALL: [(u32, Range); FIELDS] = [
@@ -47,9 +54,10 @@ const ALL: [(u32, Range); FIELDS] = [
     FACTOR,
     LATITUDE,
     LONGITUDE,
+    MODEL,
 ];
 
-/// The range of a field by its number, 1 to 14.
+/// The range of a field by its number, 1 to 15.
 pub fn range(field: usize) -> Range {
     ALL[field - 1].1
 }
@@ -67,16 +75,41 @@ pub fn check(first: usize, words: &[u32]) -> Result<(), Refusal> {
     Ok(())
 }
 
-/// A month, the 12 numbers in their order, and the flag in its place.
+pub fn month(inputs: &Inputs) -> u32 {
+    inputs[0]
+}
+
+pub fn model(inputs: &Inputs) -> u32 {
+    inputs[FIELDS - 1]
+}
+
+/// The words of a sheet's fields, and the model after them.
+pub fn with_model(words: [u32; SHEET_FIELDS], model: u32) -> Inputs {
+    let mut inputs = [model; FIELDS];
+    inputs[..SHEET_FIELDS].copy_from_slice(&words);
+    inputs
+}
+
+/// The same inputs in another month and with another model.
+pub fn moved_to(mut inputs: Inputs, month: u32, model: u32) -> Inputs {
+    inputs[0] = month;
+    inputs[FIELDS - 1] = model;
+    inputs
+}
+
+/// A month, the 12 numbers in their order, and the flag in its place; the model
+/// is CCIR.
 pub fn inputs(month: u32, numbers: [f32; 12], long: bool) -> Inputs {
     let [ssn, gmt, tlat, tlon, rlat, rlon, e, f1, f2, es, lat, lon] = numbers.map(f32::to_bits);
     let long = long.into();
-    [
+    let words = [
         month, ssn, gmt, tlat, tlon, rlat, rlon, long, e, f1, f2, es, lat, lon,
-    ]
+    ];
+    with_model(words, CCIR)
 }
 
-/// The sheet that these inputs, all in range, ask the Rust for.
+/// The sheet that these inputs, all in range, ask the Rust for. Its files are
+/// those of the model.
 pub fn sheet(inputs: &Inputs) -> Sheet {
     let number = |field: usize| f32::from_bits(inputs[field - 1]);
     let route = Route {
@@ -86,7 +119,7 @@ pub fn sheet(inputs: &Inputs) -> Sheet {
         pole: end(number(13), number(14)),
     };
     Sheet {
-        month: inputs[0],
+        month: month(inputs),
         ssn: number(2),
         gmt: number(3),
         route,
@@ -96,7 +129,7 @@ pub fn sheet(inputs: &Inputs) -> Sheet {
 
 #[cfg(test)]
 mod tests {
-    use super::sheet;
+    use super::{model, sheet, with_model, URSI};
     use crate::draw::generator::Generator;
     use crate::draw::sheet_kinds::in_range;
 
@@ -105,7 +138,9 @@ mod tests {
         let mut random = Generator::new(5);
         for _ in 0..100 {
             let words = in_range(&mut random).words();
-            assert_eq!(sheet(&words).words(), words);
+            let inputs = with_model(words, URSI);
+            assert_eq!(sheet(&inputs).words(), words);
+            assert_eq!(model(&inputs), URSI);
         }
     }
 }

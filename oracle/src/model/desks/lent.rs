@@ -1,14 +1,19 @@
-//! An F2 record and a month file that are lent to showings, and the Rust's
-//! figures made of them.
+//! What is lent to showings: an F2 record and a month file, or a year file. What
+//! is refused of it, and the Rust's figures made of it.
 
-use super::fields::{sheet, Inputs};
-use super::Refusal;
-use crate::reference::files::{put, read};
+use super::fields::{self, sheet, Inputs, CCIR};
+use super::{at_no_place, Refusal};
+use crate::model::year::{of_model, of_month, places, PARTS};
+use crate::reference::files::{put, put_year, read_of};
 use crate::reference::sheets::{plain, refusal, FIGURES};
-use crate::reference::voacap::coefficients::{CoefficientSet, F2_RECORD_BYTES};
+use crate::reference::voacap::coefficients::{CoefficientSet, FoF2Model, F2_RECORD_BYTES};
 use std::cell::RefCell;
 use std::collections::HashMap;
+use std::ops::Range;
 use std::rc::Rc;
+
+const NO_BUFFER: Refusal = at_no_place(12);
+const NO_RECORD: Refusal = at_no_place(8);
 
 /// The number of points and the figures, every NaN as one word.
 #[derive(Debug, Clone, Copy, PartialEq, Eq)]
@@ -17,24 +22,90 @@ pub struct Shown {
     pub words: [u32; FIGURES],
 }
 
+/// Month and model by which the Rust chooses its files.
+type Choice = (u32, u32);
+
+enum Source {
+    /// An F2 record and a month file: those of every month and model.
+    Pair { record: Vec<u8>, month: Vec<u8> },
+    /// The parts of a year file, or what is refused of its directory.
+    Year(Result<[Rc<[u8]>; PARTS], Refusal>),
+}
+
+impl Source {
+    /// What inputs choose. The Rust finds a pair as January's and CCIR's.
+    fn choice(&self, inputs: &Inputs) -> Choice {
+        match self {
+            Source::Pair { .. } => (1, CCIR),
+            Source::Year(_) => (fields::month(inputs), fields::model(inputs)),
+        }
+    }
+
+    fn check(&self, (month, model): Choice) -> Result<(), Refusal> {
+        match self {
+            Source::Pair { record, month } => of_files(record, month),
+            Source::Year(Err(refusal)) => Err(*refusal),
+            Source::Year(Ok(parts)) => {
+                let record = record_in(&parts[of_model(model)], month)?;
+                of_files(record, &parts[of_month(month)])
+            }
+        }
+    }
+
+    /// Holds all files for the Rust: others may have been there in between.
+    fn put(&self) {
+        match self {
+            Source::Pair { record, month } => put(&record[..F2_RECORD_BYTES], month, 1),
+            Source::Year(parts) => put_year(parts.as_ref().expect("a good directory")),
+        }
+    }
+}
+
+/// 'Refusal 8 is given when the chosen model's part has under month × 7,904
+/// bytes.'
+fn record_in(part: &[u8], month: u32) -> Result<&[u8], Refusal> {
+    let end = month as usize * F2_RECORD_BYTES;
+    if part.len() < end {
+        return Err(NO_RECORD);
+    }
+    Ok(&part[end - F2_RECORD_BYTES..end])
+}
+
+/// What is refused of a record and a month file; places count from the start of
+/// each.
+fn of_files(record: &[u8], month: &[u8]) -> Result<(), Refusal> {
+    match refusal(record, month, FIGURES) {
+        (0, 0) => Ok(()),
+        (number, place) => Err(Refusal { number, place }),
+    }
+}
+
 pub struct Lent {
-    record: Vec<u8>,
-    month: Vec<u8>,
-    /// What a showing with a right buffer is refused with.
-    refusal: Option<Refusal>,
-    /// What was worked out before.
+    source: Source,
+    /// What was judged, shown and read before. The Rust's maps depend on month,
+    /// model and the bits of the sunspot number alone.
+    judged: RefCell<HashMap<Choice, Result<(), Refusal>>>,
     known: RefCell<HashMap<Inputs, Rc<Shown>>>,
-    /// The Rust's maps by the bits of the sunspot number, which alone they
-    /// depend on: any month has this record and this month file.
-    sets: RefCell<HashMap<u32, Rc<CoefficientSet>>>,
+    sets: RefCell<HashMap<(Choice, u32), Rc<CoefficientSet>>>,
 }
 
 impl Lent {
-    pub fn new(record: &[u8], month: &[u8]) -> Self {
-        Self {
+    pub fn pair(record: &[u8], month: &[u8]) -> Self {
+        Self::of(Source::Pair {
             record: record.to_vec(),
             month: month.to_vec(),
-            refusal: of_files(record, month, FIGURES),
+        })
+    }
+
+    pub fn year(file: &[u8]) -> Self {
+        let part = |place: Range<usize>| Rc::from(&file[place]);
+        Self::of(Source::Year(places(file).map(|places| places.map(part))))
+    }
+
+    fn of(source: Source) -> Self {
+        Self {
+            source,
+            judged: RefCell::default(),
             known: RefCell::default(),
             sets: RefCell::default(),
         }
@@ -42,14 +113,17 @@ impl Lent {
 
     /// The figures of inputs in range, unless buffer or files are refused.
     pub fn figures(&self, inputs: &Inputs, buffer: usize) -> Result<Rc<Shown>, Refusal> {
-        let refusal = match buffer {
-            FIGURES => self.refusal,
-            _ => of_files(&self.record, &self.month, buffer),
-        };
-        match refusal {
-            Some(refusal) => Err(refusal),
-            None => Ok(self.known_or_new(inputs)),
+        if buffer != FIGURES {
+            return Err(NO_BUFFER);
         }
+        self.check(self.source.choice(inputs))?;
+        Ok(self.known_or_new(inputs))
+    }
+
+    fn check(&self, choice: Choice) -> Result<(), Refusal> {
+        let mut judged = self.judged.borrow_mut();
+        let verdict = judged.entry(choice);
+        *verdict.or_insert_with(|| self.source.check(choice))
     }
 
     fn known_or_new(&self, inputs: &Inputs) -> Rc<Shown> {
@@ -62,29 +136,32 @@ impl Lent {
 
     fn work_out(&self, inputs: &Inputs) -> Shown {
         let sheet = sheet(inputs);
-        let figures = plain(&sheet, &self.set(sheet.ssn));
+        let set = self.set(self.source.choice(inputs), sheet.ssn);
+        let figures = plain(&sheet, &set);
         Shown {
             points: figures.points,
             words: figures.words(),
         }
     }
 
-    fn set(&self, ssn: f32) -> Rc<CoefficientSet> {
+    fn set(&self, choice: Choice, ssn: f32) -> Rc<CoefficientSet> {
         let mut sets = self.sets.borrow_mut();
-        let set = sets.entry(ssn.to_bits());
-        set.or_insert_with(|| Rc::new(self.read(ssn))).clone()
+        let set = sets.entry((choice, ssn.to_bits()));
+        set.or_insert_with(|| Rc::new(self.read(choice, ssn)))
+            .clone()
     }
 
-    /// Both files are put each time: another pair may have been in between.
-    fn read(&self, ssn: f32) -> CoefficientSet {
-        put(&self.record[..F2_RECORD_BYTES], &self.month, 1);
-        read(1, ssn).expect("both files are good")
+    /// Month and model choose among the files in the Rust itself.
+    fn read(&self, (month, model): Choice, ssn: f32) -> CoefficientSet {
+        self.source.put();
+        read_of(family(model), month, ssn).expect("both files are good")
     }
 }
 
-fn of_files(record: &[u8], month: &[u8], buffer: usize) -> Option<Refusal> {
-    match refusal(record, month, buffer) {
-        (0, 0) => None,
-        (number, place) => Some(Refusal { number, place }),
+/// A model in range as the Rust has it.
+fn family(model: u32) -> FoF2Model {
+    match model {
+        CCIR => FoF2Model::Ccir,
+        _ => FoF2Model::Ursi,
     }
 }

@@ -1,5 +1,6 @@
-//! What a library is that keeps a worksheet in 90 words, as the port's does.
+//! What a library is that keeps a worksheet in 96 words, as the port's does.
 
+use super::lent::Lent;
 use super::words::Words;
 use super::{Answer, Call, Refusal};
 use crate::draw::data_files::Pair;
@@ -42,9 +43,26 @@ impl Told {
     }
 }
 
-/// The worksheet's calls over 90 lent words.
+/// The bytes that a showing is lent.
+pub enum Files {
+    /// An F2 record, with whatever stands behind it, and a month file.
+    Pair(Pair),
+    Year(Vec<u8>),
+}
+
+impl Files {
+    /// The same as the model has it.
+    pub fn lent(&self) -> Lent {
+        match self {
+            Files::Pair(Pair { daw, month }) => Lent::pair(daw, month),
+            Files::Year(file) => Lent::year(file),
+        }
+    }
+}
+
+/// The worksheet's calls over 96 lent words.
 pub trait Desks {
     fn open(&self, inputs: &[u8], sheet: &mut Words) -> Told;
     /// The buffer is a showing's; to other calls it is empty.
-    fn call(&self, sheet: &mut Words, call: &Call, files: &Pair, out: &mut [f32]) -> Told;
+    fn call(&self, sheet: &mut Words, call: &Call, files: &Files, out: &mut [f32]) -> Told;
 }

@@ -1,9 +1,9 @@
 //! What the program `sheet page` prints: a line for each field and each figure,
 //! with its name, its decimals, its bits and its unit.
 
-use super::fields::Inputs;
+use super::fields::{Inputs, SHEET_FIELDS};
 use super::lent::Shown;
-use super::programs::{inputs, sheet, sheet_text};
+use super::programs::{sheet, sheet_inputs, sheet_text};
 use crate::reference::sheets::{FIGURES, ROW};
 use std::fmt::Write;
 
@@ -76,7 +76,7 @@ const POINT: [Named; ROW] = [
 /// What `sheet page` prints for its input.
 pub fn page_text(input: &[u8]) -> String {
     match sheet(input) {
-        Ok(shown) => page(&inputs(input), &shown),
+        Ok(shown) => page(&sheet_inputs(input), &shown),
         refused => sheet_text(&refused),
     }
 }
@@ -84,16 +84,24 @@ pub fn page_text(input: &[u8]) -> String {
 /// The bits of the numbers on a page in their order: fields, path, points.
 pub fn printed(inputs: &Inputs, shown: &Shown) -> Vec<u32> {
     let figures = FIGURES - (5 - shown.points as usize) * ROW;
-    [&inputs[1..7], &inputs[8..], &shown.words[..figures]].concat()
+    let (before, after) = numbers(inputs);
+    [before, after, &shown.words[..figures]].concat()
+}
+
+/// The fields that are numbers, those before the flag and those after it. A sheet
+/// over a pair of files has no model.
+fn numbers(inputs: &Inputs) -> (&[u32], &[u32]) {
+    (&inputs[1..7], &inputs[8..SHEET_FIELDS])
 }
 
 fn page(inputs: &Inputs, shown: &Shown) -> String {
     let mut text = format!("{:<12}{}\n", "month", inputs[0]);
-    rows(&mut text, &BEFORE_FLAG, &inputs[1..7]);
+    let (before, after) = numbers(inputs);
+    rows(&mut text, &BEFORE_FLAG, before);
     if inputs[7] != 0 {
         text += "the long way round\n";
     }
-    rows(&mut text, &AFTER_FLAG, &inputs[8..]);
+    rows(&mut text, &AFTER_FLAG, after);
     let (path, points) = shown.words.split_at(FIGURES - 5 * ROW);
     rows(&mut text, &PATH, path);
     for (number, point) in (1..=shown.points).zip(points.chunks(ROW)) {

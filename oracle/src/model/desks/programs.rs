@@ -1,6 +1,7 @@
-//! What the programs `sheet` and `replay` print, from the bytes they read.
+//! What the programs `sheet`, `replay` and `replay year` print, from the bytes they
+//! read.
 
-use super::fields::{Inputs, FIELDS};
+use super::fields::{Inputs, FIELDS, SHEET_FIELDS};
 use super::lent::{Lent, Shown};
 use super::{Answer, Call, Edit, Refusal, Worksheet};
 use crate::month_file;
@@ -9,19 +10,36 @@ use crate::reference::voacap::coefficients::F2_RECORD_BYTES;
 use std::fmt::Write;
 use std::rc::Rc;
 
-/// The 14 words.
-pub const HEAD: usize = 4 * FIELDS;
+/// The 14 words of a sheet over a pair of files.
+pub const HEAD: usize = 4 * SHEET_FIELDS;
 /// Where the month file begins.
 pub const MONTH: usize = HEAD + F2_RECORD_BYTES;
-/// Where the calls of a journal begin.
+/// Where the calls of a journal over a pair of files begin.
 pub const CALLS: usize = MONTH + month_file::BYTES;
 
-/// The 14 words; bytes that are missing count as 0.
+/// The 15 words of a worksheet over a year file.
+pub const YEAR_HEAD: usize = 4 * FIELDS;
+/// Where the year file begins, after the word with its length.
+pub const YEAR: usize = YEAR_HEAD + 4;
+/// The length of the longest year file that is read.
+pub const LONGEST_YEAR: usize = 1_048_576;
+
+/// The highest operation of a journal over a pair of files, and over a year file.
+const PAIR_OPERATIONS: u32 = 10;
+const YEAR_OPERATIONS: u32 = 12;
+
+/// The 15 words; bytes that are missing count as 0.
 pub fn inputs(input: &[u8]) -> Inputs {
-    let mut bytes = [0; HEAD];
-    let given = input.len().min(HEAD);
+    let mut bytes = [0; YEAR_HEAD];
+    let given = input.len().min(YEAR_HEAD);
     bytes[..given].copy_from_slice(&input[..given]);
-    std::array::from_fn(|i| word(&bytes, i).expect("all 14 are there"))
+    std::array::from_fn(|i| word(&bytes, i).expect("all 15 are there"))
+}
+
+/// The 14 words. The model is not among them and counts as 0, as what is missing
+/// does.
+pub fn sheet_inputs(input: &[u8]) -> Inputs {
+    inputs(part(input, 0, HEAD))
 }
 
 /// The bytes from `start` to `end`, or as many of them as there are.
@@ -35,8 +53,8 @@ pub fn record(input: &[u8]) -> &[u8] {
 
 /// What the program `sheet` does with its input.
 pub fn sheet(input: &[u8]) -> Result<Rc<Shown>, Refusal> {
-    let lent = Lent::new(record(input), part(input, MONTH, input.len()));
-    Worksheet::open(inputs(input))?.show(0, FIGURES, &lent)
+    let lent = Lent::pair(record(input), part(input, MONTH, input.len()));
+    Worksheet::open(sheet_inputs(input))?.show(0, FIGURES, &lent)
 }
 
 /// What the program `replay` does with its input.
@@ -49,36 +67,78 @@ pub struct Replayed {
     pub stopped: Option<usize>,
 }
 
+impl Replayed {
+    /// Nothing is called yet.
+    pub fn of(opened: Result<Worksheet, Refusal>) -> Self {
+        Self {
+            opened,
+            calls: Vec::new(),
+            answers: Vec::new(),
+            stopped: None,
+        }
+    }
+
+    /// Calls are read from a byte of the input on until it ends, or until what
+    /// stands there is none. A refused open has none.
+    fn call_all(&mut self, lent: &Lent, input: &[u8], start: usize, operations: u32) {
+        let Ok(mut sheet) = self.opened else {
+            return;
+        };
+        let mut at = start;
+        while at < input.len() {
+            let Some(call) = call(&input[at..], operations) else {
+                self.stopped = Some(at);
+                return;
+            };
+            self.answers.push(sheet.answer(&call, lent));
+            sheet = sheet.after(&call);
+            at += 4 * words(&call).len();
+            self.calls.push(call);
+        }
+    }
+}
+
 /// A whole input, with files of its own.
 pub fn replay(input: &[u8]) -> Replayed {
-    let lent = Lent::new(record(input), part(input, MONTH, CALLS));
+    let lent = Lent::pair(record(input), part(input, MONTH, CALLS));
     replay_with(&lent, input)
 }
 
 /// A whole input that holds the files `lent` was made of, or ends before its
 /// calls.
 pub fn replay_with(lent: &Lent, input: &[u8]) -> Replayed {
-    let mut replayed = Replayed {
-        opened: Worksheet::open(inputs(input)),
-        calls: Vec::new(),
-        answers: Vec::new(),
-        stopped: None,
-    };
-    let Ok(mut sheet) = replayed.opened else {
-        return replayed;
-    };
-    let mut at = CALLS;
-    while at < input.len() {
-        let Some(call) = call(&input[at..]) else {
-            replayed.stopped = Some(at);
-            break;
-        };
-        replayed.answers.push(sheet.answer(&call, lent));
-        sheet = sheet.after(&call);
-        at += 4 * words(&call).len();
-        replayed.calls.push(call);
+    let mut replayed = Replayed::of(Worksheet::open(sheet_inputs(input)));
+    replayed.call_all(lent, input, CALLS, PAIR_OPERATIONS);
+    replayed
+}
+
+/// What `replay year` does with a whole input.
+pub fn replay_year(input: &[u8]) -> Replayed {
+    replay_year_with(&Lent::year(year_file(input)), input)
+}
+
+/// A whole input that holds the year file `lent` was made of, or ends before its
+/// calls.
+pub fn replay_year_with(lent: &Lent, input: &[u8]) -> Replayed {
+    let mut replayed = Replayed::of(Worksheet::open(inputs(input)));
+    match year_length(input) {
+        Some(length @ ..=LONGEST_YEAR) => {
+            replayed.call_all(lent, input, YEAR + length, YEAR_OPERATIONS);
+        }
+        Some(_) if replayed.opened.is_ok() => replayed.stopped = Some(YEAR_HEAD),
+        _ => {}
     }
     replayed
+}
+
+/// The word after the 15, if it is there.
+pub fn year_length(input: &[u8]) -> Option<usize> {
+    word(input, FIELDS).map(|length| length as usize)
+}
+
+/// The year file of an input, or as much of it as there is.
+pub fn year_file(input: &[u8]) -> &[u8] {
+    part(input, YEAR, YEAR + year_length(input).unwrap_or(0))
 }
 
 /// The little-endian word of this number.
@@ -87,15 +147,16 @@ fn word(bytes: &[u8], number: usize) -> Option<u32> {
     bytes.try_into().ok().map(u32::from_le_bytes)
 }
 
-/// The call that stands first; none if it is unknown or cut short. Its words
-/// are any words: a bad flag is refused like a bad number.
-fn call(bytes: &[u8]) -> Option<Call> {
+/// The call that stands first; none if it is cut short or of an operation that is
+/// unknown, above the highest too. Its words are any words: a bad flag, month or
+/// model is refused like a bad number.
+fn call(bytes: &[u8], operations: u32) -> Option<Call> {
     let word = |number| word(bytes, number);
     let operation = word(0)?;
     if operation == 9 {
         return Some(Call::TakeBack);
     }
-    if !(1..=10).contains(&operation) {
+    if !(1..=operations).contains(&operation) {
         return None;
     }
     let desk = word(1)?;
@@ -111,7 +172,9 @@ fn call(bytes: &[u8]) -> Option<Call> {
             flag: word(6)?,
         },
         5 => Edit::Factors([word(2)?, word(3)?, word(4)?, word(5)?]),
-        _ => Edit::Pole([word(2)?, word(3)?]),
+        6 => Edit::Pole([word(2)?, word(3)?]),
+        11 => Edit::Month(word(2)?),
+        _ => Edit::Model(word(2)?),
     };
     Some(Call::Change(desk, edit))
 }
@@ -127,6 +190,8 @@ pub fn words(call: &Call) -> Vec<u32> {
                 Edit::Path { .. } => 4,
                 Edit::Factors(_) => 5,
                 Edit::Pole(_) => 6,
+                Edit::Month(_) => 11,
+                Edit::Model(_) => 12,
             };
             let (_, numbers) = edit.fields();
             [&[operation, *desk], &numbers[..]].concat()

@@ -92,21 +92,22 @@ mod tests {
     use super::{check, compare, Answered};
     use crate::draw::data_files::named;
     use crate::draw::generator::Generator;
-    use crate::draw::journal_kinds::{any_buffers, list};
-    use crate::draw::sheet_kinds::in_range;
+    use crate::draw::journal_kinds::{any_buffers, list, year_list};
+    use crate::draw::sheet_kinds::{inputs, year_inputs};
+    use crate::draw::year_files::{any_year, calm_year, packed, NO_GAPS};
     use crate::model::desks::lent::Lent;
     use crate::model::desks::{run, Call, Edit, Worksheet};
     use crate::reference::sheets::FIGURES;
     use Call::{Begin, Cancel, Commit, TakeBack};
 
     fn opened() -> Worksheet {
-        let inputs = in_range(&mut Generator::new(8)).words();
+        let inputs = inputs(&mut Generator::new(8));
         Worksheet::open(inputs).expect("in range")
     }
 
     fn lent() -> Lent {
         let [_, (_, pair), ..] = named();
-        Lent::new(&pair.daw, &pair.month)
+        Lent::pair(&pair.daw, &pair.month)
     }
 
     /// The places kept of this list; demand 3 holds of it too.
@@ -272,12 +273,32 @@ mod tests {
         let lent = lent();
         let mut random = Generator::new(21);
         for _ in 0..300 {
-            let inputs = in_range(&mut random).words();
+            let inputs = inputs(&mut random);
             let opened = Worksheet::open(inputs).expect("in range");
             let count = 1 + random.below(40);
             let mut calls = list(&mut random, &opened, count);
             any_buffers(&mut random, &mut calls);
             check(&opened, &calls, &lent).expect("demand 3");
+        }
+    }
+
+    /// A cancelled or dropped change of month or model must not show in what is
+    /// kept.
+    #[test]
+    fn random_lists_over_years() {
+        let mut random = Generator::new(22);
+        let mut files = vec![packed(&calm_year(&mut random), &NO_GAPS)];
+        files.extend((0..9).map(|_| any_year(&mut random)));
+        for file in files {
+            let lent = Lent::year(&file);
+            for _ in 0..30 {
+                let inputs = year_inputs(&mut random);
+                let opened = Worksheet::open(inputs).expect("in range");
+                let count = 1 + random.below(40);
+                let mut calls = year_list(&mut random, &opened, count);
+                any_buffers(&mut random, &mut calls);
+                check(&opened, &calls, &lent).expect("demand 3");
+            }
         }
     }
 }

@@ -1,11 +1,15 @@
-//! One test or more for each paragraph of document 01's 'At the desks'.
+//! One test or more for each paragraph of document 01's 'At the desks', with the
+//! fields and changes of document 02's request 01.
 
-use super::fields::{self, Inputs};
-use super::lent::Lent;
+mod over_a_year;
+
+use super::fields::{self, Inputs, SHEET_FIELDS, URSI};
+use super::lent::{Lent, Shown};
 use super::{Call, Draft, Edit, Refusal, Worksheet};
 use crate::draw::data_files::named;
 use crate::month_file::BYTES;
 use crate::reference::sheets::{put_all_months, showing, FIGURES};
+use std::rc::Rc;
 
 const NAN: u32 = 0x7fc0_0000;
 
@@ -22,7 +26,7 @@ fn opened() -> Worksheet {
 
 fn lent() -> Lent {
     let [(_, pair), ..] = named();
-    Lent::new(&pair.daw, &pair.month)
+    Lent::pair(&pair.daw, &pair.month)
 }
 
 fn refused<T>(number: u32, place: u32) -> Result<T, Refusal> {
@@ -38,7 +42,7 @@ fn sunspots(v: f32) -> Edit {
 }
 
 /// Each change, with words that tell all fields apart.
-fn edits() -> [Edit; 5] {
+fn edits() -> [Edit; 7] {
     [
         sunspots(33.0),
         Edit::Hour(number(5.5)),
@@ -48,6 +52,8 @@ fn edits() -> [Edit; 5] {
         },
         Edit::Factors([0.5, 1.5, 2.5, 3.5].map(number)),
         Edit::Pole([-11.0, 12.0].map(number)),
+        Edit::Month(11),
+        Edit::Model(URSI),
     ]
 }
 
@@ -111,6 +117,7 @@ fn whole_fields_have_both_ends() {
     for (place, good, bad, refusal) in [
         (1, [1, 12], [0, 13, 257, u32::MAX], 1),
         (8, [0, 1], [2, 3, 256, u32::MAX], 7),
+        (15, [0, 1], [2, 3, 257, u32::MAX], 7),
     ] {
         let open = |word: u32| {
             let mut inputs = inputs();
@@ -128,7 +135,7 @@ fn whole_fields_have_both_ends() {
 
 #[test]
 fn open_refuses_the_first_bad_field_and_begins_with_nothing() {
-    let numbers = [1, 2, 3, 4, 5, 4, 5, 7, 6, 6, 6, 6, 4, 5];
+    let numbers = [1, 2, 3, 4, 5, 4, 5, 7, 6, 6, 6, 6, 4, 5, 7];
     for (first, number) in numbers.into_iter().enumerate() {
         let mut inputs = inputs();
         for (i, word) in inputs.iter_mut().enumerate().skip(first) {
@@ -185,7 +192,8 @@ fn each_change_has_its_fields() {
         let (first, words) = edit.fields();
         (first, words.len())
     });
-    assert_eq!(fields, [(2, 1), (3, 1), (4, 5), (9, 4), (13, 2)]);
+    let wanted = [(2, 1), (3, 1), (4, 5), (9, 4), (13, 2), (1, 1), (15, 1)];
+    assert_eq!(fields, wanted);
     let (_, words) = edits()[2].fields();
     assert_eq!(words[4], 1);
 }
@@ -208,6 +216,9 @@ fn change_refuses_desk_and_draft_before_fields_and_the_first_bad_field() {
         (Edit::Factors([good, good, good, NAN]), 6, 12),
         (Edit::Pole([NAN, NAN]), 4, 13),
         (Edit::Pole([good, NAN]), 5, 14),
+        (Edit::Month(0), 1, 1),
+        (Edit::Month(13), 1, 1),
+        (Edit::Model(2), 7, 15),
     ];
     for (edit, refusal, place) in bad {
         assert_eq!(busy().change(7, &edit), refused(14, 0));
@@ -326,20 +337,23 @@ fn show_refuses_in_this_order() {
     no_ladder[4 + 3 * 40] = 76;
     let mut odd = busy();
     odd.inputs[13] = NAN;
+    odd.inputs[14] = 2;
     odd.drafts[0].as_mut().expect("open").inputs[0] = 13;
-    let short = Lent::new(&pair.daw[..7903], &no_marker);
+    let short = Lent::pair(&pair.daw[..7903], &no_marker);
     assert_eq!(odd.show(5, 150, &short), refused(14, 0));
     assert_eq!(odd.show(u32::MAX, 150, &short), refused(14, 0));
     assert_eq!(odd.show(3, 150, &short), refused(16, 0));
     assert_eq!(odd.show(0, 150, &short), refused(5, 14));
     assert_eq!(odd.show(1, 150, &short), refused(1, 1));
+    odd.inputs[13] = number(0.0);
+    assert_eq!(odd.show(0, 150, &short), refused(7, 15));
     odd.inputs[7] = 2;
     assert_eq!(odd.show(0, 150, &short), refused(7, 8));
     assert_eq!(busy().show(0, 150, &short), refused(12, 0));
     assert_eq!(busy().show(1, 152, &short), refused(12, 0));
     assert_eq!(busy().show(0, 151, &short), refused(8, 0));
     let show = |month: &[u8]| {
-        let lent = Lent::new(&pair.daw, month);
+        let lent = Lent::pair(&pair.daw, month);
         busy().show(0, 151, &lent).map(|shown| shown.points)
     };
     assert_eq!(show(&no_marker[..BYTES - 4]), refused(9, 38_548));
@@ -348,11 +362,22 @@ fn show_refuses_in_this_order() {
     assert_eq!(show(&pair.month), Ok(1));
 }
 
-/// Every field has a say in the figures, or a slip in one would not show.
+/// A month and a model that would be good if only a part of the word were read.
 #[test]
-fn figures_depend_on_every_field() {
-    let lent = lent();
-    let other = [
+fn a_refused_month_or_model_leaves_the_worksheet() {
+    let months = [0, 13, 255, 257, 65_538, 1 << 31 | 6, u32::MAX];
+    let models = [2, 256, 257, 65_537, 0x3f80_0000, 1 << 31, u32::MAX];
+    let months = months.map(|word| (Edit::Month(word), 1, 1));
+    let models = models.map(|word| (Edit::Model(word), 7, 15));
+    for (edit, number, place) in months.into_iter().chain(models) {
+        assert_eq!(busy().change(1, &edit), refused(number, place));
+        assert_eq!(busy().after(&Call::Change(1, edit)), busy());
+    }
+}
+
+/// Another word for each field.
+fn other_words() -> Inputs {
+    [
         7,
         number(71.0),
         number(13.0),
@@ -367,13 +392,31 @@ fn figures_depend_on_every_field() {
         number(1.5),
         number(70.0),
         number(10.0),
-    ];
-    let first = opened().show(0, FIGURES, &lent);
-    for (i, word) in other.into_iter().enumerate() {
+        URSI,
+    ]
+}
+
+/// The figures after each field by itself is changed.
+fn changed_one_by_one(lent: &Lent) -> Vec<Result<Rc<Shown>, Refusal>> {
+    let with = |(i, word): (usize, u32)| {
         let mut changed = opened();
         changed.inputs[i] = word;
-        assert_ne!(changed.show(0, FIGURES, &lent), first, "field {}", i + 1);
+        changed.show(0, FIGURES, lent)
+    };
+    other_words().into_iter().enumerate().map(with).collect()
+}
+
+/// Every field has a say in the figures, or a slip in one would not show; but a
+/// pair of files is what it is whatever the model.
+#[test]
+fn figures_depend_on_every_field() {
+    let lent = lent();
+    let first = opened().show(0, FIGURES, &lent);
+    let changed = changed_one_by_one(&lent);
+    for (i, other) in changed[..SHEET_FIELDS].iter().enumerate() {
+        assert_ne!(*other, first, "field {}", i + 1);
     }
+    assert_eq!(changed[SHEET_FIELDS], first);
 }
 
 /// The slip that the insurer asked about.

@@ -1,7 +1,7 @@
-//! The 90 words in which the port's library keeps a worksheet: six sets of 15,
+//! The 96 words in which the port's library keeps a worksheet: six sets of 16,
 //! namely the inputs, the earlier set and the drafts of desks 1 to 4. A set's
-//! first word says what it is, its fields follow, the flag as whatever word it
-//! is; of one that is not there all are 0.
+//! first word says what it is, its fields follow, flag and model as whatever words
+//! they are; of one that is not there all are 0.
 
 use super::fields::{Inputs, FIELDS};
 use super::{Draft, Worksheet};
@@ -34,23 +34,25 @@ pub fn of(sheet: &Worksheet) -> Words {
 
 #[cfg(test)]
 mod tests {
-    use super::{of, SET};
+    use super::{of, SET, WORDS};
     use crate::draw::generator::Generator;
-    use crate::draw::sheet_kinds::in_range;
+    use crate::draw::sheet_kinds::year_inputs;
+    use crate::model::desks::fields::FIELDS;
     use crate::model::desks::Worksheet;
 
     #[test]
     fn sets_stand_one_after_the_other() {
-        let inputs = in_range(&mut Generator::new(3)).words();
+        let inputs = year_inputs(&mut Generator::new(3));
         let sheet = Worksheet::open(inputs).expect("in range");
         let sheet = sheet.begin(2).and_then(|sheet| sheet.begin(4));
         let sheet = sheet.and_then(|sheet| sheet.commit(2)).expect("open");
         let words = of(&sheet);
+        assert_eq!(WORDS, 96);
         let sets: Vec<&[u32]> = words.chunks(SET).collect();
         let whats: Vec<u32> = sets.iter().map(|set| set[0]).collect();
         assert_eq!(whats, [1, 1, 0, 0, 0, 2]);
         for set in sets {
-            let wanted = if set[0] == 0 { [0; 14] } else { inputs };
+            let wanted = if set[0] == 0 { [0; FIELDS] } else { inputs };
             assert_eq!(set[1..], wanted);
         }
     }

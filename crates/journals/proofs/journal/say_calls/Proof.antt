@@ -6,10 +6,10 @@ use Rattle.journals.proofs.journal.say_calls.Statement.{statement}
 use Rattle.journals.proofs.journal.say_calls.Tie as tie
 
 abbrev Inv-loop : tie.InvT-loop
-Inv-loop calls «record» month wanted w₀ at₀ from₀ w at from = (from ≤ length calls) × (length calls ≤ 1024)
+Inv-loop calls lent a b start wanted w₀ at₀ from₀ w at from = (from ≤ length calls) × (length calls ≤ 1024)
 
 abbrev μ-loop : tie.MeasureT-loop
-μ-loop calls «record» month wanted w₀ at₀ from₀ w at from = length calls - from
+μ-loop calls lent a b start wanted w₀ at₀ from₀ w at from = length calls - from
 
 pub say-calls-spec : {M : Type 1} → statement M
 say-calls-spec =

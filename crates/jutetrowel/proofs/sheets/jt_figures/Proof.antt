@@ -21,7 +21,7 @@ returns c =
     let psc = p .before .factors .ensures in
     let route = p .before .before .route .ensures in
     let i : _≡_ {A = Inputs} _ _ =
-    λ t. record { month = a .month; ssn = a .ssn; gmt = a .gmt; route = route t; psc = psc t; pole = pole t } in (
+    λ t. record { month = a .month; ssn = a .ssn; gmt = a .gmt; route = route t; psc = psc t; pole = pole t; model = 0 } in (
       c .shown-as .ensures ∙ ap showingOf (d .0 ∙ ap (λ (x : Inputs). drawnOf (pair f2 file x) x lent) i),
       d .1 ∙ ap (λ (x : Inputs). drawnBuffer (pair f2 file x) x lent) i,
     )

@@ -1,5 +1,5 @@
--- `jt_sheet` is the step of a showing of the worksheet that the words open, by what `opened` and
--- `show` ensure.
+-- `jt_sheet` is the step of a showing of the worksheet that the words open, by what `sheet_opened`
+-- and `show` ensure.
 use borrow.Author.Needs.{needs}
 use mathlib.Core.Path.{ap, _∙_}
 use Rattle.worksheet.specs.declared.desks.Outcome.{Outcome}
@@ -12,7 +12,7 @@ use Rattle.jutetrowel.proofs.sheets.jt_sheet.Tie as tie
 returns : tie.Need-returns
 unfolding step
 returns c =
-    let w = ap (λ (o : Outcome). o .sheet) (c .before .before .before .before .before .before .opened .ensures) in
+    let w = ap (λ (o : Outcome). o .sheet) (c .before .before .before .before .before .before .sheet-opened .ensures) in
     let s = c .before .before .before .show .ensures in
     (c .shown-as .ensures ∙ ap showingOf (s .0 ∙ ap (showOf _ _ _) w), s .1 ∙ ap (showBuffer _ _ _) w)
 

@@ -1,4 +1,4 @@
--- `inputs_in` is `inputsIn`: the set's 14 words, copied and read.
+-- `inputs_in` is `inputsIn`: the set's 15 words, copied and read.
 use borrow.Author.Needs.{needs}
 use mathlib.Core.List.{List}
 use mathlib.Core.Path.{ap, _∙_}

@@ -14,7 +14,7 @@ returns : tie.Need-returns
 returns c =
     let a = c .before .before .before .before .before .args in
     c .before .copy .ensures
-    ∙ ap (λ (l : List ℕ). fill (λ (k : ℕ). wordIn l (0 + k)) 1 (replicate 15 (a .what)) 14)
+    ∙ ap (λ (l : List ℕ). fill (λ (k : ℕ). wordIn l (0 + k)) 1 (replicate 16 (a .what)) 15)
     (c .before .before .before .before .to-words .ensures)
     ∙ set-written (a .what) (a .i)
 

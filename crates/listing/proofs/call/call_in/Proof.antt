@@ -8,7 +8,7 @@ use native.Mathlib.Omega.{arith}
 use native.Mathlib.Decide.{decLt}
 use lib.ListN.{List·getD-eq-default}
 use lib.Ieee.{Float}
-use Rattle.worksheet.specs.declared.inputs.Edit.the-variants.{Sunspot, Hour}
+use Rattle.worksheet.specs.declared.inputs.Edit.the-variants.{Sunspot, Hour, Month, Model}
 use Rattle.worksheet.specs.declared.journal.Call.the-variants.{Begin, Commit, Cancel, Show}
 use Rattle.listing.specs.declared.call.Read.the-variants.{Call as Called}
 use Rattle.listing.specs.Calls.{Operation, unknown, operations, changeIn, callIn}
@@ -72,20 +72,38 @@ returns-10 c = ap (λ (d : ℕ). Called (Show d)) (c .word4 .ensures) ∙ of-num
 returns-11 : tie.Need-returns-11
 unfolding callIn
 returns-11 c =
+    let s = c .before .before .before .before .args .s .now in
+    c .change-in6 .ensures ∙ ap (λ (x : ℕ). changeIn s (Month x)) (c .before .word5 .ensures) ∙ of-number s 11 (c .before .before .match .keys11)
+
+returns-12 : tie.Need-returns-12
+unfolding callIn
+returns-12 c =
+    let s = c .before .before .before .before .args .s .now in
+    c .change-in7 .ensures ∙ ap (λ (x : ℕ). changeIn s (Model x)) (c .before .word6 .ensures) ∙ of-number s 12 (c .before .before .match .keys12)
+
+returns-13 : tie.Need-returns-13
+unfolding callIn
+returns-13 c =
     let n = c .before .before .args .operation in
     let s = c .before .before .args .s .now in
     let r = c .match .rest in
-    let q = r .0 .0 .0 .0 .0 in
-    elim (decLt 10 n) [
+    let p = r .0 .0 .0 .0 in
+    let q = p .0 .0 .0 .0 in
+    elim (decLt 12 n) [
       | yes h ↦ sym (ap (λ (o : Operation). o .call s) (List·getD-eq-default operations unknown {n = n} (omega arith)))
-      | no h ↦ let a : n ≤ 5 = omega (arith, h, r .1, r .0 .1, r .0 .0 .1, r .0 .0 .0 .1, r .0 .0 .0 .0 .1) in
-          let z : n ≡ 0 = omega (arith, a, q .1, q .0 .1, q .0 .0 .1, q .0 .0 .0 .1, q .0 .0 .0 .0 .1) in of-number s 0 z
+      | no h ↦ let a : n ≤ 8 = omega (arith, h, r .1, r .0 .1, r .0 .0 .1, r .0 .0 .0 .1) in
+          let b : n ≤ 4 = omega (arith, a, p .1, p .0 .1, p .0 .0 .1, p .0 .0 .0 .1) in
+          let z : n ≡ 0 = omega (arith, b, q .1, q .0 .1, q .0 .0 .1, q .0 .0 .0 .1) in of-number s 0 z
     ]
 
 pub call-in-spec : {M : Type 1} → statement M
 call-in-spec =
     tie.close
     (tie.spec
+    (λ c κs. search needs)
+    (λ c κs. search needs)
+    (λ c κs. search needs)
+    (λ c κs. search needs)
     (λ c κs. search needs)
     (λ c κs. search needs)
     (λ c κs. search needs)
@@ -110,4 +128,6 @@ call-in-spec =
     returns-8
     returns-9
     returns-10
-    returns-11)
+    returns-11
+    returns-12
+    returns-13)

@@ -18,8 +18,8 @@ returns c =
     let s = c .before .before .before .before .show .ensures in
     let a = c .before .before .before .before .before .before .before .before .before .before .before .args in
     let source = pair (a .f2 .now) (a .file .now) in
-    let w = c .before .before .before .before .before .before .before .opened .result .sheet in
-    let o = c .before .before .before .before .before .before .before .opened .ensures in (
+    let w = c .before .before .before .before .before .before .before .sheet-opened .result .sheet in
+    let o = c .before .before .before .before .before .before .before .sheet-opened .ensures in (
       c .page-for .ensures .0
           ∙ ap₂ (pageFor (w .inputs)) (s .0) (s .1)
           ∙ ap (λ (z : Outcome). pageFor (z .sheet .inputs) (showOf source 0 blank (z .sheet)) (showBuffer source 0 blank (z .sheet))) o,

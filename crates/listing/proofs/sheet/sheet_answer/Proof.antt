@@ -19,7 +19,7 @@ returns c =
     let s = c .before .before .before .before .show .ensures in
     let a = c .before .before .before .before .before .before .before .before .before .before .before .args in
     let source = pair (a .f2 .now) (a .file .now) in
-    let o = c .before .before .before .before .before .before .before .opened .ensures in (
+    let o = c .before .before .before .before .before .before .before .sheet-opened .ensures in (
       c .sheet-text .ensures .0
           ∙ ap₂ sheetText (s .0) (s .1)
           ∙ ap (λ (z : Outcome). sheetText (showOf source 0 blank (z .sheet)) (showBuffer source 0 blank (z .sheet))) o,

@@ -40,7 +40,7 @@ returns-5 c =
 
 returns-6 : tie.Need-returns-6
 returns-6 c =
-    let s = c .before .before .show .ensures in
+    let s = c .before .before .show-lent .ensures in
     shown-as _ _ _ (c .before .before .before .before .before .call5 .given .1) (s .0) (s .1)
 
 pub make-spec : {M : Type 1} → statement M

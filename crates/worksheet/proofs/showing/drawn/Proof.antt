@@ -7,7 +7,7 @@ use Rattle.worksheet.proofs.showing.drawn.Statement.{statement}
 use Rattle.worksheet.proofs.showing.drawn.Tie as tie
 
 returns : tie.Need-returns
-returns c = drawn-unfit _ _ _ _ (c .if1 .taken)
+returns c = drawn-unfit _ _ _ (c .if1 .taken)
 
 returns-2 : tie.Need-returns-2
 returns-2 c =

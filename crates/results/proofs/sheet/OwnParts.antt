@@ -1,0 +1,133 @@
+-- Every showing over a year file that gave figures is of one month, one model and their own two
+-- parts: the source's verdict is accepted, so that the directory is good, the month is one, and the
+-- model's part reaches to the end of its record; no other word than 0 and 1 has a part. Assumes
+-- nothing.
+use mathlib.Core.Path.{_≡_, refl, sym, ap, subst, _∙_}
+use mathlib.Core.Bool.{Bool, true, false, cond, _&&_, _||_, true≢false}
+use mathlib.Core.List.{List, []}
+use mathlib.Core.Logic.{_⊎_, inl, inr}
+use Prim.Native.Nat.{ℕ, _+_, _-_, _*_, _≤_, _<_}
+use native.Mathlib.Omega.{arith}
+use lib.Dec.{leb, eqb}
+use lib.ListN.{length, take, drop}
+use lib.Ieee.{Float}
+use borrow.Author.Tests.{le-leb, eqb-true}
+use Rattle.base.specs.declared.refusal.Refusal.the-variants.{Record}
+use Rattle.base.specs.declared.refusal.Verdict.the-variants.{Accepted, Refused}
+use Rattle.base.specs.Ranges.{isMonth, isBit}
+use Rattle.base.specs.MonthFile.{Part, emptyPart, recordSize, monthStart, monthRecordCheck, monthPart}
+use Rattle.base.specs.Files.{fileCheck, filesCheck}
+use Rattle.base.specs.Year.{offsetAt, lengthAt, yearCheck, pairPart, yearMonth, yearModel, partBytes}
+use Rattle.base.proofs.verdicts.Picks.{cond-true, cond-false}
+use Rattle.base.proofs.verdicts.Refusals.{refused-not-accepted, then-both}
+use Rattle.base.proofs.layout.Records.{MonthThere, month-known, month-part}
+use Rattle.maps.specs.declared.inputs.Inputs.{Inputs}
+use Rattle.maps.specs.declared.figures.Shown.the-variants.{Points}
+use Rattle.maps.specs.Figures.{sheetPath, figuresOf}
+use Rattle.worksheet.specs.declared.desks.Worksheet.{Worksheet}
+use Rattle.worksheet.specs.Desks.{openOf}
+use Rattle.worksheet.specs.Showing.{yearFiles, yearFilesCheck, yearly, inputsShown}
+use Rattle.worksheet.specs.Journal.{Call, show, shown, step, run}
+use Rattle.worksheet.specs.InForce.{FiguresOf}
+use Rattle.results.specs.OneYear.{partAt, recordAt, OwnParts}
+use Rattle.results.proofs.files.YearDirectory.{year-good, parts-inside}
+use Rattle.results.proofs.force.Insured.{shown-figures}
+use Rattle.results.proofs.sheet.AlwaysShown.{year-shown}
+
+module _ (s : List ℕ) (good : yearCheck s ≡ Accepted) where
+  -- the bytes of a pair's part
+  pub part-bytes : (k : ℕ) → k < 14 → partBytes s (pairPart s k) ≡ partAt s k
+  part-bytes k h = ap (partBytes s) (parts-inside s good k h .0)
+
+  pub month-bytes : (m : ℕ) → 1 ≤ m → m ≤ 12 → partBytes s (yearMonth s m) ≡ partAt s (m - 1)
+  unfolding yearMonth
+  month-bytes m l h =
+      let a = le-leb 1 m l in
+      let b = le-leb m 12 h in
+      ap (partBytes s) (cond-true {b = isMonth m} _ _ (λ t. a t && b t)) ∙ part-bytes (m - 1) (omega arith)
+
+  pub model-bytes : (m : ℕ) → isBit m ≡ true → m < 2 → partBytes s (yearModel s m) ≡ partAt s (12 + m)
+  unfolding yearModel
+  model-bytes m b h = ap (partBytes s) (cond-true _ _ b) ∙ part-bytes (12 + m) (omega arith)
+
+-- ---- the model's word
+
+-- a word that is no model has no part, and so no record
+bit-or-empty : (s : List ℕ) (m : ℕ) (b : Bool) → isBit m ≡ b → (length (partBytes s (yearModel s m)) ≡ 0) ⊎ (isBit m ≡ true)
+unfolding yearModel
+bit-or-empty s m true e = inr e
+bit-or-empty s m false e = inl (ap (λ (p : Part). length (partBytes s p)) (cond-false _ _ e))
+
+pub is-model : (m : ℕ) → isBit m ≡ true → (m ≡ 0) ⊎ (m ≡ 1)
+is-model m e = go (eqb m 0) (eqb m 1) (eqb-true m 0) (eqb-true m 1) e
+  where
+    go : (a b : Bool) → (a ≡ true → m ≡ 0) → (b ≡ true → m ≡ 1) → (a || b) ≡ true → (m ≡ 0) ⊎ (m ≡ 1)
+    go true b f g e = inl (f refl)
+    go false true f g e = inr (g refl)
+    go false false f g e = absurd (true≢false (sym e))
+
+pub small : (m : ℕ) → (m ≡ 0) ⊎ (m ≡ 1) → m < 2
+small m (inl e) = omega arith
+small m (inr e) = omega arith
+
+-- ---- figures over a year
+
+module _ (s : List ℕ) (i : Inputs) (count : ℕ) (figures : List Float) where
+  pub figures-own-parts : FiguresOf (yearly s) i count figures → OwnParts s i count figures
+  unfolding yearFiles filesCheck
+  figures-own-parts f =
+      let daw = partBytes s (yearModel s (i .model)) in
+      let both = then-both (yearCheck s) (monthRecordCheck daw (i .month)) (f .lent) in
+      let known = month-known daw (i .month) (both .1) in
+      let low = known .low in
+      let high = known .high in
+      let room = known .room in
+      let bit = is-bit (bit-or-empty s (i .model) (isBit (i .model)) refl) low room in
+      let model = is-model (i .model) bit in
+      let daw-is : daw ≡ partAt s (12 + i .model) = model-bytes s (both .0) (i .model) bit (small (i .model) model) in
+      let file-is = month-bytes s (both .0) (i .month) low high in
+      let record-is = ap (partBytes daw) (month-part daw (i .month) refl (both .1)) in
+      record {
+        month-low = low;
+        month-high = high;
+        model = model;
+        directory = year-good s .0 (both .0);
+        room = subst (λ (d : List ℕ). i .month * recordSize ≤ length d) daw-is room;
+        file = sym (ap fileCheck file-is) ∙ file-good (partBytes s (yearMonth s (i .month))) (leb recordSize (length (partBytes daw (monthPart daw (i .month))))) (f .checked);
+        points = f .points;
+        whole =
+            f .whole
+            ∙ (λ t. figuresOf (record-is t) (file-is t) i)
+            ∙ ap (λ (d : List ℕ). figuresOf (take recordSize (drop (monthStart (i .month)) d)) (partAt s (i .month - 1)) i) daw-is;
+      }
+    where
+      file-good : (file : List ℕ) (long : Bool) → cond long (fileCheck file) (Refused Record) ≡ Accepted → fileCheck file ≡ Accepted
+      file-good file true e = e
+      file-good file false e = refused-not-accepted e
+
+      is-bit : (length (partBytes s (yearModel s (i .model))) ≡ 0) ⊎ (isBit (i .model) ≡ true) → 1 ≤ i .month
+          → i .month * recordSize ≤ length (partBytes s (yearModel s (i .model))) → isBit (i .model) ≡ true
+      is-bit (inl e) l r = absurd (omega (arith, e, l, r))
+      is-bit (inr e) l r = e
+
+pub one-month-one-model :
+    (s : List ℕ) (w : Worksheet) (n : ℕ) (lent figures : List Float) (count : ℕ) →
+    step (yearly s) (show n lent) w .answer ≡ shown (Points count) figures → OwnParts s (inputsShown n w) count figures
+one-month-one-model s w n lent figures count h =
+    figures-own-parts s (inputsShown n w) count figures (shown-figures (yearly s) n w lent figures count (sym h))
+
+-- ---- and after every list of calls there is such a showing, where the year file refuses nothing
+
+pub year-always-shown : (s : List ℕ) (opened : Inputs) → openOf opened .answer ≡ Accepted →
+    (cs : List Call) (lent : List Float) → length lent ≡ 151 →
+    let w = run (yearly s) cs (openOf opened .sheet) .sheet in
+    let i = w .inputs in
+    yearFilesCheck s (i .month) (i .model) ≡ Accepted →
+    step (yearly s) (show 0 lent) w .answer
+    ≡ shown (Points (sheetPath i .count)) (figuresOf (recordAt s (i .month) (i .model)) (partAt s (i .month - 1)) i)
+unfolding inputsShown
+year-always-shown s opened h cs lent l good =
+    let w = run (yearly s) cs (openOf opened .sheet) .sheet in
+    let e = year-shown s opened h cs lent l good in
+    let own = one-month-one-model s w 0 lent _ _ e in
+    e ∙ ap (shown (Points (sheetPath (w .inputs) .count))) (own .whole)

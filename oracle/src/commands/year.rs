@@ -1,0 +1,97 @@
+//! `year FILE SEED`, `year-parts DIR FILE` and `year-damaged FILE`: good year files,
+//! and one of which some parts are damaged. `year-check FILE`: what the program
+//! `year check` prints of one. `year-input FILE`: an input of the program `replay
+//! year` over a small one.
+
+mod damaged;
+
+use super::answer::print;
+use super::journals::by_hand::inputs;
+use super::journals::drawn::Journal;
+use super::year_journals::{by_hand, input};
+use super::{whole, write, write_file};
+use crate::draw::generator::Generator;
+use crate::draw::year_files::plain::plain_year;
+use crate::draw::year_files::{calm_year, first_months, packed, NO_GAPS};
+use crate::model::desks::fields::{moved_to, CCIR};
+use crate::model::desks::survey::survey_text;
+use crate::model::year::PARTS;
+use crate::month_file::push_words;
+use std::fs;
+
+/// Months of the small year.
+const MONTHS: usize = 2;
+/// An operation that no journal knows.
+const UNKNOWN: u32 = 13;
+
+/// The files that a year is packed from, in the order of its parts.
+const NAMES: [&str; PARTS] = [
+    "jan.month",
+    "feb.month",
+    "mar.month",
+    "apr.month",
+    "may.month",
+    "jun.month",
+    "jul.month",
+    "aug.month",
+    "sep.month",
+    "oct.month",
+    "nov.month",
+    "dec.month",
+    "ccir.daw",
+    "ursi.daw",
+];
+
+/// All months and both models, their numbers from a seed.
+pub fn run(file: &str, seed: &str) -> Result<(), String> {
+    let parts = calm_year(&mut Generator::new(whole(seed)?));
+    write_file(file, &packed(&parts, &NO_GAPS))
+}
+
+/// What the program `year` is given, and what it makes of it.
+pub fn parts(folder: &str, file: &str) -> Result<(), String> {
+    let parts = plain_year();
+    for (name, part) in NAMES.iter().zip(&parts) {
+        write(folder, name, part)?;
+    }
+    write_file(file, &packed(&parts, &NO_GAPS))
+}
+
+pub fn damaged(file: &str) -> Result<(), String> {
+    write_file(file, &damaged::year())
+}
+
+pub fn check(file: &str) -> Result<(), String> {
+    let year = fs::read(file).map_err(|e| format!("cannot read {file}: {e}"))?;
+    print(&survey_text(&year))
+}
+
+/// A morning with months and models, some of which are not there; what comes last
+/// is no call.
+pub fn example(file: &str) -> Result<(), String> {
+    let parts = first_months(&mut Generator::new(904), MONTHS);
+    let january = moved_to(inputs(), 1, CCIR);
+    let mut journal = Journal::of("example", january, &by_hand::in_winter());
+    push_words(&mut journal.calls, &[UNKNOWN]);
+    write_file(file, &input(&journal, &packed(&parts, &NO_GAPS)))
+}
+
+#[cfg(test)]
+mod tests {
+    use super::{packed, plain_year, NAMES, NO_GAPS, PARTS};
+    use std::collections::HashSet;
+
+    /// With any two of the files exchanged the year file is another.
+    #[test]
+    fn no_part_stands_for_another() {
+        assert_eq!(NAMES.iter().collect::<HashSet<_>>().len(), PARTS);
+        let parts = plain_year();
+        let year = packed(&parts, &NO_GAPS);
+        for (a, b) in (0..PARTS).flat_map(|a| (0..a).map(move |b| (a, b))) {
+            let mut other = parts.clone();
+            other.swap(a, b);
+            let [a, b] = [a, b].map(|k| NAMES[k]);
+            assert!(packed(&other, &NO_GAPS) != year, "{a} and {b}");
+        }
+    }
+}
