@@ -3,24 +3,26 @@
 -- model's part reaches to the end of its record; no other word than 0 and 1 has a part. Assumes
 -- nothing.
 use mathlib.Core.Path.{_≡_, refl, sym, ap, subst, _∙_}
-use mathlib.Core.Bool.{Bool, true, false, cond, _&&_, _||_, true≢false}
-use mathlib.Core.List.{List, []}
+use mathlib.Core.Bool.{Bool, true, false, cond}
+use mathlib.Core.List.{List}
 use mathlib.Core.Logic.{_⊎_, inl, inr}
 use Prim.Native.Nat.{ℕ, _+_, _-_, _*_, _≤_, _<_}
+use native.Mathlib.Decide.{decLt}
 use native.Mathlib.Omega.{arith}
-use lib.Dec.{leb, eqb}
+use lib.Dec.{leb}
 use lib.ListN.{length, take, drop}
 use lib.Ieee.{Float}
-use borrow.Author.Tests.{le-leb, eqb-true}
+use borrow.Author.Tests.{le-leb}
 use Rattle.base.specs.declared.refusal.Refusal.the-variants.{Record}
 use Rattle.base.specs.declared.refusal.Verdict.the-variants.{Accepted, Refused}
 use Rattle.base.specs.Ranges.{isMonth, isBit}
-use Rattle.base.specs.MonthFile.{Part, emptyPart, recordSize, monthStart, monthRecordCheck, monthPart}
+use Rattle.base.specs.MonthFile.{Part, recordSize, monthStart, monthRecordCheck, monthPart}
 use Rattle.base.specs.Files.{fileCheck, filesCheck}
-use Rattle.base.specs.Year.{offsetAt, lengthAt, yearCheck, pairPart, yearMonth, yearModel, partBytes}
-use Rattle.base.proofs.verdicts.Picks.{cond-true, cond-false}
+use Rattle.base.specs.Year.{yearCheck, pairPart, yearMonth, yearModel, partBytes}
+use Rattle.base.proofs.ladder.Ladders.{and-true}
 use Rattle.base.proofs.verdicts.Refusals.{refused-not-accepted, then-both}
-use Rattle.base.proofs.layout.Records.{MonthThere, month-known, month-part}
+use Rattle.base.proofs.layout.Records.{month-known as record-known, month-part}
+use Rattle.base.proofs.layout.Directories.{month-known, bit-known, month-part-is, model-part-is, no-model}
 use Rattle.maps.specs.declared.inputs.Inputs.{Inputs}
 use Rattle.maps.specs.declared.figures.Shown.the-variants.{Points}
 use Rattle.maps.specs.Figures.{sheetPath, figuresOf}
@@ -39,36 +41,29 @@ module _ (s : List ℕ) (good : yearCheck s ≡ Accepted) where
   pub part-bytes : (k : ℕ) → k < 14 → partBytes s (pairPart s k) ≡ partAt s k
   part-bytes k h = ap (partBytes s) (parts-inside s good k h .0)
 
-  pub month-bytes : (m : ℕ) → 1 ≤ m → m ≤ 12 → partBytes s (yearMonth s m) ≡ partAt s (m - 1)
-  unfolding yearMonth
-  month-bytes m l h =
-      let a = le-leb 1 m l in
-      let b = le-leb m 12 h in
-      ap (partBytes s) (cond-true {b = isMonth m} _ _ (λ t. a t && b t)) ∙ part-bytes (m - 1) (omega arith)
+  pub month-bytes : (m : ℕ) → isMonth m ≡ true → partBytes s (yearMonth s m) ≡ partAt s (m - 1)
+  month-bytes m e =
+      let h = month-known m e in
+      ap (partBytes s) (month-part-is s m e) ∙ part-bytes (m - 1) (omega (arith, h .0, h .1))
 
-  pub model-bytes : (m : ℕ) → isBit m ≡ true → m < 2 → partBytes s (yearModel s m) ≡ partAt s (12 + m)
-  unfolding yearModel
-  model-bytes m b h = ap (partBytes s) (cond-true _ _ b) ∙ part-bytes (12 + m) (omega arith)
+  pub model-bytes : (m : ℕ) → isBit m ≡ true → partBytes s (yearModel s m) ≡ partAt s (12 + m)
+  model-bytes m e = ap (partBytes s) (model-part-is s m e) ∙ part-bytes (12 + m) (omega (arith, bit-known m e))
+
+pub month-is : (m : ℕ) → 1 ≤ m → m ≤ 12 → isMonth m ≡ true
+month-is m l h = and-true (le-leb 1 m l) (le-leb m 12 h)
 
 -- ---- the model's word
 
 -- a word that is no model has no part, and so no record
 bit-or-empty : (s : List ℕ) (m : ℕ) (b : Bool) → isBit m ≡ b → (length (partBytes s (yearModel s m)) ≡ 0) ⊎ (isBit m ≡ true)
-unfolding yearModel
 bit-or-empty s m true e = inr e
-bit-or-empty s m false e = inl (ap (λ (p : Part). length (partBytes s p)) (cond-false _ _ e))
+bit-or-empty s m false e = inl (ap (λ (p : Part). length (partBytes s p)) (no-model s m e))
 
-pub is-model : (m : ℕ) → isBit m ≡ true → (m ≡ 0) ⊎ (m ≡ 1)
-is-model m e = go (eqb m 0) (eqb m 1) (eqb-true m 0) (eqb-true m 1) e
-  where
-    go : (a b : Bool) → (a ≡ true → m ≡ 0) → (b ≡ true → m ≡ 1) → (a || b) ≡ true → (m ≡ 0) ⊎ (m ≡ 1)
-    go true b f g e = inl (f refl)
-    go false true f g e = inr (g refl)
-    go false false f g e = absurd (true≢false (sym e))
-
-pub small : (m : ℕ) → (m ≡ 0) ⊎ (m ≡ 1) → m < 2
-small m (inl e) = omega arith
-small m (inr e) = omega arith
+is-model : (m : ℕ) → isBit m ≡ true → (m ≡ 0) ⊎ (m ≡ 1)
+is-model m e = elim (decLt m 1) [
+  | yes l ↦ inl (omega arith)
+  | no g ↦ inr (omega (arith, g, bit-known m e))
+]
 
 -- ---- figures over a year
 
@@ -78,19 +73,18 @@ module _ (s : List ℕ) (i : Inputs) (count : ℕ) (figures : List Float) where
   figures-own-parts f =
       let daw = partBytes s (yearModel s (i .model)) in
       let both = then-both (yearCheck s) (monthRecordCheck daw (i .month)) (f .lent) in
-      let known = month-known daw (i .month) (both .1) in
+      let known = record-known daw (i .month) (both .1) in
       let low = known .low in
       let high = known .high in
       let room = known .room in
       let bit = is-bit (bit-or-empty s (i .model) (isBit (i .model)) refl) low room in
-      let model = is-model (i .model) bit in
-      let daw-is : daw ≡ partAt s (12 + i .model) = model-bytes s (both .0) (i .model) bit (small (i .model) model) in
-      let file-is = month-bytes s (both .0) (i .month) low high in
+      let daw-is : daw ≡ partAt s (12 + i .model) = model-bytes s (both .0) (i .model) bit in
+      let file-is = month-bytes s (both .0) (i .month) (month-is (i .month) low high) in
       let record-is = ap (partBytes daw) (month-part daw (i .month) refl (both .1)) in
       record {
         month-low = low;
         month-high = high;
-        model = model;
+        model = is-model (i .model) bit;
         directory = year-good s .0 (both .0);
         room = subst (λ (d : List ℕ). i .month * recordSize ≤ length d) daw-is room;
         file = sym (ap fileCheck file-is) ∙ file-good (partBytes s (yearMonth s (i .month))) (leb recordSize (length (partBytes daw (monthPart daw (i .month))))) (f .checked);

@@ -1,6 +1,6 @@
 -- Of files that are packed all months and models can be shown exactly where each passes its check: a
 -- part is handed back as it was put in, and nothing else is looked at. Assumes nothing.
-use mathlib.Core.Bool.{Bool, true, false}
+use mathlib.Core.Bool.{true}
 use mathlib.Core.List.{List, []}
 use mathlib.Core.Path.{_≡_, refl, sym, ap, subst, _∙_}
 use Prim.Native.Nat.{ℕ, zero, suc, _+_, _-_, _*_, _≤_, _<_}
@@ -14,23 +14,19 @@ use Rattle.base.specs.declared.refusal.Verdict.{Verdict}
 use Rattle.base.specs.declared.refusal.Verdict.the-variants.{Accepted}
 use Rattle.base.specs.Refusal.{refuseUnless, _then_}
 use Rattle.base.specs.Ranges.{isMonth, isBit}
-use Rattle.base.specs.MonthFile.{recordSize, monthRecordCheck}
+use Rattle.base.specs.MonthFile.{recordSize}
 use Rattle.base.specs.Files.{fileCheck}
 use Rattle.packing.specs.Pack.{partCheck, packed}
 use Rattle.base.proofs.verdicts.Picks.{cond-true, cond-false}
 use Rattle.base.proofs.verdicts.Refusals.{then-both, passed}
-use Rattle.base.proofs.ladder.Ladders.{and-true}
 use Rattle.base.proofs.layout.Records.{month-known as record-known}
 use Rattle.base.proofs.layout.Directories.{month-known, bit-known}
 use Rattle.worksheet.specs.Showing.{yearFilesCheck}
 use Rattle.results.specs.OneYear.{partAt, AllShown}
 use Rattle.results.proofs.files.MonthRecords.{month-there}
 use Rattle.results.proofs.files.PackedYear.{packed-accepted, packed-parts}
-use Rattle.results.proofs.sheet.OwnParts.{part-bytes}
+use Rattle.results.proofs.sheet.OwnParts.{part-bytes, month-is}
 use Rattle.results.proofs.sheet.YearExactly.{is-true, in-range-exactly}
-
-month-is : (m : ℕ) → 1 ≤ m → m ≤ 12 → isMonth m ≡ true
-month-is m l h = and-true (le-leb 1 m l) (le-leb m 12 h)
 
 bit-is : (m : ℕ) → m ≤ 1 → isBit m ≡ true
 bit-is zero h = refl

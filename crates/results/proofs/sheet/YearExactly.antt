@@ -2,11 +2,11 @@
 -- model's part alone; and a check that is refused hides whatever comes after it. Assumes nothing.
 use mathlib.Core.Bool.{Bool, true, false}
 use mathlib.Core.List.{List}
-use mathlib.Core.Path.{_≡_, refl, sym, ap, _∙_}
-use Prim.Native.Nat.{ℕ, _+_, _-_, _*_, _≤_}
+use mathlib.Core.Path.{_≡_, refl, ap, _∙_}
+use Prim.Native.Nat.{ℕ, _-_, _*_, _≤_}
 use native.Mathlib.Omega.{arith}
 use lib.Dec.{T, leb}
-use lib.ListN.{length, take, drop, length-drop}
+use lib.ListN.{length, drop, length-drop}
 use lib.Seq.{length-take-le}
 use borrow.Author.Tests.{le-leb}
 use Rattle.base.specs.declared.refusal.Refusal.the-variants.{Month, Record, Model}
@@ -18,13 +18,12 @@ use Rattle.base.specs.MonthFile.{Part, recordSize, monthStart, monthRecordCheck
 use Rattle.base.specs.Files.{fileCheck, filesCheck}
 use Rattle.base.specs.Year.{yearCheck, yearMonth, yearModel, partBytes}
 use Rattle.base.proofs.verdicts.Picks.{cond-true}
-use Rattle.base.proofs.layout.Records.{month-known as record-known, month-part}
-use Rattle.base.proofs.layout.Directories.{month-known}
+use Rattle.base.proofs.layout.Records.{month-known, month-part}
 use Rattle.worksheet.specs.Inputs.{inputsCheck}
-use Rattle.worksheet.specs.Showing.{yearFiles, yearFilesCheck, yearly, inputsShown, askedCheck, bufferCheck, drawnCheck, judgedCheck, showCheck}
+use Rattle.worksheet.specs.Showing.{yearFiles, yearFilesCheck, inputsShown, askedCheck, bufferCheck, drawnCheck, judgedCheck, showCheck}
 use Rattle.results.specs.OneYear.{partAt, recordCheck, YearFilesExactly, YearShowingExactly}
 use Rattle.results.proofs.sheet.AlwaysShown.{month-and-model}
-use Rattle.results.proofs.sheet.OwnParts.{month-bytes, model-bytes, is-model, small}
+use Rattle.results.proofs.sheet.OwnParts.{month-bytes, model-bytes}
 
 -- ---- two checks
 
@@ -41,7 +40,7 @@ then-where (Refused why) f = refl
 
 record-length : (daw : List ℕ) (m : ℕ) → monthRecordCheck daw m ≡ Accepted → recordSize ≤ length (partBytes daw (monthPart daw m))
 record-length daw m e =
-    let t = record-known daw m e in
+    let t = month-known daw m e in
     let low = t .low in
     let room = t .room in
     let d = length-drop (monthStart m) daw in
@@ -66,12 +65,12 @@ module _ (s : List ℕ) (month model : ℕ) (m : isMonth month ≡ true) (b : is
   record-is : yearCheck s ≡ Accepted → monthRecordCheck daw month ≡ recordCheck s month model
   unfolding monthRecordCheck monthCheck
   record-is good =
-      let whole = model-bytes s good model b (small model (is-model model b)) in
+      let whole = model-bytes s good model b in
       let room : List ℕ → Verdict = λ d. refuseUnless (leb (month * recordSize) (length d)) Record in
       ap (λ (t : Bool). refuseUnless t Month then room daw) m ∙ ap room whole
 
   file-is : yearCheck s ≡ Accepted → partBytes s (yearMonth s month) ≡ partAt s (month - 1)
-  file-is good = let e = month-known month m in month-bytes s good month (e .0) (e .1)
+  file-is good = month-bytes s good month m
 
   abbrev rest : Verdict
   rest = recordCheck s month model then fileCheck (partAt s (month - 1))
