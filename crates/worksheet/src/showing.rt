@@ -41,7 +41,7 @@ pub enum Lent {
 
 // The inputs that a showing of the desk is of: 0 is the worksheet. A stale draft is shown all the
 // same.
-fn inputs_shown(w: Worksheet, desk: u32) -> Inputs
+pub fn inputs_shown(w: Worksheet, desk: u32) -> Inputs
     ensures { λ r. ⌜ r ≡ inputsShown desk w ⌝ }
 {
     let i = w.inputs;
