@@ -1,3 +1,4 @@
 -- Laws that belong to no one function, in rooms by subject. Assumes nothing.
 pub mod pieces
 pub mod digits
+pub mod reread

@@ -10,7 +10,8 @@ use Rattle.base.specs.declared.refusal.Verdict.the-variants.{Accepted, Refused}
 use Rattle.base.specs.Refusal.{reportOf}
 use Rattle.maps.specs.declared.figures.Shown.{Shown}
 use Rattle.maps.specs.declared.figures.Shown.the-variants as shown
-use Rattle.listing.specs.Text.{ascii, decimalOf}
+use Rattle.wording.specs.Token.{ascii}
+use Rattle.listing.specs.Text.{decimalOf}
 
 -- ---- the lines of a sheet
 

@@ -4,7 +4,8 @@ use mathlib.Core.Bool.{Bool, cond}
 use mathlib.Core.List.{List, [], _∷_, _++_}
 use lib.Dec.{ltb}
 use lib.Ieee.{Float, nan, inf, fin, up, down, size}
-use Rattle.listing.specs.Text.{ascii, digitOf, hasDigit, decimalOf}
+use Rattle.wording.specs.Token.{ascii}
+use Rattle.listing.specs.Text.{digitOf, hasDigit, decimalOf}
 
 -- n / d to the nearest whole number, half way up: n / d + 1 / 2 without its fraction
 unfoldable pub nearestOf : ℕ → ℕ → ℕ

@@ -8,3 +8,8 @@ pub mod Page
 pub mod Text
 pub mod Reason
 pub mod Survey
+pub mod Fields
+pub mod Columns
+pub mod Spoken
+pub mod Written
+pub mod Fault

@@ -8,7 +8,8 @@ use lib.ListN.{getD, take, replicate}
 use lib.Ieee.{Float, nan, binary32, toBits}
 use Rattle.maps.specs.declared.inputs.Inputs.{Inputs}
 use Rattle.maps.specs.Inputs.{isLong}
-use Rattle.listing.specs.Text.{ascii, decimalOf}
+use Rattle.wording.specs.Token.{ascii}
+use Rattle.listing.specs.Text.{decimalOf}
 use Rattle.listing.specs.Answer.{hexOf}
 use Rattle.listing.specs.Decimal.{decimalText}
 
@@ -20,7 +21,7 @@ pub record Row : Type 0 where
   pub name : String
   pub unit : String
 
-abbrev row : String → String → Row
+abbrev pub row : String → String → Row
 row name unit = record { name = name; unit = unit }
 
 abbrev pub pageRows : List Row

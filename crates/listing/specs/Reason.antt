@@ -5,7 +5,8 @@ use mathlib.Core.List.{List, [], _∷_, _++_}
 use Rattle.base.specs.declared.refusal.Refusal.{Refusal}
 use Rattle.base.specs.declared.refusal.Refusal.the-variants.{Month, Sunspot, Hour, Latitude, Longitude, Factor, Flag, Model, Record, Ended, Marker, Index, Figures, Table, Desk, Drafted, NoDraft, Stale, NothingEarlier, Year}
 use Rattle.base.specs.Refusal.{reportOf}
-use Rattle.listing.specs.Text.{ascii, decimalOf}
+use Rattle.wording.specs.Token.{ascii}
+use Rattle.listing.specs.Text.{decimalOf}
 
 abbrev pub reasonOf : Refusal → String
 reasonOf Month = "the month is not 1 to 12"

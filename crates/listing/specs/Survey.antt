@@ -8,7 +8,8 @@ use Rattle.base.specs.declared.refusal.Refusal.{Refusal}
 use Rattle.base.specs.declared.refusal.Verdict.{Verdict}
 use Rattle.base.specs.declared.refusal.Verdict.the-variants.{Accepted, Refused}
 use Rattle.worksheet.specs.Showing.{yearFilesCheck}
-use Rattle.listing.specs.Text.{ascii, decimalOf}
+use Rattle.wording.specs.Token.{ascii}
+use Rattle.listing.specs.Text.{decimalOf}
 use Rattle.listing.specs.Reason.{refusedWords}
 
 -- '(0 CCIR, 1 URSI)'

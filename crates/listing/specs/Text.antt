@@ -1,18 +1,11 @@
 -- Text put into a lent buffer piece after piece, and whole numbers in decimal digits. Assumes
 -- nothing.
 use Prim.Native.Nat.{ℕ, zero, suc, _+_, _/_, _%_, _^_}
-use Prim.Native.Char.{code}
-use Prim.Native.String.{String, [] as []ˢ, _∷_ as _∷ˢ_}
 use mathlib.Core.Path.{_≡_}
 use mathlib.Core.Bool.{Bool, true, cond}
 use mathlib.Core.List.{List, [], _∷_, _++_}
 use lib.Dec.{eqb, ltb}
 use lib.ListN.{length, take}
-
--- the bytes of a text in ASCII
-abbrev pub ascii : String → List ℕ
-ascii []ˢ = []
-ascii (c ∷ˢ s) = code c ∷ ascii s
 
 -- ---- decimal digits
 

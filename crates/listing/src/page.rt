@@ -119,14 +119,14 @@ const UNITS: [[u8; 7]; 47] = [
     *b"       ",
 ];
 
-fn name(k: usize) -> [u8; 12]
+pub(crate) fn name(k: usize) -> [u8; 12]
     requires { ⌜ k < 47 ⌝ }
     ensures { λ r. ⌜ r ≡ nameText (pageRow k) ⌝ }
 {
     NAMES[k]
 }
 
-fn unit(k: usize) -> [u8; 7]
+pub(crate) fn unit(k: usize) -> [u8; 7]
     requires { ⌜ k < 47 ⌝ }
     ensures { λ r. ⌜ unitIn r ≡ unitText (pageRow k .unit) ⌝ }
 {
@@ -152,7 +152,7 @@ fn put_word(out: &mut [u8], at: usize, word: &[u8]) -> usize
 }
 
 // Puts a unit after two blanks, where there is one.
-fn put_unit(out: &mut [u8], at: usize, unit: &[u8; 7]) -> usize
+pub(crate) fn put_unit(out: &mut [u8], at: usize, unit: &[u8; 7]) -> usize
     requires { ⌜ at + 9 ≤ length (now out) ⌝ }
     ensures { λ r. ⌜ Put (now (out .entry)) at (unitIn (now (unit .entry))) (now (out .exit)) r ⌝ }
 {

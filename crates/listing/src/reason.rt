@@ -5,7 +5,8 @@ use base::refusal::Refusal;
 ghost use mathlib.Core.Path.{_≡_};
 ghost use Prim.Native.Nat.{_+_, _≤_, _<_};
 ghost use lib.ListN.{length};
-ghost use Rattle.listing.specs.Text.{Put, ascii};
+ghost use Rattle.wording.specs.Token.{ascii};
+ghost use Rattle.listing.specs.Text.{Put};
 ghost use Rattle.listing.specs.Reason.{reasonOf, reasonRow, refusedWords};
 
 // The reasons in the order of `row_of`, with blanks behind them, and how many letters each has.

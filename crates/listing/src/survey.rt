@@ -9,13 +9,14 @@ ghost use mathlib.Core.Path.{_≡_};
 ghost use Prim.Native.Nat.{_+_, _≤_};
 ghost use lib.ListN.{length, take};
 ghost use Rattle.io.specs.Counts.{Counts};
-ghost use Rattle.listing.specs.Text.{Put, ascii};
+ghost use Rattle.wording.specs.Token.{ascii};
+ghost use Rattle.listing.specs.Text.{Put};
 ghost use Rattle.listing.specs.Survey.{modelName, foundText, refusedLine, surveyLine};
 
 // At least the bytes of the longest line.
 pub const LINE: usize = 128;
 
-fn put_model(out: &mut [u8], at: usize, model: u32) -> usize
+pub(crate) fn put_model(out: &mut [u8], at: usize, model: u32) -> usize
     requires { ⌜ at + 8 ≤ length (now out) ⌝ }
     ensures { λ r. ⌜ Put (now (out .entry)) at (ascii (modelName model)) (now (out .exit)) r ⌝ }
 {

@@ -11,7 +11,8 @@ use borrow.Author.Tests.{ne-eqb}
 use lib.Dec.{ltb}
 use lib.ListN.{length, length-append}
 use Rattle.base.proofs.verdicts.Picks.{cond-false}
-use Rattle.listing.specs.Text.{ascii, digitOf, hasDigit, digitAt, digitsBelow, decimalOf}
+use Rattle.wording.specs.Token.{ascii}
+use Rattle.listing.specs.Text.{digitOf, hasDigit, digitAt, digitsBelow, decimalOf}
 
 pub next-place : (n k : ℕ) → 0 < k → digitsBelow n k ≡ digitAt n (k - 1) ++ digitsBelow n (k - 1)
 unfolding digitsBelow

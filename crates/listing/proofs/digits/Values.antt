@@ -16,7 +16,8 @@ use lib.Ieee.Digits.{size-lt, size-le}
 use lib.Ieee.Exact.{HasValue, odd-sign}
 use lib.Ieee.Fits.{down-pos}
 use Rattle.base.proofs.verdicts.Picks.{cond-true, cond-false}
-use Rattle.listing.specs.Text.{ascii, digitOf, hasDigit, digitAt, digitsBelow}
+use Rattle.wording.specs.Token.{ascii}
+use Rattle.listing.specs.Text.{digitOf, hasDigit, digitAt, digitsBelow}
 use Rattle.listing.specs.Decimal.{nearestOf, signText, leadingOf, textOf, minusOf, scaledText, largeText, sizedText, decimalText}
 use Rattle.listing.proofs.digits.Places.{at-most-20}
 use Rattle.listing.proofs.digits.Quotients.{same-nearest, same-quotient, same-below}

@@ -5,7 +5,8 @@ use lib.Ieee.{nan, binary32, toBits, ofBits}
 use Rattle.base.specs.declared.refusal.Refusal.the-variants.{Marker}
 use Rattle.base.specs.declared.refusal.Verdict.the-variants.{Accepted}
 use Rattle.maps.specs.declared.figures.Shown.the-variants.{Points, Refused}
-use Rattle.listing.specs.Text.{ascii, digitOf, hasDigit, digitAt, digitsBelow}
+use Rattle.wording.specs.Token.{ascii}
+use Rattle.listing.specs.Text.{digitOf, hasDigit, digitAt, digitsBelow}
 use Rattle.listing.specs.Answer.{glyphOf, hexOf, lineOf, linesOf, verdictText, refusalText, pointsText, shownText, sheetText, stoppedText}
 
 accepted : verdictText Accepted ≡ ascii "accepted\n"

@@ -8,7 +8,7 @@ use native.Mathlib.Omega.{arith}
 use lib.ListN.{length, getD, drop, length-append, drop-of-length-le}
 use lib.Seq.{drop-cons}
 use lib.Ieee.{Float, nan}
-use Rattle.listing.specs.Text.{ascii}
+use Rattle.wording.specs.Token.{ascii}
 use Rattle.listing.specs.Answer.{glyphOf, hexOf, lineOf, linesOf}
 
 pub length-line : (x : Float) → length (lineOf x) ≡ 9

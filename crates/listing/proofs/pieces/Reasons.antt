@@ -15,7 +15,8 @@ use Rattle.base.specs.declared.refusal.Refusal.the-variants.{Month, Sunspot, Ho
 use Rattle.base.specs.declared.refusal.Verdict.{Verdict}
 use Rattle.base.specs.declared.refusal.Verdict.the-variants.{Accepted, Refused}
 use Rattle.base.specs.Refusal.{reportOf}
-use Rattle.listing.specs.Text.{ascii, decimalOf}
+use Rattle.wording.specs.Token.{ascii}
+use Rattle.listing.specs.Text.{decimalOf}
 use Rattle.listing.specs.Reason.{reasonOf, reasons, reasonRow, refusedWords}
 use Rattle.listing.specs.Survey.{modelName, foundText}
 use Rattle.listing.proofs.digits.Places.{at-most-10, at-most-20}

@@ -15,7 +15,8 @@ use Rattle.base.proofs.lists.Entries.{at as entry}
 use Rattle.base.proofs.verdicts.Picks.{cond-true, cond-false}
 use Rattle.maps.specs.declared.inputs.Inputs.{Inputs}
 use Rattle.maps.specs.Inputs.{isLong}
-use Rattle.listing.specs.Text.{Put, ascii}
+use Rattle.wording.specs.Token.{ascii}
+use Rattle.listing.specs.Text.{Put}
 use Rattle.listing.specs.Answer.{hexOf}
 use Rattle.listing.specs.Page.{Row, pageRows, pageRow, nameText, lettersIn, unitIn, unitText, valueText, rowText, rowsText, earlyFields, lateFields, longText, fieldsText, pointText, thereText, firstPoints}
 use Rattle.listing.proofs.digits.Places.{at-most-20}
@@ -97,7 +98,7 @@ is-most k n = leb n 9
 unit-size : Row → ℕ
 unit-size w = length (unitText (w .unit))
 
-length-its-unit : (k : ℕ) → k < 47 → length (unitText (pageRow k .unit)) ≤ 9
+pub length-its-unit : (k : ℕ) → k < 47 → length (unitText (pageRow k .unit)) ≤ 9
 unfolding is-most unit-size
 length-its-unit k h =
     let a : getD (map unit-size pageRows) k 0 ≡ unit-size (pageRow k) = List·getD-map unit-size pageRows k nobody in

@@ -4,7 +4,7 @@ use borrow.Author.Tests.{eq-eqb, ne-eqb}
 use mathlib.Core.Path.{_≡_, sym, ap, _∙_}
 use Prim.Native.String.{String}
 use Rattle.base.proofs.verdicts.Picks.{cond-true, cond-false}
-use Rattle.listing.specs.Text.{ascii}
+use Rattle.wording.specs.Token.{ascii}
 use Rattle.listing.proofs.pieces.Puts.{put-as}
 use Rattle.listing.proofs.survey.put_model.Statement.{statement}
 use Rattle.listing.proofs.survey.put_model.Tie as tie
