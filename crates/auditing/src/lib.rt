@@ -1,0 +1,4 @@
+// What an audit finds in a journal: where the inputs of a showing come from, what became of each
+// draft, and the shorter journal.
+pub mod gathering;
+pub mod marks;

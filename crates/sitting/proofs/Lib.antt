@@ -1,0 +1,2 @@
+-- Laws that belong to no one function, in rooms by subject. Assumes nothing.
+pub mod sources

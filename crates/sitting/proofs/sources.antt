@@ -1,0 +1,2 @@
+-- What a call leaves whatever files are lent.
+pub mod Sheets

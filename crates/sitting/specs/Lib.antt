@@ -1,0 +1,2 @@
+-- The definitions that the contracts of `sitting` cite. Assumes nothing.
+pub mod Sitting
