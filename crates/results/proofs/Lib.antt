@@ -1,6 +1,7 @@
 -- The results, a line each, in the order in which a doubter would ask; then the rooms where the
 -- work is done. Assumes nothing.
 pub mod Insurer
+pub mod Audit
 pub mod CancelledEdits
 pub mod FigureSources
 pub mod AsInTheRust
@@ -19,3 +20,4 @@ pub mod finite
 pub mod sheet
 pub mod lists
 pub mod force
+pub mod provenance

@@ -1,6 +1,7 @@
 -- The results, as statements that a reader has to believe: a file for each question that a doubter
 -- would ask, in that order; then the definitions that several of them share. Assumes nothing.
 pub mod Insurer
+pub mod Audit
 pub mod CancelledEdits
 pub mod FigureSources
 pub mod AsInTheRust
