@@ -1,0 +1,17 @@
+// How the program is started.
+use libc::STDERR_FILENO;
+
+// Tells each form on standard error, with an example.
+pub fn usage() {
+    io::write_all(STDERR_FILENO, b"usage: desk run JOURNAL YEAR\n");
+    io::write_all(STDERR_FILENO, b"         as desk run today.txt year.bin\n");
+    io::write_all(STDERR_FILENO, b"       desk say JOURNAL YEAR CALL\n");
+    io::write_all(
+        STDERR_FILENO,
+        b"         as desk say today.txt year.bin 1 sunspot 92.5\n",
+    );
+    io::write_all(
+        STDERR_FILENO,
+        b"An F2 record and a month file may stand for YEAR, and - for JOURNAL of desk run.\n",
+    );
+}
