@@ -14,9 +14,9 @@ mod port;
 mod reference;
 
 use commands::{
-    answer, bulk_journals, bulk_routes, bulk_sheet, bulk_year_journals, clocks, data, files,
-    journals, numbers, pages, replay_input, routes, self_check, sheet_inputs, sheets, time_sheets,
-    year, year_journals,
+    answer, bulk_desk, bulk_desk_lines, bulk_journals, bulk_routes, bulk_sheet, bulk_year_journals,
+    clocks, data, desk, files, journals, numbers, pages, replay_input, routes, self_check,
+    sheet_inputs, sheets, time_sheets, year, year_journals,
 };
 #[cfg(linked)]
 use commands::{
@@ -60,6 +60,13 @@ const USAGE: &str = "usage:
   oracle bulk-lists COUNT SEED                  compare the port's worksheet calls with the model
   oracle bulk-year-lists COUNT SEED             the same over year files
   oracle bulk-sheet COUNT SEED PROGRAM          compare the port's program sheet with the model
+  oracle desk-run JOURNAL YEAR                  say what desk run prints, by the model
+  oracle desk-run JOURNAL RECORD MONTH          the same over a pair of files
+  oracle desk-audit JOURNAL YEAR LINE           the same of desk audit
+  oracle desk-journal FILE SEED                 write a random journal of the program desk
+  oracle bulk-desk COUNT SEED PROGRAM FOLDER    compare the port's program desk with the model
+  oracle bulk-desk-lines COUNT SEED PROGRAM FOLDER
+                                                the same over lines, numbers above all
   oracle replay, oracle replay year, oracle sheet, oracle page
                                                 answer standard input as the model does
   oracle time-sheets                            time whole sheets and the Rust's parts of them
@@ -105,6 +112,15 @@ fn command(words: &[&str]) -> Result<(), String> {
             bulk_year_journals::run(count, seed, program)
         }
         ["bulk-sheet", count, seed, program] => bulk_sheet::run(count, seed, program),
+        ["desk-run", journal, files @ ..] if is_files(files) => desk::run(journal, files),
+        ["desk-audit", journal, files @ .., line] if is_files(files) => {
+            desk::audit(journal, files, line)
+        }
+        ["desk-journal", file, seed] => desk::random(file, seed),
+        ["bulk-desk", count, seed, program, folder] => bulk_desk::run(count, seed, program, folder),
+        ["bulk-desk-lines", count, seed, program, folder] => {
+            bulk_desk_lines::run(count, seed, program, folder)
+        }
         ["replay"] => answer::replay(),
         ["replay", "year"] => answer::replay_year(),
         ["sheet"] => answer::sheet(),
@@ -113,6 +129,11 @@ fn command(words: &[&str]) -> Result<(), String> {
         ["self-check"] => self_check::run(),
         _ => with_port(words),
     }
+}
+
+/// A year file, or a record and a month file.
+fn is_files(names: &[&str]) -> bool {
+    (1..=2).contains(&names.len())
 }
 
 /// The commands that call the port's library.

@@ -23,7 +23,7 @@ pub fn page() -> Result<(), String> {
     print(&page::page_text(&input()?))
 }
 
-fn input() -> Result<Vec<u8>, String> {
+pub fn input() -> Result<Vec<u8>, String> {
     let mut input = Vec::new();
     let read = io::stdin().read_to_end(&mut input);
     read.map_err(|e| format!("cannot read standard input: {e}"))?;

@@ -3,6 +3,8 @@
 pub mod answer;
 #[cfg(linked)]
 pub mod bulk_clocks;
+pub mod bulk_desk;
+pub mod bulk_desk_lines;
 #[cfg(linked)]
 pub mod bulk_files;
 pub mod bulk_journals;
@@ -23,6 +25,7 @@ pub mod bulk_year_journals;
 pub mod bulk_years;
 pub mod clocks;
 pub mod data;
+pub mod desk;
 pub mod files;
 pub mod journals;
 pub mod numbers;

@@ -57,7 +57,7 @@ impl<'a> Compared<'a> {
 }
 
 /// The first line that is not as wanted.
-fn difference(given: &[u8], wanted: &str) -> String {
+pub fn difference(given: &[u8], wanted: &str) -> String {
     let given = String::from_utf8_lossy(given);
     let mut lines = given.lines();
     for (number, wanted) in (1..).zip(wanted.lines()) {
@@ -76,16 +76,31 @@ fn difference(given: &[u8], wanted: &str) -> String {
 }
 
 fn shortened(line: &str) -> String {
-    line.chars().take(40).collect()
+    line.chars().take(100).collect()
+}
+
+/// The standard output; what stands on standard error is shown.
+fn run(program: &str, arguments: &[&str], input: &[u8]) -> Result<Output, String> {
+    run_with(program, arguments, input, Stdio::inherit())
+}
+
+/// Both outputs.
+pub fn run_heard(program: &str, arguments: &[&str], input: &[u8]) -> Result<Output, String> {
+    run_with(program, arguments, input, Stdio::piped())
 }
 
 /// The input is written beside the reading, so that neither waits for ever.
-fn run(program: &str, arguments: &[&str], input: &[u8]) -> Result<Output, String> {
+fn run_with(
+    program: &str,
+    arguments: &[&str],
+    input: &[u8],
+    errors: Stdio,
+) -> Result<Output, String> {
     let failed = |e| format!("cannot run {program}: {e}");
     let mut command = Command::new(program);
     command.args(arguments);
     command.stdin(Stdio::piped()).stdout(Stdio::piped());
-    let mut child = command.spawn().map_err(failed)?;
+    let mut child = command.stderr(errors).spawn().map_err(failed)?;
     let stdin = child.stdin.take().expect("a pipe was asked for");
     thread::scope(|scope| {
         let writer = scope.spawn(move || write(stdin, input));
@@ -108,7 +123,7 @@ fn write(mut stdin: ChildStdin, input: &[u8]) -> std::io::Result<()> {
 
 #[cfg(test)]
 mod tests {
-    use super::{difference, run};
+    use super::{difference, run, run_heard};
 
     #[test]
     fn a_program_gets_its_input_and_gives_its_output() {
@@ -117,6 +132,16 @@ mod tests {
         assert!(output.stdout == input);
         assert!(run("true", &[], &input).is_ok_and(|output| output.stdout.is_empty()));
         assert!(run("no-such-program", &[], &input).is_err());
+    }
+
+    #[test]
+    fn both_outputs_are_heard() {
+        let output = run_heard("sh", &["-c", "cat; echo cut >&2"], b"1 begin");
+        let output = output.expect("sh is everywhere");
+        assert_eq!(
+            (&output.stdout[..], &output.stderr[..]),
+            (&b"1 begin"[..], &b"cut\n"[..])
+        );
     }
 
     #[test]

@@ -3,6 +3,7 @@
 pub mod clock_kinds;
 pub mod damage;
 pub mod data_files;
+pub mod desk_texts;
 pub mod generator;
 pub mod journal_kinds;
 pub mod ranges;

@@ -9,6 +9,7 @@ pub mod page;
 pub mod programs;
 pub mod shorter;
 pub mod survey;
+pub mod text;
 #[cfg(any(linked, test))]
 pub mod words;
 

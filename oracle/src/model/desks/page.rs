@@ -8,7 +8,7 @@ use crate::reference::sheets::{FIGURES, ROW};
 use std::fmt::Write;
 
 /// A name of at most 12 characters and a unit; empty where there is none.
-type Named = (&'static str, &'static str);
+pub type Named = (&'static str, &'static str);
 
 /// Fields 2 to 7, before the line for the long way round.
 const BEFORE_FLAG: [Named; 6] = [
@@ -31,7 +31,7 @@ const AFTER_FLAG: [Named; 6] = [
 ];
 
 /// The figures of the path.
-const PATH: [Named; 6] = [
+pub const PATH: [Named; 6] = [
     ("gcd", "radians"),
     ("gcd_km", "km"),
     ("btr", "radians"),
@@ -41,7 +41,7 @@ const PATH: [Named; 6] = [
 ];
 
 /// The figures of a point.
-const POINT: [Named; ROW] = [
+pub const POINT: [Named; ROW] = [
     ("rd", "radians"),
     ("lat", "radians"),
     ("lon", "radians"),
@@ -123,7 +123,7 @@ fn rows(text: &mut String, names: &[Named], words: &[u32]) {
 
 /// The f32 with these bits in 16 characters, six decimals; the bits times a
 /// power of two from 2^24 on, in as many as it takes.
-fn decimals(word: u32) -> String {
+pub fn decimals(word: u32) -> String {
     let exponent = word >> 23 & 0xff;
     let fraction = word & 0x7f_ffff;
     let sign = if word >> 31 == 1 { "-" } else { "" };

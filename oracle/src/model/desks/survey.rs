@@ -3,6 +3,7 @@
 
 use super::fields::{inputs, moved_to, Inputs, CCIR, URSI};
 use super::lent::Lent;
+use super::text::unsaid::reason;
 use super::Refusal;
 use crate::model::year::MONTHS;
 use crate::reference::sheets::FIGURES;
@@ -30,15 +31,9 @@ pub fn survey_text(year: &[u8]) -> String {
     text
 }
 
-fn refused(Refusal { number, place }: Refusal) -> String {
-    let reason = match number {
-        8 => "the F2 record of the month is not whole",
-        9 => "the month file ends too early",
-        10 => "the month file has a wrong marker at this byte",
-        11 => "the month file has a bad index table for this map",
-        _ => "the year file has a bad directory at this pair",
-    };
-    format!("refused {number} {place}: {reason}")
+fn refused(refusal: Refusal) -> String {
+    let Refusal { number, place } = refusal;
+    format!("refused {number} {place}: {}", reason(refusal))
 }
 
 #[cfg(test)]
