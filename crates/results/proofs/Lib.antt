@@ -2,6 +2,7 @@
 -- work is done. Assumes nothing.
 pub mod Insurer
 pub mod Audit
+pub mod ReadBack
 pub mod CancelledEdits
 pub mod FigureSources
 pub mod AsInTheRust
@@ -21,3 +22,4 @@ pub mod sheet
 pub mod lists
 pub mod force
 pub mod provenance
+pub mod reading

@@ -2,6 +2,7 @@
 -- would ask, in that order; then the definitions that several of them share. Assumes nothing.
 pub mod Insurer
 pub mod Audit
+pub mod ReadBack
 pub mod CancelledEdits
 pub mod FigureSources
 pub mod AsInTheRust
