@@ -108,8 +108,8 @@ firstLine (c ∷ l) = cond (eqb c 10) [] (c ∷ firstLine l)
 abbrev pub lineAt : List ℕ → ℕ → List ℕ
 lineAt text s = firstLine (drop s text)
 
--- a line begins at byte s of a text, and is l
-pub record BeginsAt (text : List ℕ) (s : ℕ) (l : Line) : Type 0 where
+-- from byte s on, up to a newline, a text reads as l
+pub record ReadsAt (text : List ℕ) (s : ℕ) (l : Line) : Type 0 where
   pub within : s ≤ length text
   pub said : lineIn (lineAt text s) ≡ l
 
@@ -120,6 +120,10 @@ callTold cs i = getD cs i (record { call = TakeBack; line = 0 }) .call
 -- a buffer holds the first `count` of some numbers, as many of them as it has room for
 abbrev pub HoldsFirst : ℕ → List ℕ → List ℕ → Type 0
 HoldsFirst count xs buffer = let n = min count (length buffer) in take n buffer ≡ take n xs
+
+-- no calls are gathered
+abbrev pub GatheredNone : Stage → Gathered → Type 0
+GatheredNone stage r = (r .stage ≡ stage) × (r .count ≡ 0)
 
 module _ (source : Source) (text : List ℕ) where
   -- of the open o on line `at` and the calls cs after it
@@ -133,15 +137,15 @@ module _ (source : Source) (text : List ℕ) where
     pub marked : HoldsFirst (r .count) (marksOf (runTold source o cs .entries)) marks
     pub numbered : HoldsFirst (r .count) (numbersTold cs) numbers
     -- and where its line begins; so of the open
-    pub start : BeginsAt text (r .start) (line.Open o)
+    pub start : ReadsAt text (r .start) (line.Open o)
     pub starts-at :
-        (i : ℕ) → i < r .count → i < length starts → BeginsAt text (getD starts i 0) (line.Call (callTold cs i))
+        (i : ℕ) → i < r .count → i < length starts → ReadsAt text (getD starts i 0) (line.Call (callTold cs i))
 
   -- of what was told
   unfoldable pub GatheredAs : Told → Gathered → List ℕ → List ℕ → List ℕ → Type 0
-  GatheredAs waiting r marks numbers starts = r .stage ≡ Waiting
+  GatheredAs waiting r marks numbers starts = GatheredNone Waiting r
   GatheredAs (sits o at cs) r marks numbers starts = GatheredSits o at cs r marks numbers starts
-  GatheredAs ended r marks numbers starts = r .stage ≡ Ended
+  GatheredAs ended r marks numbers starts = GatheredNone Ended r
 
   -- WHAT IS GATHERED from the first k lines of the text
   abbrev pub Gathers : ℕ → Gathered → List ℕ → List ℕ → List ℕ → Type 0
@@ -200,5 +204,5 @@ module _ (source : Source) where
   -- with line n, which is l, h goes on to h′, in whatever text the line begins at byte s
   unfoldable pub GoesOn : ℕ → ℕ → Line → Gathering → Gathering → Type 0
   GoesOn n s l h h′ =
-      (text : List ℕ) (t : Told) → BeginsAt text s l → GatheringAs text t h →
+      (text : List ℕ) (t : Told) → ReadsAt text s l → GatheringAs text t h →
       GatheringAs text (telling n t l) h′

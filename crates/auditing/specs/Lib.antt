@@ -3,3 +3,5 @@
 pub mod Provenance
 pub mod Marks
 pub mod Gathered
+pub mod Accounts
+pub mod Page

@@ -70,6 +70,14 @@ isOwnMark n m = eqb (markDesk m) n && (eqb (markSort m) 12 || (ltb (markSort m) 
 abbrev pub isRefusedCommit : ℕ → ℕ → Bool
 isRefusedCommit n m = eqb (markSort m) 9 && not (markGood m) && eqb (markDesk m) n
 
+-- a showing of the worksheet
+abbrev pub isShowing : ℕ → Bool
+isShowing m = eqb (markSort m) 12 && eqb (markDesk m) 0
+
+-- what the shorter list has by itself: an accepted take-back, or a showing of the worksheet
+abbrev pub isAlone : ℕ → Bool
+isAlone m = isDone 11 m || isShowing m
+
 abbrev pub markAt : List ℕ → ℕ → ℕ
 markAt ms k = getD ms k 0
 
@@ -132,7 +140,7 @@ module _ (ms : List ℕ) where
   keptAt j =
       let m = markAt ms j in
       cond (isDone 9 m) (ownPlaces (markDesk m) j ++ (j ∷ []))
-      (cond (isDone 11 m || (eqb (markSort m) 12 && eqb (markDesk m) 0)) (j ∷ []) [])
+      (cond (isAlone m) (j ∷ []) [])
 
   -- of the calls before place j
   unfoldable pub keptPlaces : ℕ → List ℕ
@@ -159,10 +167,6 @@ given x p = pile (min (suc (p .size)) (suc (length (p .held)))) (set (p .held) (
 unfoldable pub allGiven : List ℕ → Pile → Pile
 allGiven [] p = p
 allGiven (x ∷ l) p = allGiven l (given x p)
-
--- an accepted take-back, or a showing of the worksheet
-abbrev pub isAlone : ℕ → Bool
-isAlone m = isDone 11 m || (eqb (markSort m) 12 && eqb (markDesk m) 0)
 
 -- an accepted begin of desk n, or what belongs to its draft
 abbrev pub isDraftMark : ℕ → ℕ → Bool

@@ -15,6 +15,8 @@ use Rattle.auditing.specs.declared.marks.Origin.{Origin}
 use Rattle.auditing.specs.declared.marks.Origin.the-variants.{Opened, Set}
 use Rattle.auditing.specs.declared.marks.Fate.{Fate}
 use Rattle.auditing.specs.declared.marks.Fate.the-variants.{Stands, TakenBack, Cancelled, Never}
+use Rattle.auditing.specs.declared.marks.Refused.{Refused}
+use Rattle.auditing.specs.declared.marks.Refused.the-variants.{At}
 
 -- ---- the parts of the inputs: each change is of one of them, with all its fields
 
@@ -123,3 +125,30 @@ unfoldable pub fateOf : ℕ → ℕ → List Entry → Fate
 fateOf n at [] = Never
 fateOf n at (x ∷ later) =
     openBy n at (roleIn x) (good x) (fateSettled at (suc at) later) (fateOf n (suc at) later)
+
+-- it ends desk n's draft: its cancel or its commit, accepted
+abbrev pub isEnding : ℕ → Role → Bool → Bool
+isEnding n (beginning m) good = false
+isEnding n (ending m) good = eqb m n && good
+isEnding n (settling m) good = eqb m n && good
+isEnding n (belonging m even es) good = false
+isEnding n returning good = false
+isEnding n showing good = false
+
+abbrev pub endsDraft : ℕ → Entry → Bool
+endsDraft n x = isEnding n (roleIn x) (good x)
+
+-- a commit of desk n, refused
+abbrev pub isRefusing : ℕ → Role → Bool → Bool
+isRefusing n (beginning m) good = false
+isRefusing n (ending m) good = false
+isRefusing n (settling m) good = eqb m n && not good
+isRefusing n (belonging m even es) good = false
+isRefusing n returning good = false
+isRefusing n showing good = false
+
+-- THE LAST REFUSED COMMIT of a draft of desk n, while it was open; `last` where there is none
+unfoldable pub refusedOf : ℕ → Refused → ℕ → List Entry → Refused
+refusedOf n last at [] = last
+refusedOf n last at (x ∷ later) =
+    cond (endsDraft n x) last (refusedOf n (cond (isRefusing n (roleIn x) (good x)) (At at) last) (suc at) later)

@@ -26,7 +26,7 @@ ghost use Rattle.wording.specs.declared.line.Line.the-variants as line;
 ghost use Rattle.wording.specs.Written.{callWritten};
 ghost use Rattle.listing.specs.Turn.{blank};
 ghost use Rattle.auditing.specs.Marks.{markOf};
-ghost use Rattle.auditing.specs.Gathered.{lineAt, Gathers, handedGood, stageOf, openedAs, gathering, withCall, GoesOn};
+ghost use Rattle.auditing.specs.Gathered.{lineAt, GatheredNone, Gathers, handedGood, stageOf, openedAs, gathering, withCall, GoesOn};
 
 // What the lines so far told.
 pub enum Stage {
@@ -39,7 +39,7 @@ pub enum Stage {
 }
 
 // Where the journal sits: the worksheet after its calls, how many these are, the number of the
-// open's line, and the byte of the text where that line begins.
+// open's line, and the byte of the text where that line begins. Else no call counts.
 pub struct Gathered {
     pub stage: Stage,
     pub sheet: Worksheet,
@@ -135,7 +135,7 @@ fn put_number(out: &mut [usize], k: usize, n: usize)
 
 // Before any line.
 fn nothing() -> Gathered
-    ensures { λ r. ⌜ (r .stage ≡ Stage.Waiting) × (r .count ≡ 0) ⌝ }
+    ensures { λ r. ⌜ GatheredNone Stage.Waiting r ⌝ }
 {
     let first = desks::opened(b"");
     let sheet = first.sheet;
@@ -149,13 +149,13 @@ fn nothing() -> Gathered
 }
 
 fn ended(g: Gathered) -> Gathered
-    ensures { λ r. ⌜ (r .stage ≡ Stage.Ended) × (r .count ≡ g .count) ⌝ }
+    ensures { λ r. ⌜ GatheredNone Stage.Ended r ⌝ }
 {
     let sheet = g.sheet;
     Gathered {
         stage: Stage::Ended,
         sheet: sheet,
-        count: g.count,
+        count: 0,
         opened: g.opened,
         start: g.start,
     }

@@ -12,3 +12,4 @@ pub mod Answers
 pub mod Examples
 pub mod Fractions
 pub mod Faults
+pub mod Accounts

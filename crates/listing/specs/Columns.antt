@@ -16,9 +16,14 @@ use Rattle.listing.specs.Fields.{atRight, inTurn, fieldsWords}
 unfoldable pub abreast : ℕ → ℕ
 abreast count = cond (ltb count 5) count 5
 
+-- a number in its column: at the right end of 16 characters, with a blank before them, so that no two
+-- run together
+unfoldable pub cell : List ℕ → List ℕ
+cell l = ascii " " ++ atRight l
+
 -- n numbers side by side: the one at `at`, and of each point after the first the one 29 further on
 abbrev pub cellsText : List Float → ℕ → ℕ → List ℕ
-cellsText figures at n = inTurn (λ (p : ℕ). decimalText (getD figures (at + 29 * p) nan)) n
+cellsText figures at n = inTurn (λ (p : ℕ). cell (decimalText (getD figures (at + 29 * p) nan))) n
 
 -- name, numbers, unit
 unfoldable pub sideRow : Row → List ℕ → List ℕ
@@ -30,7 +35,7 @@ sideRows first figures at n m = inTurn (λ (k : ℕ). sideRow (pageRow (first + 
 
 -- the numbers of the points, from 1 on
 abbrev pub pointNumbers : ℕ → List ℕ
-pointNumbers n = inTurn (λ (p : ℕ). atRight (decimalOf (p + 1))) n
+pointNumbers n = inTurn (λ (p : ℕ). cell (decimalOf (p + 1))) n
 
 unfoldable pub pointsHead : ℕ → List ℕ
 pointsHead n = ascii "point       " ++ (pointNumbers n ++ ascii "\n")

@@ -49,8 +49,7 @@ minusOf negative = cond negative (ascii "-") []
 unfoldable pub scaledText : Bool → ℕ → ℕ → List ℕ
 scaledText negative q k = minusOf negative ++ (decimalOf q ++ (ascii "*2^" ++ decimalOf k))
 
--- a whole number of 24 binary digits or more: its 24 highest digits, and a power of two for the
--- others
+-- a whole number of 2 ^ 24 or more: its 24 highest binary digits, and a power of two for the others
 unfoldable pub largeText : Bool → ℕ → List ℕ
 largeText negative n =
     let k = size n - 24 in

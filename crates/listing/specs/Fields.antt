@@ -87,10 +87,6 @@ fieldName w = take 24 (ascii (w .name) ++ replicate 24 32)
 unfoldable pub fieldText : Inputs → ℕ → List ℕ
 fieldText i k = fieldName (fieldRow k) ++ (fieldValue i k ++ unitText (fieldRow k .unit))
 
--- the same for any k: there is no text of a field that is none
-unfoldable pub fieldTextAt : Inputs → ℕ → List ℕ
-fieldTextAt i k = cond (leb 1 k && leb k 15) (fieldText i k) []
-
 abbrev pub fieldLine : Inputs → ℕ → List ℕ
 fieldLine i k = fieldText i k ++ ascii "\n"
 

@@ -13,3 +13,4 @@ pub mod Columns
 pub mod Spoken
 pub mod Written
 pub mod Fault
+pub mod Account

@@ -82,8 +82,6 @@ pageRows =
 abbrev pub pageRow : ℕ → Row
 pageRow k = getD pageRows k (row "" "")
 
--- ---- a unit in seven characters, blanks after it
-
 -- ---- a line
 
 -- the name, in twelve characters

@@ -9,15 +9,16 @@ use crate::text::put;
 use maps::figures::FIGURES;
 use maps::inputs::Inputs;
 ghost use mathlib.Core.Path.{_≡_};
-ghost use Prim.Native.Nat.{_+_, _*_, _≤_, _<_};
+ghost use Prim.Native.Nat.{_+_, _-_, _*_, _≤_, _<_};
 ghost use lib.ListN.{length, take};
 ghost use Rattle.io.specs.Counts.{Counts};
-ghost use Rattle.listing.specs.Text.{Put};
+ghost use Rattle.listing.specs.Text.{Put, decimalOf};
+ghost use Rattle.listing.specs.Decimal.{decimalText};
 ghost use Rattle.listing.specs.Page.{pageRow};
-ghost use Rattle.listing.specs.Columns.{abreast, cellsText, sideRow, sideRows, pointNumbers, pointsHead, columnsText};
+ghost use Rattle.listing.specs.Columns.{abreast, cell, cellsText, sideRow, sideRows, pointNumbers, pointsHead, columnsText};
 
 // At least the bytes of the longest page.
-pub const COLUMNS: usize = 9800;
+pub const COLUMNS: usize = 10000;
 
 // How many points stand side by side.
 fn points_abreast(count: u32) -> usize
@@ -27,17 +28,46 @@ fn points_abreast(count: u32) -> usize
     if count < 5 { count as usize } else { 5 }
 }
 
+// How many of 16 characters a text of n leaves.
+fn left_of_16(n: usize) -> usize
+    ensures { λ r. ⌜ r ≡ 16 - n ⌝ }
+{
+    if n < 16 { 16 - n } else { 0 }
+}
+
+// Puts a text in its column.
+fn put_cell(out: &mut [u8], at: usize, piece: &[u8]) -> usize
+    requires { ⌜ length (now piece) ≤ 44 ⌝ }
+    requires { ⌜ at + 45 ≤ length (now out) ⌝ }
+    ensures { λ r. ⌜ Put (now (out .entry)) at (cell (now (piece .entry))) (now (out .exit)) r ⌝ }
+{
+    let blanks = [b' '; 16];
+    let n = left_of_16(piece.len());
+    let next = put(out, at, b" ");
+    let next = put(out, next, &blanks[..n]);
+    put(out, next, piece)
+}
+
+fn put_figure(out: &mut [u8], at: usize, x: f32) -> usize
+    requires { ⌜ at + 45 ≤ length (now out) ⌝ }
+    ensures { λ r. ⌜ Put (now (out .entry)) at (cell (decimalText x)) (now (out .exit)) r ⌝ }
+{
+    let mut text = [0u8; 44];
+    let size = put_float(&mut text, 0, x);
+    put_cell(out, at, &text[..size])
+}
+
 // Puts n numbers, each 29 after the one before it.
 fn put_cells(out: &mut [u8], at: usize, figures: &[f32; FIGURES], from: usize, n: usize) -> usize
     requires { ⌜ n ≤ 5 ⌝ }
     requires { ⌜ from < 35 ⌝ }
-    requires { ⌜ at + 44 * n ≤ length (now out) ⌝ }
+    requires { ⌜ at + 45 * n ≤ length (now out) ⌝ }
     ensures { λ r. ⌜ Put (now (out .entry)) at (cellsText (now (figures .entry)) from n) (now (out .exit)) r ⌝ }
 {
     let mut next = at;
     let mut p: usize = 0;
     while p < n {
-        next = put_float(out, next, figures[from + 29 * p]);
+        next = put_figure(out, next, figures[from + 29 * p]);
         p += 1;
     }
     next
@@ -55,7 +85,7 @@ fn put_side_row(
     requires { ⌜ k < 47 ⌝ }
     requires { ⌜ n ≤ 5 ⌝ }
     requires { ⌜ from < 35 ⌝ }
-    requires { ⌜ at + 242 ≤ length (now out) ⌝ }
+    requires { ⌜ at + 247 ≤ length (now out) ⌝ }
     ensures { λ r. ⌜ (
         Put (now (out .entry)) at (sideRow (pageRow k) (cellsText (now (figures .entry)) from n)) (now (out .exit)) r
         ) ⌝ }
@@ -81,7 +111,7 @@ fn put_side_rows(
     requires { ⌜ first + m ≤ 47 ⌝ }
     requires { ⌜ n ≤ 5 ⌝ }
     requires { ⌜ from + m ≤ 35 ⌝ }
-    requires { ⌜ at + 242 * m ≤ length (now out) ⌝ }
+    requires { ⌜ at + 247 * m ≤ length (now out) ⌝ }
     ensures { λ r. ⌜ Put (now (out .entry)) at (sideRows first (now (figures .entry)) from n m) (now (out .exit)) r ⌝ }
 {
     let mut next = at;
@@ -93,15 +123,23 @@ fn put_side_rows(
     next
 }
 
+fn put_point_number(out: &mut [u8], at: usize, n: u32) -> usize
+    requires { ⌜ at + 17 ≤ length (now out) ⌝ }
+    ensures { λ r. ⌜ Put (now (out .entry)) at (cell (decimalOf n)) (now (out .exit)) r ⌝ }
+{
+    let next = put(out, at, b" ");
+    put_whole(out, next, n)
+}
+
 fn put_point_numbers(out: &mut [u8], at: usize, n: usize) -> usize
     requires { ⌜ n ≤ 5 ⌝ }
-    requires { ⌜ at + 20 * n ≤ length (now out) ⌝ }
+    requires { ⌜ at + 21 * n ≤ length (now out) ⌝ }
     ensures { λ r. ⌜ Put (now (out .entry)) at (pointNumbers n) (now (out .exit)) r ⌝ }
 {
     let mut next = at;
     let mut p: usize = 0;
     while p < n {
-        next = put_whole(out, next, (p + 1) as u32);
+        next = put_point_number(out, next, (p + 1) as u32);
         p += 1;
     }
     next
@@ -109,7 +147,7 @@ fn put_point_numbers(out: &mut [u8], at: usize, n: usize) -> usize
 
 fn put_points_head(out: &mut [u8], at: usize, n: usize) -> usize
     requires { ⌜ n ≤ 5 ⌝ }
-    requires { ⌜ at + 113 ≤ length (now out) ⌝ }
+    requires { ⌜ at + 118 ≤ length (now out) ⌝ }
     ensures { λ r. ⌜ Put (now (out .entry)) at (pointsHead n) (now (out .exit)) r ⌝ }
 {
     let next = put(out, at, b"point       ");
@@ -125,7 +163,7 @@ pub(crate) fn put_columns(
     count: u32,
     figures: &[f32; FIGURES],
 ) -> usize
-    requires { ⌜ at + 9800 ≤ length (now out) ⌝ }
+    requires { ⌜ at + 10000 ≤ length (now out) ⌝ }
     ensures { λ r. ⌜ Put (now (out .entry)) at (columnsText i count (now (figures .entry))) (now (out .exit)) r ⌝ }
 {
     let n = points_abreast(count);

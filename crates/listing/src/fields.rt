@@ -1,6 +1,5 @@
 // The 15 fields of a sheet in words, for people who read no hexadecimal digits.
 use crate::decimal::put_float;
-use crate::survey::LINE;
 use crate::survey::put_model;
 use crate::text::put;
 use crate::text::put_number;
@@ -15,7 +14,7 @@ ghost use Rattle.wording.specs.Token.{ascii};
 ghost use Rattle.listing.specs.Text.{Put, decimalOf};
 ghost use Rattle.listing.specs.Page.{unitText};
 ghost use Rattle.listing.specs.Survey.{modelName};
-ghost use Rattle.listing.specs.Fields.{atRight, fieldRow, flagName, fieldValue, fieldName, fieldText, fieldTextAt, fieldLine, fieldsWords, singles};
+ghost use Rattle.listing.specs.Fields.{atRight, fieldRow, flagName, fieldValue, fieldName, fieldText, fieldLine, fieldsWords, singles};
 
 // The fields by name in 24 letters, and below by unit after two blanks, with how many letters of it
 // count.
@@ -210,19 +209,4 @@ pub(crate) fn put_fields_words(out: &mut [u8], at: usize, i: Inputs) -> usize
         k += 1;
     }
     next
-}
-
-// Writes the line of field k, with no line feed, or nothing where k is not 1 to 15, and gives its
-// length in bytes.
-pub fn field_text(i: Inputs, k: u32, out: &mut [u8; LINE]) -> usize
-    ensures text { λ r. ⌜ take r (now (out .exit)) ≡ fieldTextAt i k ⌝ }
-    ensures count { λ r. ⌜ Counts r (now (out .exit)) ⌝ }
-{
-    if k < 1 {
-        return 0;
-    }
-    if 15 < k {
-        return 0;
-    }
-    put_field(out, 0, i, k)
 }

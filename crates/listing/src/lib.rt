@@ -1,5 +1,6 @@
 // What the programs share: calls from the words of their input, answers as lines of text, calls and
 // answers in words for people, and what a year file has to show.
+pub mod account;
 pub mod answer;
 pub mod call;
 pub mod columns;

@@ -78,7 +78,7 @@ fn put_points_words(
     count: u32,
     figures: &[f32; FIGURES],
 ) -> usize
-    requires { ⌜ at + 9826 ≤ length (now out) ⌝ }
+    requires { ⌜ at + 10026 ≤ length (now out) ⌝ }
     ensures { λ r. ⌜ Put (now (out .entry)) at (pointsWords i count (now (figures .entry))) (now (out .exit)) r ⌝ }
 {
     let next = put(out, at, b"shown, ");
@@ -95,7 +95,7 @@ fn put_shown_words(
     s: Shown,
     figures: &[f32; FIGURES],
 ) -> usize
-    requires { ⌜ at + 9826 ≤ length (now out) ⌝ }
+    requires { ⌜ at + 10026 ≤ length (now out) ⌝ }
     ensures { λ r. ⌜ Put (now (out .entry)) at (shownWords i s (now (figures .entry))) (now (out .exit)) r ⌝ }
 {
     match s {
@@ -111,7 +111,7 @@ fn put_handed_words(
     a: Answer,
     figures: &[f32; FIGURES],
 ) -> usize
-    requires { ⌜ at + 9826 ≤ length (now out) ⌝ }
+    requires { ⌜ at + 10026 ≤ length (now out) ⌝ }
     ensures { λ r. ⌜ Put (now (out .entry)) at (handedWords i a (now (figures .entry))) (now (out .exit)) r ⌝ }
 {
     match a {

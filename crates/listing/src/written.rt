@@ -1,4 +1,5 @@
 // A written call as text, as a line of a journal has it.
+use crate::columns::COLUMNS;
 use crate::text::digit;
 use crate::text::divided;
 use crate::text::put;
@@ -24,7 +25,8 @@ ghost use Rattle.listing.specs.Text.{Put, decimalOf};
 ghost use Rattle.listing.specs.Written.{placesText, fractionText, digitsText, numberText, pairText, routeText, factorsText, poleText, modelText, headText, tailText, openText, editText, deedText, callText, lineText};
 
 // At least the bytes of the longest text, an open: twelve numbers of at most 40 bytes and the words.
-pub const WRITTEN: usize = 576;
+// As large as the other parts of an audit's page, so that one buffer serves for all.
+pub const WRITTEN: usize = COLUMNS;
 
 // Whether reading can give this number.
 fn is_written(d: Decimal) -> bool

@@ -17,20 +17,33 @@ pub(crate) struct Files {
 }
 
 // Whether a file has been read to its end; else what is left, or what failed, is said.
-fn is_whole(fd: i32, name: &[u8]) -> bool {
+fn is_whole(fd: i32, name: &[u8], full: bool) -> bool {
     let mut more = [0u8; 1];
     let left = libc::read(fd, &mut more);
     if left < 0 {
         os::fail(name);
     }
     if left > 0 {
-        io::write_all(STDERR_FILENO, name);
+        say_more(name, full);
+    }
+    left == 0
+}
+
+// Says that there is more of a file: it does not fit, or, where the buffer is not full, a read
+// before this one has failed.
+fn say_more(name: &[u8], full: bool) {
+    io::write_all(STDERR_FILENO, name);
+    if full {
         io::write_all(
             STDERR_FILENO,
             b": too long: desk takes files of at most 1048576 bytes, a pair's together\n",
         );
+    } else {
+        io::write_all(
+            STDERR_FILENO,
+            b": it could not be read to its end: try again\n",
+        );
     }
-    left == 0
 }
 
 // Where a file that is read into the buffer ends, and whether it was read whole.
@@ -61,7 +74,7 @@ fn read_named(name: &[u8], at: usize, buffer: &mut [u8]) -> Got
         };
     }
     let got = read_at(fd, buffer, at);
-    let good = is_whole(fd, name);
+    let good = is_whole(fd, name, at + got == buffer.len());
     libc::close(fd);
     Got {
         end: at + got,

@@ -39,29 +39,33 @@ fn make_journal(name: &[u8]) -> i32 {
     fd
 }
 
-// A file open to be written at its end, made where it is missing.
-fn open_to_add(name: &[u8]) -> i32 {
-    let fd = os::open_append(name);
-    if fd >= 0 {
-        return fd;
-    }
-    os::create(name)
-}
-
-// Puts bytes and a newline behind a file's others, and gives whether they are on its device; what
-// failed is said.
-fn put_aside(name: &[u8], bytes: &[u8]) -> bool {
-    let fd = open_to_add(name);
-    if fd < 0 {
-        os::fail(name);
-        return false;
-    }
+// Puts bytes and a newline behind what an open file has, and gives whether they are on its device;
+// what failed is said.
+fn put(fd: i32, name: &[u8], bytes: &[u8]) -> bool {
     let good = io::write_all(fd, bytes) && io::write_all(fd, b"\n") && libc::fsync(fd) == 0;
     if !good {
         os::fail(name);
     }
     libc::close(fd);
     good
+}
+
+// The same of a file by its name; one that is missing is made, and its name put on its device too.
+fn put_aside(name: &[u8], bytes: &[u8]) -> bool {
+    let fd = os::open_append(name);
+    if fd >= 0 {
+        return put(fd, name, bytes);
+    }
+    if os::errno() != ENOENT {
+        os::fail(name);
+        return false;
+    }
+    let made = os::create(name);
+    if made < 0 {
+        os::fail(name);
+        return false;
+    }
+    put(made, name, bytes) && sync_folder(name)
 }
 
 // Whether the journal could be cut to so many bytes; else what failed is said.
@@ -75,52 +79,63 @@ fn cut_back(fd: i32, name: &[u8], bytes: u64) -> bool
     good
 }
 
-// Takes what was cut short, line `number`, off the journal's end, once it is put aside in a file
-// beside it.
-pub(crate) fn set_aside(fd: i32, name: &[u8], bytes: u64, number: u64, cut: &[u8]) -> bool
+// Takes what was cut short off the journal's end, once it is put aside in a file beside it.
+pub(crate) fn set_aside(fd: i32, name: &[u8], bytes: u64, cut: &[u8]) -> bool
     requires { ⌜ bytes ≤ 72057594037927936 ⌝ }
 {
     let mut aside = [0u8; NAME];
     let n = beside(name, b".cut", &mut aside);
-    if !put_aside(&aside[..n], cut) {
-        return false;
-    }
-    if !cut_back(fd, name, bytes) {
-        return false;
-    }
+    put_aside(&aside[..n], cut) && cut_back(fd, name, bytes)
+}
+
+// Says that line `number` was cut short, and where it was put aside.
+pub(crate) fn say_aside(name: &[u8], number: u64) {
+    let mut aside = [0u8; NAME];
+    let n = beside(name, b".cut", &mut aside);
     say_cut(number);
     io::write_all(STDERR_FILENO, b"it was put aside in ");
     io::write_all(STDERR_FILENO, &aside[..n]);
     io::write_all(STDERR_FILENO, b"\n");
-    true
 }
 
-// Puts a line behind the journal's first bytes, and gives whether it is on its device. Where it
-// cannot be, what failed is said, and the journal is cut back to what it was.
-fn append(fd: i32, name: &[u8], bytes: u64, line: &[u8]) -> bool
+// What came of a call.
+pub(crate) enum Fate {
+    // Its line is on its device.
+    Kept,
+    // It is answered and not kept.
+    Answered,
+    // The journal ends before it.
+    Late,
+    // It was not made; what failed was said.
+    Failed,
+    // Its line could not be written, nor the journal be cut back, so that some of it may stand.
+    Unsure,
+}
+
+// Puts a line behind the journal's first bytes. Where it cannot be on its device, what failed is
+// said, and the journal is cut back to what it was.
+fn append(fd: i32, name: &[u8], bytes: u64, line: &[u8]) -> Fate
     requires { ⌜ bytes ≤ 72057594037927936 ⌝ }
 {
     libc::lseek(fd, bytes as i64, libc::SEEK_SET);
     if io::write_all(fd, line) && libc::fsync(fd) == 0 {
-        return true;
+        return Fate::Kept;
     }
     os::fail(name);
-    cut_back(fd, name, bytes);
-    io::write_all(
-        STDERR_FILENO,
-        b"the call was not made: its line could not be written\n",
-    );
-    false
+    if cut_back(fd, name, bytes) {
+        return Fate::Failed;
+    }
+    Fate::Unsure
 }
 
 // Keeps the line of a call behind the journal's first bytes, written anew. A journal's first line
 // is kept once the journal's name is on its device.
-pub(crate) fn keep(fd: i32, name: &[u8], bytes: u64, line: &[u8]) -> bool
+pub(crate) fn keep(fd: i32, name: &[u8], bytes: u64, line: &[u8]) -> Fate
     requires { ⌜ bytes ≤ 72057594037927936 ⌝ }
 {
     if bytes == 0 {
         if !sync_folder(name) {
-            return false;
+            return Fate::Failed;
         }
     }
     let mut text = [0u8; WRITTEN];

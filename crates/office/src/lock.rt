@@ -1,12 +1,18 @@
 // The journal's lock: a file beside it that only one can make at a time, and that says who made it.
-use crate::name::NAME;
+use crate::name::join;
 use crate::wait::rest;
 use libc::EEXIST;
+use libc::ENOENT;
 use libc::STDERR_FILENO;
+ghost use Prim.Native.Nat.{_≤_};
+ghost use lib.ListN.{length};
 ghost use Rattle.io.specs.Counts.{Counts};
 
 // How often the lock is tried for, with rests of two milliseconds: five seconds and more.
 const TRIES: u32 = 2500;
+
+// The most bytes of what is signed into a lock: a host's name has at most 255.
+const LINE: usize = 300;
 
 // How many bytes stand before the first 0.
 fn before_zero(text: &[u8]) -> usize
@@ -22,17 +28,6 @@ fn before_zero(text: &[u8]) -> usize
     i
 }
 
-fn write_before_zero(fd: i32, text: &[u8]) -> bool {
-    let n = before_zero(text);
-    io::write_all(fd, &text[..n])
-}
-
-fn write_host(fd: i32) -> bool {
-    let mut host = [0u8; 256];
-    libc::gethostname(&mut host);
-    write_before_zero(fd, &host)
-}
-
 fn number_of(p: i32) -> u64 {
     if p > 0 {
         return p as u64;
@@ -40,26 +35,74 @@ fn number_of(p: i32) -> u64 {
     0
 }
 
-// Writes into the lock who has it: the host and the process.
-fn sign(fd: i32) -> bool {
-    let process = number_of(libc::getpid());
-    io::write_all(fd, b"host ")
-        && write_host(fd)
-        && io::write_all(fd, b" process ")
-        && io::print_decimal(fd, process)
-        && io::write_all(fd, b"\n")
+// Who has the lock: the host and the process.
+fn signature(out: &mut [u8; LINE]) -> usize
+    ensures { λ r. ⌜ Counts r (now (out .exit)) ⌝ }
+{
+    let mut host = [0u8; 256];
+    libc::gethostname(&mut host);
+    let h = before_zero(&host);
+    let mut digits = [0u8; 20];
+    let d = io::decimal(number_of(libc::getpid()), &mut digits);
+    let n = join(out, 0, b"host ");
+    let n = join(out, n, &host[..h]);
+    let n = join(out, n, b" process ");
+    let n = join(out, n, &digits[..d]);
+    join(out, n, b"\n")
 }
 
-// Copies to standard error what is signed into a lock.
-fn say_signed(lock: &[u8]) {
-    let fd = os::open_read(lock);
-    if fd < 0 {
-        return;
+// Writes into the lock who has it, at once, so that a stop leaves all of it or nothing.
+fn sign(fd: i32) -> bool {
+    let mut text = [0u8; LINE];
+    let n = signature(&mut text);
+    io::write_all(fd, &text[..n])
+}
+
+// A byte as it is told: anybody can have written it, and a terminal obeys some bytes.
+fn plain(byte: u8) -> u8 {
+    if byte < b' ' {
+        return b'?';
     }
-    let mut who = [0u8; NAME];
-    let n = io::read_full(fd, &mut who);
-    io::write_all(STDERR_FILENO, &who[..n]);
+    if byte > b'~' {
+        return b'?';
+    }
+    byte
+}
+
+// How many of the first n bytes of a text are its first line, which is made plain.
+fn first_line(text: &mut [u8], n: usize) -> usize
+    requires { ⌜ n ≤ length (now text) ⌝ }
+    ensures { λ r. ⌜ Counts r (now (text .exit)) ⌝ }
+{
+    let mut i = 0usize;
+    while i < n {
+        if text[i] == b'\n' {
+            return i;
+        }
+        text[i] = plain(text[i]);
+        i += 1;
+    }
+    i
+}
+
+// The first line that is signed into a lock; none where it cannot be read.
+fn signed_into(lock: &[u8], who: &mut [u8; LINE]) -> usize
+    ensures { λ r. ⌜ Counts r (now (who .exit)) ⌝ }
+{
+    let fd = os::open_read(lock);
+    let n = io::read_full(fd, who);
     libc::close(fd);
+    first_line(who, n)
+}
+
+fn say_signed(lock: &[u8]) {
+    let mut who = [0u8; LINE];
+    let n = signed_into(lock, &mut who);
+    if n == 0 {
+        io::write_all(STDERR_FILENO, b"a process that did not sign it");
+    }
+    io::write_all(STDERR_FILENO, &who[..n]);
+    io::write_all(STDERR_FILENO, b"\n");
 }
 
 // Says who has the lock, as far as it is signed, and how to lift it.
@@ -72,9 +115,8 @@ fn say_held(lock: &[u8]) {
     say_signed(lock);
     io::write_all(
         STDERR_FILENO,
-        b"Nothing was said. Try again; if that process no longer runs, ",
+        b"Try again; if that process no longer runs, delete the lock and try again.\n",
     );
-    io::write_all(STDERR_FILENO, b"delete the lock and try again.\n");
 }
 
 // Signs the lock that was made; where that fails the lock is lifted and that is said.
@@ -108,9 +150,20 @@ pub(crate) fn take(lock: &[u8]) -> bool {
     false
 }
 
-// Lifts the lock.
+// Lifts the lock. One that is gone was lifted under us, when others could write too.
 pub(crate) fn give_back(lock: &[u8]) {
-    if os::unlink(lock) < 0 {
-        os::fail(lock);
+    if os::unlink(lock) == 0 {
+        return;
+    }
+    let is_gone = os::errno() == ENOENT;
+    os::fail(lock);
+    if is_gone {
+        io::write_all(
+            STDERR_FILENO,
+            b"the lock was lifted by somebody else while the call was made: ",
+        );
+        io::write_all(STDERR_FILENO, b"see that the journal has its line once\n");
+    } else {
+        io::write_all(STDERR_FILENO, b"the lock stands: delete it by hand\n");
     }
 }

@@ -14,13 +14,22 @@ pub(crate) fn argument(i: usize, name: &mut [u8; NAME]) -> usize
 {
     let n = os::arg(i, name);
     if os::errno() != 0 {
-        os::fail(b"the name of a file");
+        say_no_name(i, b"too long");
         return 0;
     }
     if n == 0 {
-        io::write_all(STDERR_FILENO, b"the name of a file is empty\n");
+        say_no_name(i, b"empty");
     }
     n
+}
+
+// Says what is wrong with the name that argument i is.
+fn say_no_name(i: usize, wrong: &[u8]) {
+    io::write_all(STDERR_FILENO, b"argument ");
+    io::print_decimal(STDERR_FILENO, i as u64);
+    io::write_all(STDERR_FILENO, b": the name of a file is ");
+    io::write_all(STDERR_FILENO, wrong);
+    io::write_all(STDERR_FILENO, b"\n");
 }
 
 // Puts the bytes of `piece` after the first n of a text, as far as they fit, and gives the length.

@@ -10,6 +10,7 @@ use crate::journal::write;
 use crate::name::NAME;
 use crate::name::argument;
 use crate::name::is_dash;
+use libc::STDERR_FILENO;
 use libc::STDIN_FILENO;
 use listing::spoken::SPOKEN;
 use packing::YEAR_MOST;
@@ -32,6 +33,8 @@ fn run_into(fd: i32, name: &[u8], lent: Lent, a: &[u8], b: &[u8], buffer: &mut [
         State::Done => {
             if r.from < r.to {
                 say_cut(number);
+            } else if r.bytes == 0 {
+                io::write_all(STDERR_FILENO, b"the journal has no line\n");
             }
         }
         State::Stopped => {}

@@ -10,8 +10,13 @@ pub fn usage() {
         STDERR_FILENO,
         b"         as desk say today.txt year.bin 1 sunspot 92.5\n",
     );
+    io::write_all(STDERR_FILENO, b"       desk audit JOURNAL YEAR LINE\n");
     io::write_all(
         STDERR_FILENO,
-        b"An F2 record and a month file may stand for YEAR, and - for JOURNAL of desk run.\n",
+        b"         as desk audit today.txt year.bin 9\n",
+    );
+    io::write_all(
+        STDERR_FILENO,
+        b"An F2 record and a month file may stand for YEAR, and - for JOURNAL but for desk say.\n",
     );
 }

@@ -3,7 +3,7 @@
 use lib.ListN.{length}
 use Rattle.auditing.specs.Marks.{marksOf}
 use Rattle.auditing.specs.Provenance.{standing}
-use Rattle.results.specs.Audit.{NamedMake, NamedMakeLent, NamedStands, OpenedStands, StandingChanges, OriginByMarks, KeptByMarks, KeptPlacesBelow, FateByMarks, FateStands}
+use Rattle.results.specs.Audit.{NamedMake, NamedMakeLent, NamedStands, OpenedStands, StandingChanges, OriginByMarks, KeptByMarks, KeptPlacesBelow, FateByMarks, FateStands, FateCancelled, FateTakenBack, FateNever, RefusedLast, RefusedNever}
 use Rattle.results.proofs.sheet.ClosedDesks.{at-rest}
 use Rattle.results.proofs.provenance.Changes as Changes
 use Rattle.results.proofs.provenance.Named as Named
@@ -11,6 +11,7 @@ use Rattle.results.proofs.provenance.Origins as Origins
 use Rattle.results.proofs.provenance.Places as Places
 use Rattle.results.proofs.provenance.Fates as Fates
 use Rattle.results.proofs.provenance.Standing as Standing
+use Rattle.results.proofs.provenance.FatesTold as FatesTold
 
 pub named-make : NamedMake
 named-make = Changes.named-make
@@ -41,3 +42,18 @@ fate-by-marks = Fates.fate-by-marks
 
 pub fate-stands : FateStands
 fate-stands source w h = Standing.fate-stands source w (at-rest w h)
+
+pub fate-cancelled : FateCancelled
+fate-cancelled = FatesTold.fate-cancelled
+
+pub fate-taken-back : FateTakenBack
+fate-taken-back = FatesTold.fate-taken-back
+
+pub fate-never : FateNever
+fate-never = FatesTold.fate-never
+
+pub refused-last : RefusedLast
+refused-last = FatesTold.refused-last
+
+pub refused-never : RefusedNever
+refused-never = FatesTold.refused-never

@@ -5,6 +5,7 @@ use Rattle.worksheet.specs.Journal.{run}
 use Rattle.auditing.specs.Gathered.{waiting, sits, ended, callsTold}
 use Rattle.results.specs.Heard.{saidOf, HeardWaiting, HeardSits, HeardEnded, SaidEntries, SilentSame}
 use Rattle.results.proofs.hearings.Said.{said-both, run-both}
+use Rattle.results.proofs.hearings.Endings.{ended-at}
 use Rattle.results.proofs.hearings.Lines.{HeardAs, heard-as}
 use Rattle.results.proofs.hearings.Sources as Sources
 
@@ -18,7 +19,7 @@ heard-sits source s u text k o at cs e = heard-as source s u text k (sits o at c
 
 pub heard-ended : HeardEnded
 unfolding HeardAs
-heard-ended source s u text k e = heard-as source s u text k ended e
+heard-ended source s u text k e = ended-at source s text k u e (heard-as source s u text k ended e)
 
 pub said-entries : SaidEntries
 unfolding saidOf run callsTold

@@ -4,6 +4,7 @@ pub mod Insurer
 pub mod Audit
 pub mod ReadBack
 pub mod Heard
+pub mod AuditPage
 pub mod CancelledEdits
 pub mod FigureSources
 pub mod AsInTheRust
@@ -25,3 +26,4 @@ pub mod force
 pub mod provenance
 pub mod reading
 pub mod hearings
+pub mod pages

@@ -7,6 +7,8 @@ pub mod Parts
 pub mod Changes
 pub mod Named
 pub mod Fates
+pub mod Refusals
 pub mod StillOpen
 pub mod Standing
+pub mod FatesTold
 pub mod Examples

@@ -1,7 +1,7 @@
 -- An auditor's question: which call set each part of the inputs in force, and what became of each
 -- draft? The words of the answer stand in crates/auditing/specs/Provenance.antt, over a run's
 -- entries, and in Marks.antt, by marks and places, as a program computes them. Assumes nothing.
-use Prim.Native.Nat.{ℕ, zero, suc, _≤_, _<_}
+use Prim.Native.Nat.{ℕ, zero, suc, _+_, _≤_, _<_}
 use mathlib.Core.Bool.{Bool, true, false, not, _&&_}
 use mathlib.Core.List.{List, [], _∷_, _++_, reverse, List·Memᴰ}
 use mathlib.Core.Logic.{_↔_}
@@ -13,10 +13,11 @@ use Rattle.maps.specs.declared.inputs.Inputs.{Inputs}
 use Rattle.worksheet.specs.declared.desks.Worksheet.{Worksheet}
 use Rattle.worksheet.specs.Desks.{openOf}
 use Rattle.worksheet.specs.Showing.{Source}
-use Rattle.worksheet.specs.Journal.{Call, Entry, run, begins, shorter, none}
+use Rattle.worksheet.specs.Journal.{Call, commit, cancel, takeBack, Role, beginning, ending, settling, belonging, returning, showing, Entry, roleIn, good, run, begins, shorter, none}
 use Rattle.worksheet.specs.InForce.{changed, changesBy, AcceptedCommit, commitsInForce, inForce, startLeft, NeverCancelled}
-use Rattle.auditing.specs.declared.marks.Fate.the-variants.{Stands}
-use Rattle.auditing.specs.Provenance.{editPart, StandingChange, standing, lastStanding, originOf, editsNamed, namedChanges, fateOf}
+use Rattle.auditing.specs.declared.marks.Fate.the-variants.{Stands, TakenBack, Cancelled, Never}
+use Rattle.auditing.specs.declared.marks.Refused.the-variants as refused
+use Rattle.auditing.specs.Provenance.{editPart, StandingChange, standing, lastStanding, originOf, editsNamed, namedChanges, fateOf, endsDraft, isRefusing, refusedOf}
 use Rattle.auditing.specs.Marks.{marksOf, originBefore, fateFrom, keptPlaces}
 use Rattle.results.specs.ExhibitedFiles.{Below}
 use Rattle.results.specs.Insurer.{DesksClosed}
@@ -69,6 +70,84 @@ pub record CommittedAt (w : Worksheet) (entries front : List Entry) (b : Entry) 
   pub between : List Entry
   pub split : reverse (its-commit .past) ≡ front ++ (b ∷ between)
   pub own-begin : none (begins n) between ≡ true
+
+-- an accepted commit or take-back, of whatever desk
+abbrev pub isMoving : Role → Bool → Bool
+isMoving (beginning n) good = false
+isMoving (ending n) good = false
+isMoving (settling n) good = good
+isMoving (belonging n even es) good = false
+isMoving returning good = good
+isMoving showing good = false
+
+abbrev pub moves : Entry → Bool
+moves x = isMoving (roleIn x) (good x)
+
+-- of some entries, of which the first has the place `at`: the first accepted cancel or commit of desk n
+-- is a cancel and has the place p
+pub record CancelledAt (n at p : ℕ) (later : List Entry) : Type 0 where
+  pub before : List Entry
+  pub its-cancel : Entry
+  pub after : List Entry
+  pub split : later ≡ before ++ (its-cancel ∷ after)
+  pub still-open : none (endsDraft n) before ≡ true
+  pub is-cancel : its-cancel .call ≡ cancel n
+  pub cancelled : good its-cancel ≡ true
+  pub its-place : at + length before ≡ p
+
+-- of such entries: the first accepted cancel or commit of desk n is a commit and has the place c, and the
+-- first accepted commit or take-back after it is a take-back and has the place t
+pub record TakenBackAt (n at c t : ℕ) (later : List Entry) : Type 0 where
+  pub before : List Entry
+  pub its-commit : Entry
+  pub between : List Entry
+  pub its-return : Entry
+  pub after : List Entry
+  pub split : later ≡ before ++ (its-commit ∷ (between ++ (its-return ∷ after)))
+  pub still-open : none (endsDraft n) before ≡ true
+  pub is-commit : its-commit .call ≡ commit n
+  pub committed : good its-commit ≡ true
+  pub commit-place : at + length before ≡ c
+  pub none-between : none moves between ≡ true
+  pub is-return : its-return .call ≡ takeBack
+  pub returned : good its-return ≡ true
+  pub return-place : at + length (before ++ (its-commit ∷ between)) ≡ t
+
+-- there are no entries, or the first is an accepted cancel or commit of desk n
+abbrev pub EndsFirst : ℕ → List Entry → Type 0
+EndsFirst n [] = Unit
+EndsFirst n (x ∷ l) = endsDraft n x ≡ true
+
+-- some entries in two: `during` has those before the first accepted cancel or commit of desk n, or all
+-- where there is none, and `after` the others
+pub record WhileOpen (n : ℕ) (later : List Entry) : Type 0 where
+  pub during : List Entry
+  pub after : List Entry
+  pub split : later ≡ during ++ after
+  pub still-open : none (endsDraft n) during ≡ true
+  pub then-ended : EndsFirst n after
+
+-- a commit of desk n, refused
+abbrev pub refusesCommit : ℕ → Entry → Bool
+refusesCommit n x = isRefusing n (roleIn x) (good x)
+
+-- of some entries, of which the first has the place `at`: the last refused commit of desk n while its
+-- draft is open has the place p
+pub record RefusedAt (n at p : ℕ) (later : List Entry) : Type 0 where
+  pub while-open : WhileOpen n later
+  pub before : List Entry
+  pub its-refusal : Entry
+  pub since : List Entry
+  pub split : while-open .during ≡ before ++ (its-refusal ∷ since)
+  pub is-commit : its-refusal .call ≡ commit n
+  pub refused : good its-refusal ≡ false
+  pub last : none (refusesCommit n) since ≡ true
+  pub its-place : at + length before ≡ p
+
+-- there is no refused commit of desk n while its draft is open
+pub record NoneRefused (n : ℕ) (later : List Entry) : Type 0 where
+  pub while-open : WhileOpen n later
+  pub none-refused : none (refusesCommit n) (while-open .during) ≡ true
 
 -- ---- which call set each part of the inputs in force
 
@@ -148,3 +227,35 @@ FateStands =
     let entries = run source cs w .entries in
     (n c : ℕ) (front later : List Entry) (b : Entry) → entries ≡ front ++ (b ∷ later) → begins n b ≡ true →
     (fateOf n (suc (length front)) later ≡ Stands c) ↔ CommittedAt w entries front b n c
+
+-- The fate of a draft of desk n, by the entries after its begin, of which the first has the place `at`:
+-- it was cancelled at the place p exactly where the desk's first accepted cancel or commit among them is
+-- a cancel and has that place
+abbrev pub FateCancelled : Type 0
+FateCancelled =
+    (n at p : ℕ) (later : List Entry) → (fateOf n at later ≡ Cancelled p) ↔ CancelledAt n at p later
+
+-- It was committed at the place c and taken back at the place t exactly where the desk's first accepted
+-- cancel or commit among them is a commit and has the place c, and the first accepted commit or
+-- take-back after that, of whatever desk, is a take-back and has the place t
+abbrev pub FateTakenBack : Type 0
+FateTakenBack =
+    (n at c t : ℕ) (later : List Entry) → (fateOf n at later ≡ TakenBack c t) ↔ TakenBackAt n at c t later
+
+-- It was never ended exactly where no accepted cancel or commit of the desk is among them
+abbrev pub FateNever : Type 0
+FateNever = (n at : ℕ) (later : List Entry) → (fateOf n at later ≡ Never) ↔ (none (endsDraft n) later ≡ true)
+
+-- Its last refused commit is said to have the place p exactly where that is the place of the desk's last
+-- refused commit among those of the entries that stand before the desk's first accepted cancel or commit
+-- (all of them, where there is none)
+abbrev pub RefusedLast : Type 0
+RefusedLast =
+    (n at p : ℕ) (later : List Entry) →
+    (refusedOf n refused.Never at later ≡ refused.At p) ↔ RefusedAt n at p later
+
+-- It is said to have none exactly where no refused commit of the desk is among those
+abbrev pub RefusedNever : Type 0
+RefusedNever =
+    (n at : ℕ) (later : List Entry) →
+    (refusedOf n refused.Never at later ≡ refused.Never) ↔ NoneRefused n later

@@ -4,6 +4,7 @@ pub mod Insurer
 pub mod Audit
 pub mod ReadBack
 pub mod Heard
+pub mod AuditPage
 pub mod CancelledEdits
 pub mod FigureSources
 pub mod AsInTheRust

@@ -4,10 +4,11 @@ use mathlib.Core.List.{List, []}
 use Rattle.base.specs.declared.refusal.Verdict.{Verdict}
 use Rattle.base.specs.declared.refusal.Verdict.the-variants.{Accepted, Refused}
 use Rattle.worksheet.specs.declared.desks.Worksheet.{Worksheet}
-use Rattle.worksheet.specs.Desks.{openOf}
+use Rattle.worksheet.specs.Desks.{openOf, openedOf}
 use Rattle.worksheet.specs.Showing.{Source}
 use Rattle.worksheet.specs.Journal.{step}
 use Rattle.worksheet.specs.Calls.{called}
+use Rattle.wording.specs.declared.line.Fault.{Fault}
 use Rattle.wording.specs.declared.line.Line.{Line}
 use Rattle.wording.specs.declared.line.Line.the-variants.{Blank, Open, Call, Wrong}
 use Rattle.wording.specs.declared.written.WrittenCall.{WrittenCall}
@@ -25,6 +26,10 @@ use Rattle.sitting.specs.declared.Stage.the-variants as stage
 pub record Hearing : Type 0 where
   pub sitting : Sitting
   pub text : List ℕ
+
+-- before the first line: the worksheet is that of no words at all, and nothing is made on it
+unfoldable pub firstSitting : Sitting
+firstSitting = record { stage = stage.Waiting; sheet = openedOf [] .sheet }
 
 -- ---- a line that ends the journal: it is no call, or the open is refused
 
@@ -47,13 +52,19 @@ openedBy n o =
       text = spokenVerdict n (done .answer);
     }
 
--- ---- by the stage, at line n
+-- ---- by the stage, at line n; once the journal has ended, nothing is said
 
 -- a journal has one open, its first call
 abbrev pub hearOpen : ℕ → WrittenInputs → Stage → Sitting → Hearing
 hearOpen n o stage.Waiting s = openedBy n o
 hearOpen n o stage.Open s = endedWith s (againText n)
 hearOpen n o stage.Ended s = endedWith s []
+
+-- a line that is no call
+abbrev pub hearWrong : ℕ → Fault → Stage → Sitting → Hearing
+hearWrong n f stage.Waiting s = endedWith s (faultText n f)
+hearWrong n f stage.Open s = endedWith s (faultText n f)
+hearWrong n f stage.Ended s = endedWith s []
 
 module _ (source : Source) where
   -- on the worksheet that is open
@@ -74,7 +85,7 @@ module _ (source : Source) where
   hearLine n s Blank = record { sitting = s; text = [] }
   hearLine n s (Open o) = hearOpen n o (s .stage) s
   hearLine n s (Call c) = hearCall n c (s .stage) s
-  hearLine n s (Wrong f) = endedWith s (faultText n f)
+  hearLine n s (Wrong f) = hearWrong n f (s .stage) s
 
   -- THE HEARING of line n of a journal
   unfoldable pub hearing : ℕ → Sitting → List ℕ → Hearing

@@ -8,6 +8,7 @@ use listing::spoken::SPOKEN;
 use listing::spoken::opened_text;
 use listing::spoken::spoken;
 use maps::figures::FIGURES;
+use wording::line::Fault;
 use wording::line::Line;
 use wording::line::line_in;
 use wording::written::WrittenCall;
@@ -28,15 +29,14 @@ ghost use Rattle.worksheet.specs.Journal.{step};
 ghost use Rattle.worksheet.specs.Calls.{called};
 ghost use Rattle.listing.specs.Turn.{blank};
 ghost use Rattle.wording.specs.Written.{callWritten};
-ghost use Rattle.sitting.specs.declared.Stage.the-variants.{Waiting};
-ghost use Rattle.sitting.specs.Sitting.{endedBy, stageAfter, openedBy, hearOpen};
+ghost use Rattle.sitting.specs.Sitting.{firstSitting, endedBy, stageAfter, openedBy, hearOpen, hearWrong};
 ghost use Rattle.sitting.specs.Sitting.{madeBy, hearCall, hearing};
 
 pub enum Stage {
     // Nothing is open yet.
     Waiting,
     Open,
-    // Something was no call, or the open was refused: no line is heard any more.
+    // Something was no call, or the open was refused: nothing is heard any more.
     Ended,
 }
 
@@ -53,7 +53,7 @@ pub struct Heard {
 
 // A sitting before its first line. The worksheet in it is none that anything was opened with.
 pub fn waiting() -> Sitting
-    ensures { λ r. ⌜ r .stage ≡ Waiting ⌝ }
+    ensures { λ r. ⌜ r ≡ firstSitting ⌝ }
 {
     let o = opened(b"");
     let sheet = o.sheet;
@@ -72,7 +72,7 @@ fn stage_after(v: Verdict) -> Stage
     }
 }
 
-// No line is heard any more.
+// Nothing is heard any more.
 fn ended(s: Sitting) -> Sitting
     ensures { λ r. ⌜ r ≡ endedBy s ⌝ }
 {
@@ -193,6 +193,31 @@ fn hear_call(
     }
 }
 
+// What is said of a line that is no call by the stage: nothing, once the journal has ended.
+fn hear_wrong(s: Sitting, number: u64, f: Fault, out: &mut [u8; SPOKEN]) -> Heard
+    ensures sitting { λ r. ⌜ r .sitting ≡ hearWrong number f (s .stage) s .sitting ⌝ }
+    ensures text { λ r. ⌜ (
+        take (r .size) (now (out .exit)) ≡ hearWrong number f (s .stage) s .text
+        ) ⌝ }
+    ensures count { λ r. ⌜ Counts (r .size) (now (out .exit)) ⌝ }
+{
+    let stage = s.stage;
+    match stage {
+        Stage::Waiting => Heard {
+            sitting: ended(s),
+            size: fault_text(number, f, out),
+        },
+        Stage::Open => Heard {
+            sitting: ended(s),
+            size: fault_text(number, f, out),
+        },
+        Stage::Ended => Heard {
+            sitting: ended(s),
+            size: 0,
+        },
+    }
+}
+
 // Hears line `number` of a journal over what is lent (an F2 record and a month file, or a year
 // file): reads it, makes its call on the worksheet and writes what is said of it.
 pub fn hear(
@@ -222,10 +247,7 @@ pub fn hear(
         },
         Line::Open(o) => hear_open(s, number, o, out),
         Line::Call(c) => hear_call(s, number, c, lent, a, b, out),
-        Line::Wrong(f) => Heard {
-            sitting: ended(s),
-            size: fault_text(number, f, out),
-        },
+        Line::Wrong(f) => hear_wrong(s, number, f, out),
     }
 }
 

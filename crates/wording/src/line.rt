@@ -35,7 +35,6 @@ ghost use mathlib.Core.Bool.{cond};
 ghost use Prim.Native.Nat.{_+_, _≤_, _<_};
 ghost use Rattle.wording.specs.Token.{tokenAt};
 ghost use Rattle.wording.specs.declared.line.Line.the-variants.{Open, Wrong};
-ghost use Rattle.wording.specs.declared.line.Line.the-variants.{Open, Wrong};
 ghost use Rattle.wording.specs.Line.{isNamed, isNumber, isWholeDecimal, isWhole, isEnd, decimalIn, fitUnless, _andThen_, usualFactors, usualPole, lineIf, callIf, wordFit, numberFit, wholeFit, modelFit, endFit, decimalAt, wholeAt, modelAt, pairFit, fourFit, routeFit, isLongAt, routeAt, routeEnd, factorsAt, poleAt, headFit, brings, factorsStart, poleStart, modelStart, openEnd, factorsFit, poleFit, modelsFit, openFit, openingFactors, openingPole, openingModel, openingAt, deedLine, numberLine, wordLine, startLine, lineIn, changeFit, changeEdit, deedFit, deedCall, wordNumber, bareFit, bareCall};
 
 // What should have stood where a word does not fit.

@@ -13,7 +13,7 @@ use Rattle.wording.specs.declared.line.Line.{Line}
 use Rattle.wording.specs.declared.line.Line.the-variants as line
 use Rattle.wording.specs.declared.written.WrittenCall.the-variants.{TakeBack}
 use Rattle.wording.specs.Line.{lineIn}
-use Rattle.auditing.specs.Gathered.{Numbered, lineAt, BeginsAt, callTold, HoldsFirst}
+use Rattle.auditing.specs.Gathered.{Numbered, lineAt, ReadsAt, callTold, HoldsFirst}
 
 pub holds-none : (xs buffer : List ℕ) → HoldsFirst 0 xs buffer
 holds-none xs buffer =
@@ -57,20 +57,20 @@ abbrev asLine : Numbered → Line
 asLine x = line.Call (x .call)
 
 begins-as :
-    (text : List ℕ) {s s′ : ℕ} {l l′ : Line} → s ≡ s′ → l ≡ l′ → BeginsAt text s′ l′ → BeginsAt text s l
+    (text : List ℕ) {s s′ : ℕ} {l l′ : Line} → s ≡ s′ → l ≡ l′ → ReadsAt text s′ l′ → ReadsAt text s l
 begins-as text p q b =
     record { within = omega (arith, b .within); said = ap (λ (k : ℕ). lineIn (lineAt text k)) p ∙ b .said ∙ sym q }
 
 pub starts-more :
     (text : List ℕ) (cs : List Numbered) (x : Numbered) (starts : List ℕ) (count s : ℕ) → count ≡ length cs →
-    ((i : ℕ) → i < count → i < length starts → BeginsAt text (getD starts i 0) (line.Call (callTold cs i))) →
-    BeginsAt text s (line.Call (x .call)) →
+    ((i : ℕ) → i < count → i < length starts → ReadsAt text (getD starts i 0) (line.Call (callTold cs i))) →
+    ReadsAt text s (line.Call (x .call)) →
     (i : ℕ) → i < count + 1 → i < length (set starts count s) →
-    BeginsAt text (getD (set starts count s) i 0) (line.Call (callTold (cs ++ (x ∷ [])) i))
+    ReadsAt text (getD (set starts count s) i 0) (line.Call (callTold (cs ++ (x ∷ [])) i))
 starts-more text cs x starts count s e before here i below room = go (ltb i count) refl
   where
     go : (b : Bool) → ltb i count ≡ b →
-        BeginsAt text (getD (set starts count s) i 0) (line.Call (callTold (cs ++ (x ∷ [])) i))
+        ReadsAt text (getD (set starts count s) i 0) (line.Call (callTold (cs ++ (x ∷ [])) i))
     go true t =
         let size = length-set starts count s in
         let first : i < count = ltb-true i count t in

@@ -9,7 +9,7 @@ use Rattle.worksheet.specs.Showing.{Source}
 use Rattle.wording.specs.declared.line.Line.{Line}
 use Rattle.wording.specs.Line.{lineIn}
 use Rattle.auditing.specs.declared.gathering.Stage.the-variants.{Waiting}
-use Rattle.auditing.specs.Gathered.{Told, telling, toldBy, lineAt, GatheredAs, Gathering, GatheringAs, GoesOn}
+use Rattle.auditing.specs.Gathered.{Told, telling, toldBy, lineAt, GatheredNone, GatheredAs, Gathering, GatheringAs, GoesOn}
 use Rattle.auditing.proofs.journals.Lines.{LinesTo, lines-start, is-line, lines-next, lines-done}
 use Rattle.auditing.proofs.journals.Told.{told-none, told-next, told-all}
 
@@ -21,9 +21,10 @@ module _ (source : Source) (text : List ℕ) where
     pub few : h .gathered .count ≤ n
     pub gathered : GatheringAs source text (toldBy text n) h
 
-  pub read-none : (h : Gathering) → h .gathered .stage ≡ Waiting → h .gathered .count ≡ 0 → ReadTo 0 0 h
+  pub read-none : (h : Gathering) → GatheredNone Waiting (h .gathered) → ReadTo 0 0 h
   unfolding GatheredAs
-  read-none h q e =
+  read-none h q =
+      let none = q .1 in
       record {
         lines = lines-start text;
         within = omega arith;

@@ -104,11 +104,11 @@ numbers-length (x ∷ cs) = ap suc (numbers-length cs)
 -- ---- of a journal
 
 module _ (source : Source) (o : WrittenInputs) (cs : List Numbered) where
+  pub entries-length : length (runTold source o cs .entries) ≡ length cs
+  entries-length = run-length source (callsTold cs) (sheetOpened o) ∙ calls-length cs
+
   pub marked-length : length (marksOf (runTold source o cs .entries)) ≡ length cs
-  marked-length =
-      marks-length (runTold source o cs .entries)
-      ∙ run-length source (callsTold cs) (sheetOpened o)
-      ∙ calls-length cs
+  marked-length = marks-length (runTold source o cs .entries) ∙ entries-length
 
   pub sheet-more :
       (x : Numbered) →

@@ -1,15 +1,15 @@
--- What a journal's lines told, with one line more and with all that follow it; and that it has ended
--- once and for all. By the lines in their order. Assumes nothing.
-use Prim.Native.Nat.{ℕ, suc, _+_, _-_, _<_, _≤_}
+-- What a journal's lines told, with one line more and with all that follow it: by the lines in their
+-- order. Assumes nothing.
+use Prim.Native.Nat.{ℕ, suc, _+_, _<_, _≤_}
 use mathlib.Core.List.{List, [], _∷_, _++_}
 use mathlib.Core.Path.{_≡_, refl, sym, ap, _∙_}
 use native.Mathlib.Omega.{arith}
 use native.Mathlib.Nat.{add-zero}
 use native.Mathlib.Numerals.{add-one}
-use lib.ListN.{length, getD, take, drop, length-take}
-use lib.Seq.{take-suc, take-all, take-add}
+use lib.ListN.{length, getD, take, length-take}
+use lib.Seq.{take-suc, take-all}
 use Rattle.wording.specs.Line.{lineIn}
-use Rattle.auditing.specs.Gathered.{textLines, Told, waiting, ended, telling, toldFrom, toldBy}
+use Rattle.auditing.specs.Gathered.{textLines, Told, waiting, telling, toldFrom, toldBy}
 
 told-both :
     (n : ℕ) (t : Told) (ls ms : List (List ℕ)) → toldFrom n t (ls ++ ms) ≡ toldFrom (n + length ls) (toldFrom n t ls) ms
@@ -23,11 +23,6 @@ told-both n t (l ∷ ls) ms =
 told-one : (n : ℕ) (t : Told) (l : List ℕ) → toldFrom n t (l ∷ []) ≡ telling n t (lineIn l)
 unfolding toldFrom
 told-one n t l = refl
-
-told-ended : (n : ℕ) (ls : List (List ℕ)) → toldFrom n ended ls ≡ ended
-unfolding toldFrom
-told-ended n [] = refl
-told-ended n (l ∷ ls) = told-ended (suc n) ls
 
 -- ---- the first lines of a text
 
@@ -58,17 +53,3 @@ unfolding toldBy
 told-all text n k h q =
     let ls = textLines text in
     ap (toldFrom 1 waiting) (take-all k ls (omega arith) ∙ sym (take-all n ls h))
-
--- WHAT HAS ENDED stays ended
-pub told-prefix : (text : List ℕ) (j k : ℕ) → j ≤ k → toldBy text j ≡ ended → toldBy text k ≡ ended
-unfolding toldBy
-told-prefix text j k h e =
-    let ls = textLines text in
-    let place : k ≡ j + (k - j) = omega arith in
-    let rest = take (k - j) (drop j ls) in
-    let after = 1 + length (take j ls) in
-    ap (λ (i : ℕ). toldFrom 1 waiting (take i ls)) place
-    ∙ ap (toldFrom 1 waiting) (take-add j (k - j) ls)
-    ∙ told-both 1 waiting (take j ls) rest
-    ∙ ap (λ (t : Told). toldFrom after t rest) e
-    ∙ told-ended after rest

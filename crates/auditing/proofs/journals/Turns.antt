@@ -23,7 +23,7 @@ use Rattle.auditing.specs.declared.gathering.Stage.{Stage}
 use Rattle.auditing.specs.declared.gathering.Stage.the-variants.{Waiting, Sits, Ended}
 use Rattle.auditing.specs.declared.gathering.Gathered.{Gathered}
 use Rattle.auditing.specs.Marks.{markOf, marksOf}
-use Rattle.auditing.specs.Gathered.{Numbered, Told, waiting, sits, ended, openedTold, telling, callsTold, numbersTold, runTold, BeginsAt, HoldsFirst, GatheredSits, GatheredAs, stageOf, openedAs, Gathering, gathering, withCall, GatheringAs, GoesOn}
+use Rattle.auditing.specs.Gathered.{Numbered, Told, waiting, sits, ended, openedTold, telling, callsTold, numbersTold, runTold, ReadsAt, HoldsFirst, GatheredNone, GatheredSits, GatheredAs, stageOf, openedAs, Gathering, gathering, withCall, GatheringAs, GoesOn}
 use Rattle.auditing.proofs.journals.Runs.{numbers-more, numbers-length, marked-length, sheet-more, marked-more}
 use Rattle.auditing.proofs.journals.Buffers.{holds-none, holds-more, starts-more}
 
@@ -31,7 +31,7 @@ use Rattle.auditing.proofs.journals.Buffers.{holds-none, holds-more, st
 
 opened-by :
     (source : Source) (text : List ℕ) (o : WrittenInputs) (n s : ℕ) (marks numbers starts : List ℕ) (v : Verdict) →
-    openOf (inputsWritten o) .answer ≡ v → BeginsAt text s (line.Open o) →
+    openOf (inputsWritten o) .answer ≡ v → ReadsAt text s (line.Open o) →
     GatheredAs source text (openedTold n o v) (openedAs o n s) marks numbers starts
 unfolding GatheredAs openedAs run callsTold
 opened-by source text o n s marks numbers starts Accepted e l =
@@ -45,7 +45,7 @@ opened-by source text o n s marks numbers starts Accepted e l =
       start = l;
       starts-at = λ i h. absurd (omega arith);
     }
-opened-by source text o n s marks numbers starts (Refused why) e l = ap stageOf e
+opened-by source text o n s marks numbers starts (Refused why) e l = (ap stageOf e, refl)
 
 -- ---- a call
 
@@ -70,7 +70,7 @@ module _ (source : Source) (text : List ℕ) (o : WrittenInputs) (at n s : ℕ) 
   called-by :
       (cs : List Numbered) (h : Gathering) →
       GatheredSits source text o at cs (h .gathered) (h .marks) (h .numbers) (h .starts) →
-      BeginsAt text s (line.Call c) →
+      ReadsAt text s (line.Call c) →
       GatheringAs source text (sits o at (cs ++ (record { call = c; line = n } ∷ []))) (withCall source c n s h)
   unfolding GatheredAs withCall
   called-by cs h g l =
@@ -131,12 +131,12 @@ module _ (source : Source) (n s : ℕ) where
   goes-blank h text t e g = subst (λ (u : Told). GatheringAs source text u h) (sym (blank-told n t)) g
 
   ends :
-      (text : List ℕ) (t : Told) (l : Line) (h : Gathering) → telling n t l ≡ ended → h .gathered .stage ≡ Ended →
+      (text : List ℕ) (t : Told) (l : Line) (h : Gathering) → telling n t l ≡ ended → GatheredNone Ended (h .gathered) →
       GatheringAs source text (telling n t l) h
   unfolding GatheredAs
   ends text t l h e g = subst (λ (u : Told). GatheringAs source text u h) (sym e) g
 
-  pub goes-wrong : (f : Fault) (h h′ : Gathering) → h′ .gathered .stage ≡ Ended → GoesOn source n s (line.Wrong f) h h′
+  pub goes-wrong : (f : Fault) (h h′ : Gathering) → GatheredNone Ended (h′ .gathered) → GoesOn source n s (line.Wrong f) h h′
   unfolding GoesOn
   goes-wrong f h h′ q text t e g = ends text t (line.Wrong f) h′ (wrong-told n t f) q
 
@@ -151,13 +151,13 @@ module _ (source : Source) (n s : ℕ) where
       subst (λ (x : Gathered). GatheredAs source text (openedTold n o v) x marks numbers starts) (sym p)
       (opened-by source text o n s marks numbers starts v refl e)
   goes-open o g marks numbers starts q p text (sits o₂ at cs) e h = absurd (waiting-sits (g .stage) q (h .stage))
-  goes-open o g marks numbers starts q p text ended e h = absurd (waiting-ended (g .stage) q h)
+  goes-open o g marks numbers starts q p text ended e h = absurd (waiting-ended (g .stage) q (h .0))
 
   pub goes-open-late :
-      (o : WrittenInputs) (h h′ : Gathering) → (h .gathered .stage ≡ Waiting → ⊥) → h′ .gathered .stage ≡ Ended →
+      (o : WrittenInputs) (h h′ : Gathering) → (h .gathered .stage ≡ Waiting → ⊥) → GatheredNone Ended (h′ .gathered) →
       GoesOn source n s (line.Open o) h h′
   unfolding GoesOn GatheredAs
-  goes-open-late o h h′ late q text waiting e g = absurd (late g)
+  goes-open-late o h h′ late q text waiting e g = absurd (late (g .0))
   goes-open-late o h h′ late q text (sits o₂ at cs) e g = q
   goes-open-late o h h′ late q text ended e g = q
 
@@ -166,14 +166,14 @@ module _ (source : Source) (n s : ℕ) where
       (c : WrittenCall) (h : Gathering) {h′ : Gathering} → h .gathered .stage ≡ Sits → h′ ≡ withCall source c n s h →
       GoesOn source n s (line.Call c) h h′
   unfolding GoesOn GatheredAs
-  goes-call c h q p text waiting e g = absurd (waiting-sits (h .gathered .stage) g q)
+  goes-call c h q p text waiting e g = absurd (waiting-sits (h .gathered .stage) (g .0) q)
   goes-call c h q p text (sits o at cs) e g =
       subst (GatheringAs source text (sits o at (cs ++ (record { call = c; line = n } ∷ [])))) (sym p)
       (called-by source text o at n s c cs h g e)
-  goes-call c h q p text ended e g = absurd (ended-sits (h .gathered .stage) g q)
+  goes-call c h q p text ended e g = absurd (ended-sits (h .gathered .stage) (g .0) q)
 
   pub goes-call-early :
-      (c : WrittenCall) (h h′ : Gathering) → (h .gathered .stage ≡ Sits → ⊥) → h′ .gathered .stage ≡ Ended →
+      (c : WrittenCall) (h h′ : Gathering) → (h .gathered .stage ≡ Sits → ⊥) → GatheredNone Ended (h′ .gathered) →
       GoesOn source n s (line.Call c) h h′
   unfolding GoesOn GatheredAs
   goes-call-early c h h′ early q text waiting e g = q

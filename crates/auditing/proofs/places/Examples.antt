@@ -45,6 +45,11 @@ sunspot-set : originBefore journal 2 false 12 ≡ Set 9 11
 unfolding journal originBefore changeBefore
 sunspot-set = refl
 
+-- desk 1's second draft stood then, and its first was cancelled: what that changed is not named
+cancelled-opened : originBefore journal 1 false 12 ≡ Opened
+unfolding journal originBefore changeBefore
+cancelled-opened = refl
+
 -- the drafts of desk 1, the second of which begins at 8
 first-fate : fateFrom journal 1 1 14 ≡ Cancelled 7
 unfolding journal fateFrom settledFrom

@@ -1,10 +1,10 @@
 -- The parts of a page with its points side by side: how long each is at most. Assumes nothing.
 use mathlib.Core.List.{List}
-use Prim.Native.Nat.{ℕ, _+_, _*_, _≤_, _<_}
+use Prim.Native.Nat.{ℕ, _+_, _-_, _*_, _≤_, _<_}
 use native.Mathlib.Omega.{arith}
 use native.Mathlib.Decide.{decLt}
 use borrow.Author.Tests.{lt-ltb, le-ltb}
-use lib.ListN.{length, getD, length-append}
+use lib.ListN.{length, getD, replicate, length-append, length-replicate}
 use lib.Ieee.{Float, nan}
 use Rattle.base.proofs.verdicts.Picks.{cond-true, cond-false}
 use Rattle.maps.specs.declared.inputs.Inputs.{Inputs}
@@ -12,18 +12,23 @@ use Rattle.listing.specs.Text.{decimalOf}
 use Rattle.listing.specs.Decimal.{decimalText}
 use Rattle.listing.specs.Page.{pageRow}
 use Rattle.listing.specs.Fields.{atRight}
-use Rattle.listing.specs.Columns.{abreast, cellsText, sideRow, sideRows, pointNumbers, pointsHead, columnsText}
+use Rattle.listing.specs.Columns.{abreast, cell, cellsText, sideRow, sideRows, pointNumbers, pointsHead, columnsText}
 use Rattle.listing.proofs.digits.Places.{at-most-20}
 use Rattle.listing.proofs.digits.Values.{length-decimal}
 use Rattle.listing.proofs.pieces.Rows.{length-name, length-its-unit}
-use Rattle.listing.proofs.pieces.Series.{length-turns, length-right}
+use Rattle.listing.proofs.pieces.Series.{length-turns}
 use Rattle.listing.proofs.pieces.Named.{length-fields}
 
-pub length-cells : (xs : List Float) (at n : ℕ) → length (cellsText xs at n) ≤ 44 * n
-length-cells xs at n =
-    length-turns (λ (p : ℕ). decimalText (getD xs (at + 29 * p) nan)) 44 n (λ p h. length-decimal (getD xs (at + 29 * p) nan))
+length-cell : (l : List ℕ) (most : ℕ) → 16 ≤ most → length l ≤ most → length (cell l) ≤ 1 + most
+unfolding cell atRight
+length-cell l most k h = omega (arith, length-append (replicate (16 - length l) 32) l, length-replicate {A = ℕ} (16 - length l) 32)
 
-length-side : (k : ℕ) (xs : List Float) (at n : ℕ) → k < 47 → n ≤ 5 → length (sideRow (pageRow k) (cellsText xs at n)) ≤ 242
+pub length-cells : (xs : List Float) (at n : ℕ) → length (cellsText xs at n) ≤ 45 * n
+length-cells xs at n =
+    length-turns (λ (p : ℕ). cell (decimalText (getD xs (at + 29 * p) nan))) 45 n
+    (λ p h. length-cell (decimalText (getD xs (at + 29 * p) nan)) 44 (omega arith) (length-decimal (getD xs (at + 29 * p) nan)))
+
+length-side : (k : ℕ) (xs : List Float) (at n : ℕ) → k < 47 → n ≤ 5 → length (sideRow (pageRow k) (cellsText xs at n)) ≤ 247
 unfolding sideRow
 length-side k xs at n h l =
     let a = length-name (pageRow k) in
@@ -31,16 +36,17 @@ length-side k xs at n h l =
     let d = length-its-unit k h in
     simp length-append (omega arith)
 
-pub length-sides : (first : ℕ) (xs : List Float) (at n m : ℕ) → first + m ≤ 47 → n ≤ 5 → length (sideRows first xs at n m) ≤ 242 * m
+pub length-sides : (first : ℕ) (xs : List Float) (at n m : ℕ) → first + m ≤ 47 → n ≤ 5 → length (sideRows first xs at n m) ≤ 247 * m
 length-sides first xs at n m h l =
-    length-turns (λ (k : ℕ). sideRow (pageRow (first + k)) (cellsText xs (at + k) n)) 242 m
+    length-turns (λ (k : ℕ). sideRow (pageRow (first + k)) (cellsText xs (at + k) n)) 247 m
     (λ k q. length-side (first + k) xs (at + k) n (omega arith) l)
 
-pub length-numbers : (n : ℕ) → length (pointNumbers n) ≤ 20 * n
+pub length-numbers : (n : ℕ) → length (pointNumbers n) ≤ 21 * n
 length-numbers n =
-    length-turns (λ (p : ℕ). atRight (decimalOf (p + 1))) 20 n (λ p h. length-right (decimalOf (p + 1)) (at-most-20 (p + 1)))
+    length-turns (λ (p : ℕ). cell (decimalOf (p + 1))) 21 n
+    (λ p h. length-cell (decimalOf (p + 1)) 20 (omega arith) (at-most-20 (p + 1)))
 
-pub length-head : (n : ℕ) → n ≤ 5 → length (pointsHead n) ≤ 113
+pub length-head : (n : ℕ) → n ≤ 5 → length (pointsHead n) ≤ 118
 unfolding pointsHead
 length-head n h =
     let a = length-numbers n in
@@ -54,7 +60,7 @@ few count =
       | no h ↦ (let e = cond-false count 5 (le-ltb count 5 (omega arith)) in omega arith)
     ]
 
-pub length-columns : (i : Inputs) (count : ℕ) (xs : List Float) → length (columnsText i count xs) ≤ 9800
+pub length-columns : (i : Inputs) (count : ℕ) (xs : List Float) → length (columnsText i count xs) ≤ 10000
 unfolding columnsText
 length-columns i count xs =
     let n = abreast count in

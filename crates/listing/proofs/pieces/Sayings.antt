@@ -56,7 +56,7 @@ noun-most false = omega arith
 pub length-noun : (count : ℕ) → length (ascii (pointsNoun count)) ≤ 8
 length-noun count = noun-most (eqb count 1)
 
-length-points : (i : Inputs) (count : ℕ) (xs : List Float) → length (pointsWords i count xs) ≤ 9836
+length-points : (i : Inputs) (count : ℕ) (xs : List Float) → length (pointsWords i count xs) ≤ 10036
 unfolding pointsWords
 length-points i count xs =
     let a = at-most-20 count in
@@ -64,12 +64,12 @@ length-points i count xs =
     let d = length-columns i count xs in
     simp length-append (omega arith)
 
-length-shown : (i : Inputs) (s : Shown) (xs : List Float) → length (shownWords i s xs) ≤ 9836
+length-shown : (i : Inputs) (s : Shown) (xs : List Float) → length (shownWords i s xs) ≤ 10036
 unfolding shownWords
 length-shown i (Points count) xs = length-points i count xs
 length-shown i (NotShown why) xs = (let a = length-refused-line why in omega arith)
 
-pub length-handed : (i : Inputs) (a : Handed) (xs : List Float) → length (handedWords i a xs) ≤ 9836
+pub length-handed : (i : Inputs) (a : Handed) (xs : List Float) → length (handedWords i a xs) ≤ 10036
 unfolding handedWords
 length-handed i (Told v) xs = (let a = length-verdict v in omega arith)
 length-handed i (ShownTo s) xs = length-shown i s xs

@@ -1,14 +1,14 @@
 -- A number's text is one word of a line: it has no blank, comment or newline in it, and it begins
 -- as only a number does. Each byte is a digit, the sign or the point. Assumes nothing.
-use mathlib.Core.Path.{_≡_, refl, sym, ap, _∙_}
+use mathlib.Core.Path.{_≡_, refl, ap, _∙_}
 use mathlib.Core.Bool.{Bool, true, false, cond, not, _&&_, _||_}
-use mathlib.Core.List.{List, [], _∷_, _++_, append-nil}
+use mathlib.Core.List.{List, [], _∷_, _++_}
 use Prim.Native.Nat.{ℕ, _<_}
 use native.Mathlib.Omega.{arith}
 use lib.Dec.{eqb}
 use lib.ListN.{length}
 use Rattle.base.proofs.ladder.Ladders.{and-true, and-left, and-right}
-use Rattle.base.proofs.verdicts.Picks.{cond-true, never}
+use Rattle.base.proofs.verdicts.Picks.{cond-true}
 use Rattle.wording.specs.declared.number.Decimal.{Decimal}
 use Rattle.wording.specs.Number.{isDigit, allDigits, isWritten}
 use Rattle.wording.specs.Token.{ascii}
@@ -54,7 +54,7 @@ digits-in-word [] h = refl
 digits-in-word (c ∷ l) h =
     and-true (digit-in-word c (and-left (isDigit c) (allDigits l) h)) (digits-in-word l (and-right (isDigit c) (allDigits l) h))
 
-pub whole-in-word : (n : ℕ) → all inWord (decimalOf n) ≡ true
+whole-in-word : (n : ℕ) → all inWord (decimalOf n) ≡ true
 whole-in-word n = digits-in-word (decimalOf n) (decimal-digits n)
 
 minus-in-word : (negative : Bool) → all inWord (minusOf negative) ≡ true
@@ -81,9 +81,6 @@ unfolding allDigits
 begins-digit [] x p h = absurd (omega arith)
 begins-digit (c ∷ l) x p h = ap (λ (b : Bool). b || eqb c 45 || eqb c 46) (and-left (isDigit c) (allDigits l) p)
 
-pub whole-begins : (n : ℕ) → beginsNumber (decimalOf n) ≡ true
-whole-begins n = ap beginsNumber (sym (append-nil (decimalOf n))) ∙ begins-digit (decimalOf n) [] (decimal-digits n) (decimal-some n)
-
 signed-begins : (negative : Bool) (d : Decimal) → beginsNumber (minusOf negative ++ unsignedText d) ≡ true
 unfolding minusOf
 signed-begins true d = refl
@@ -92,12 +89,3 @@ signed-begins false d = begins-digit (wholeText d) (fractionText d) (decimal-dig
 pub number-begins : (d : Decimal) → isWritten d ≡ true → beginsNumber (numberText d) ≡ true
 unfolding numberText digitsText
 number-begins d h = ap beginsNumber (cond-true _ _ h) ∙ signed-begins (d .negative) d
-
--- ---- not empty: `decimal-some` says it of a whole number
-
-begun-some : (l : List ℕ) → beginsNumber l ≡ true → 0 < length l
-begun-some [] h = never h
-begun-some (c ∷ l) h = omega arith
-
-pub number-some : (d : Decimal) → isWritten d ≡ true → 0 < length (numberText d)
-number-some d h = begun-some (numberText d) (number-begins d h)

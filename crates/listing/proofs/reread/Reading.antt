@@ -140,10 +140,3 @@ signed false d = no-sign (wholeText d) (fractionText d) (decimal-digits (wholePa
 pub read-number : (d : Decimal) → isWritten d ≡ true → numberIn (numberText d) ≡ Is d
 unfolding numberText digitsText
 read-number d h = ap numberIn (cond-true _ _ h) ∙ signed (d .negative) d ∙ read-unsigned d h (d .negative)
-
-pub read-whole : (n : ℕ) → n < 2 ^ 32 → numberIn (decimalOf n) ≡ Is (record { negative = false; digits = n; places = 0 })
-unfolding numberText digitsText fractionText minusOf
-read-whole n h =
-    let d : Decimal = record { negative = false; digits = n; places = 0 } in
-    let w : isWritten d ≡ true = and-true (lt-ltb n (10 ^ 18) (omega arith)) refl in
-    ap numberIn (sym (cond-true _ _ w ∙ append-nil (decimalOf (n / 10 ^ 0)) ∙ ap decimalOf (by-none n 10))) ∙ read-number d w

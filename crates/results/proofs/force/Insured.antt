@@ -66,12 +66,12 @@ force-since f n (x ∷ late) b front g h =
 
 module _ (source : Source) (w : Worksheet) where
   -- the entry x, after `before`: it is its call's on the worksheet that the calls before it left
-  record At (before : List Entry) (x : Entry) : Type 0 where
-    calls : List Call
-    ran : run source calls w .entries ≡ before
-    there : x ≡ entryOf source (x .call) (run source calls w .sheet)
+  pub record At (before : List Entry) (x : Entry) : Type 0 where
+    pub calls : List Call
+    pub ran : run source calls w .entries ≡ before
+    pub there : x ≡ entryOf source (x .call) (run source calls w .sheet)
 
-run-split : (source : Source) (cs : List Call) (w : Worksheet) (before : List Entry) (x : Entry) (later : List Entry)
+pub run-split : (source : Source) (cs : List Call) (w : Worksheet) (before : List Entry) (x : Entry) (later : List Entry)
     → run source cs w .entries ≡ before ++ (x ∷ later) → At source w before x
 unfolding run
 run-split source [] w [] x later h = absurd (nil≢cons h)

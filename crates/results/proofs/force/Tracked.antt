@@ -20,6 +20,7 @@ use Rattle.worksheet.specs.InForce.{editsIn, editsOf, changed, AcceptedCommit, 
 use Rattle.worksheet.proofs.drafts.Drafts.{atRest, FreshAt}
 use Rattle.worksheet.proofs.lists.Replay.{Local, sheetOf, Law}
 use Rattle.worksheet.proofs.lists.Rules.{law}
+use Rattle.results.specs.Audit.{isMoving}
 
 -- ---- changes one after the other
 
@@ -34,15 +35,6 @@ edits-append [] m = refl
 edits-append (x ∷ l) m = ap (λ (k : List Edit). editsIn (roleIn x) ++ k) (edits-append l m) ∙ sym (append-assoc (editsIn (roleIn x)) (editsOf l) (editsOf m))
 
 -- ---- what a role does, and `b`, whether the call was accepted
-
--- an accepted commit or take-back
-abbrev pub isMoving : Role → Bool → Bool
-isMoving (beginning n) b = false
-isMoving (ending n) b = false
-isMoving (settling n) b = b
-isMoving (belonging n even es) b = false
-isMoving returning b = b
-isMoving showing b = false
 
 still : (past : List Entry) (x : Entry) (r : Role) (b : Bool) (f : Force) → isMoving r b ≡ false → forceBy past x r b f ≡ f
 still past x (beginning n) b f h = refl
@@ -109,7 +101,7 @@ drafting-on n past j x v y p q d = record {
 }
 
 -- the own changes after an entry that is no begin and no own call
-edits-stay : (n : ℕ) (past : List Entry) (y : Entry) → begins n y ≡ false → belongs n y ≡ false → own n (y ∷ past) ≡ own n past
+pub edits-stay : (n : ℕ) (past : List Entry) (y : Entry) → begins n y ≡ false → belongs n y ≡ false → own n (y ∷ past) ≡ own n past
 unfolding own
 edits-stay n past y p q =
     ap (λ (z : Bool). cond z (y ∷ []) (cond (belongs n y) (own n past ++ (y ∷ [])) (own n past))) p

@@ -4,7 +4,7 @@
 -- that commit's begin. Assumes nothing.
 use Prim.Native.Nat.{ℕ}
 use mathlib.Core.Bool.{Bool, true, false, cond, not, _&&_, false≢true}
-use mathlib.Core.List.{List, [], _∷_, _++_, reverse, append-assoc, reverse-reverse, List·Memᴰ, List·Memᴰ·head, List·Memᴰ·tail, List·Memᴰ·not-nil, List·Memᴰ·cases-cons, List·Memᴰ·eq-of-singleton}
+use mathlib.Core.List.{List, [], _∷_, _++_, reverse, append-assoc, reverse-reverse, nil≢cons, head-eq-of-cons-eq, List·Memᴰ, List·Memᴰ·head, List·Memᴰ·tail, List·Memᴰ·not-nil, List·Memᴰ·cases-cons, List·Memᴰ·eq-of-singleton}
 use mathlib.Core.Logic.{_⊎_, inl, inr}
 use mathlib.Core.Path.{_≡_, refl, sym, ap, ap₂, subst, _∙_}
 use lib.Dec.{eqb}
@@ -51,29 +51,32 @@ change-call n e (show m lent) b h k = go (eqb m 0) k
     go true q = absurd (List·Memᴰ·not-nil q)
     go false q = absurd (List·Memᴰ·not-nil q)
 
-isSettling : ℕ → Role → Bool
-isSettling n (beginning m) = false
-isSettling n (ending m) = false
-isSettling n (settling m) = eqb m n
-isSettling n (belonging m even es) = false
-isSettling n returning = false
-isSettling n showing = false
+-- the one call that has this role, if there is one
+abbrev callFor : Role → List Call
+callFor (beginning n) = begin n ∷ []
+callFor (ending n) = cancel n ∷ []
+callFor (settling n) = commit n ∷ []
+callFor (belonging n even es) = []
+callFor returning = takeBack ∷ []
+callFor showing = []
+
+pub call-for : (c d : Call) (r : Role) → callFor r ≡ d ∷ [] → roleOf c ≡ r → c ≡ d
+call-for c d r is e = go c (ap callFor e ∙ is)
+  where
+    shows : (m : ℕ) (t : Bool) → callFor (cond t showing (belonging m true [])) ≡ d ∷ [] → ⊥
+    shows m true q = nil≢cons q
+    shows m false q = nil≢cons q
+
+    go : (k : Call) → callFor (roleOf k) ≡ d ∷ [] → k ≡ d
+    go (begin m) q = head-eq-of-cons-eq q
+    go (commit m) q = head-eq-of-cons-eq q
+    go (cancel m) q = head-eq-of-cons-eq q
+    go (change m x) q = absurd (nil≢cons q)
+    go takeBack q = head-eq-of-cons-eq q
+    go (show m lent) q = absurd (shows m (eqb m 0) q)
 
 pub commit-call : (n : ℕ) (c : Call) → roleOf c ≡ settling n → c ≡ commit n
-unfolding isSettling
-commit-call n c e = go c (ap (isSettling n) e ∙ eq-eqb n n refl)
-  where
-    go : (k : Call) → isSettling n (roleOf k) ≡ true → k ≡ commit n
-    go (begin m) h = absurd (false≢true h)
-    go (commit m) h = ap commit (eqb-true m n h)
-    go (cancel m) h = absurd (false≢true h)
-    go (change m x) h = absurd (false≢true h)
-    go takeBack h = absurd (false≢true h)
-    go (show m lent) h = either (eqb m 0) h
-      where
-        either : (t : Bool) → isSettling n (cond t showing (belonging m true [])) ≡ true → show m lent ≡ commit n
-        either true q = absurd (false≢true q)
-        either false q = absurd (false≢true q)
+commit-call n c = call-for c (commit n) (settling n) refl
 
 -- ---- where an entry stands
 

@@ -51,7 +51,7 @@ monday =
 abbrev plus : ℕ → ℕ → Decimal
 plus n k = record { negative = false; digits = n; places = k }
 
-abbrev opening : WrittenInputs
+abbrev pub opening : WrittenInputs
 opening =
     record {
       month = 6;

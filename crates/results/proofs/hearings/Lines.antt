@@ -10,6 +10,7 @@ use Rattle.worksheet.specs.declared.desks.Worksheet.{Worksheet}
 use Rattle.worksheet.specs.Desks.{openOf}
 use Rattle.worksheet.specs.Showing.{Source}
 use Rattle.worksheet.specs.Journal.{run, step}
+use Rattle.wording.specs.declared.line.Fault.{Fault}
 use Rattle.wording.specs.declared.line.Line.{Line}
 use Rattle.wording.specs.declared.line.Line.the-variants as line
 use Rattle.wording.specs.declared.written.WrittenCall.{WrittenCall}
@@ -20,15 +21,21 @@ use Rattle.listing.specs.Spoken.{spokenVerdict}
 use Rattle.sitting.specs.declared.Sitting.{Sitting}
 use Rattle.sitting.specs.declared.Stage.{Stage}
 use Rattle.sitting.specs.declared.Stage.the-variants.{Waiting, Open, Ended}
-use Rattle.sitting.specs.Sitting.{Hearing, stageAfter, openedBy, madeBy, hearOpen, hearCall, hearLine, hearing}
+use Rattle.sitting.specs.Sitting.{Hearing, stageAfter, openedBy, madeBy, hearOpen, hearWrong, hearCall, hearLine, hearing}
 use Rattle.auditing.specs.Gathered.{textLines, Numbered, Told, waiting, sits, ended, openedTold, telling, toldFrom, toldBy, callsTold, sheetOpened, runTold}
 use Rattle.auditing.proofs.journals.Runs.{sheet-more}
 use Rattle.results.specs.Heard.{heardFrom, heardBy, saidOf, HeardRun}
 use Rattle.results.proofs.hearings.Said.{callOf, answerSaid, said-more}
+use Rattle.results.proofs.hearings.Endings.{silent-line}
 
 -- two hearings, the second on the sitting that the first left
 abbrev after : Hearing → Hearing → Hearing
 after g h = record { sitting = h .sitting; text = g .text ++ h .text }
+
+wrong-ends : (n : ℕ) (f : Fault) (x : Stage) (s : Sitting) → hearWrong n f x s .sitting .stage ≡ Ended
+wrong-ends n f Waiting s = refl
+wrong-ends n f Open s = refl
+wrong-ends n f Ended s = refl
 
 module _ (source : Source) (s : Sitting) (unopened : s .stage ≡ Waiting) where
   -- of what was told, heard on the sitting s
@@ -68,7 +75,7 @@ module _ (source : Source) (s : Sitting) (unopened : s .stage ≡ Waiting) where
   first-as n h (line.Call c) p e =
       let q = ap (λ (x : Sitting). x .stage) p ∙ unopened in
       subst (λ (x : Stage). hearCall source n c x (h .sitting) .sitting .stage ≡ Ended) (sym q) refl
-  first-as n h (line.Wrong f) p e = refl
+  first-as n h (line.Wrong f) p e = wrong-ends n f (h .sitting .stage) (h .sitting)
 
   -- ---- a call after it
 
@@ -104,19 +111,7 @@ module _ (source : Source) (s : Sitting) (unopened : s .stage ≡ Waiting) where
       let more = cs ++ (record { call = c; line = n } ∷ []) in
       subst (λ (x : Stage). HeardRun source o at more (after h (hearCall source n c x (h .sitting))))
       (sym (g .stage)) (made-as n o at cs c h g)
-  next-as n o at cs h (line.Wrong f) g = refl
-
-  -- ---- a line after the end
-
-  late-as :
-      (n : ℕ) (h : Hearing) (l : Line) → h .sitting .stage ≡ Ended →
-      hearLine source n (h .sitting) l .sitting .stage ≡ Ended
-  late-as n h line.Blank g = g
-  late-as n h (line.Open o) g =
-      subst (λ (x : Stage). hearOpen n o x (h .sitting) .sitting .stage ≡ Ended) (sym g) refl
-  late-as n h (line.Call c) g =
-      subst (λ (x : Stage). hearCall source n c x (h .sitting) .sitting .stage ≡ Ended) (sym g) refl
-  late-as n h (line.Wrong f) g = refl
+  next-as n o at cs h (line.Wrong f) g = wrong-ends n f (h .sitting .stage) (h .sitting)
 
   -- ---- lines
 
@@ -126,7 +121,7 @@ module _ (source : Source) (s : Sitting) (unopened : s .stage ≡ Waiting) where
   unfolding HeardAs
   line-as n waiting h l g = first-as n h l (g .0) (g .1)
   line-as n (sits o at cs) h l g = next-as n o at cs h l g
-  line-as n ended h l g = late-as n h l g
+  line-as n ended h l g = silent-line source n (h .sitting) l g .1
 
   lines-as :
       (n : ℕ) (t : Told) (h : Hearing) (ls : List (List ℕ)) → HeardAs t h →

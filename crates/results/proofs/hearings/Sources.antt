@@ -4,6 +4,7 @@ use Prim.Native.Nat.{ℕ, suc}
 use mathlib.Core.List.{List, [], _∷_}
 use mathlib.Core.Path.{_≡_, refl, ap, _∙_}
 use Rattle.worksheet.specs.Showing.{Source}
+use Rattle.wording.specs.declared.line.Fault.{Fault}
 use Rattle.wording.specs.declared.line.Line.{Line}
 use Rattle.wording.specs.declared.line.Line.the-variants.{Blank, Open, Call, Wrong}
 use Rattle.wording.specs.declared.written.WrittenCall.{WrittenCall}
@@ -14,7 +15,7 @@ use Rattle.listing.specs.Turn.{blank}
 use Rattle.sitting.specs.declared.Sitting.{Sitting}
 use Rattle.sitting.specs.declared.Stage.{Stage}
 use Rattle.sitting.specs.declared.Stage.the-variants as stage
-use Rattle.sitting.specs.Sitting.{hearOpen, hearCall, hearLine, hearing}
+use Rattle.sitting.specs.Sitting.{hearOpen, hearWrong, hearCall, hearLine, hearing}
 use Rattle.sitting.proofs.sources.Sheets.{step-sheet}
 use Rattle.results.specs.Heard.{heardFrom}
 
@@ -23,6 +24,12 @@ open-same :
 open-same n m o stage.Waiting s = refl
 open-same n m o stage.Open s = refl
 open-same n m o stage.Ended s = refl
+
+wrong-same :
+    (n m : ℕ) (f : Fault) (x : Stage) (s : Sitting) → hearWrong n f x s .sitting ≡ hearWrong m f x s .sitting
+wrong-same n m f stage.Waiting s = refl
+wrong-same n m f stage.Open s = refl
+wrong-same n m f stage.Ended s = refl
 
 module _ (source other : Source) where
   call-same :
@@ -39,7 +46,7 @@ module _ (source other : Source) where
   line-same n m s Blank = refl
   line-same n m s (Open o) = open-same n m o (s .stage) s
   line-same n m s (Call c) = call-same n m c (s .stage) s
-  line-same n m s (Wrong f) = refl
+  line-same n m s (Wrong f) = wrong-same n m f (s .stage) s
 
   pub silent-same :
       (n m : ℕ) (s : Sitting) (ls : List (List ℕ)) →

@@ -102,7 +102,7 @@ kept-in-order source w cs = in-order [] (run source cs w .entries)
 -- ---- JUST BEFORE: the shorter list goes entry by entry, and own calls stand just before their
 -- commit
 
-shorter-append : (past l m : List Entry) → shorter past (l ++ m) ≡ shorter past l ++ shorter (reverseAux l past) m
+pub shorter-append : (past l m : List Entry) → shorter past (l ++ m) ≡ shorter past l ++ shorter (reverseAux l past) m
 unfolding shorter
 shorter-append past [] m = refl
 shorter-append past (x ∷ l) m =

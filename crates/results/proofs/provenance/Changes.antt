@@ -77,24 +77,39 @@ by-commits (c ∷ before) =
 pub standing-changes : (w : Worksheet) (entries : List Entry) → editsNamed (standing w entries) ≡ changesBy (commitsInForce w entries)
 standing-changes w entries = by-commits (commitsInForce w entries)
 
--- THE CHANGES NAMED make the inputs in force
+-- they make the inputs in force
+standing-make-lent : (source : Source) (w : Worksheet) → atRest w ≡ w → (cs : List Call)
+    → let entries = run source cs w .entries in
+    inForce w entries ≡ changed (startLeft w entries) (editsNamed (standing w entries))
+standing-make-lent source w rest cs =
+    let entries = run source cs w .entries in
+    in-force-exactly source w rest cs
+    ∙ ap (λ (l : List AcceptedCommit). changed (startLeft w entries) (changesBy l)) (sym (commits-exactly source w rest cs))
+    ∙ ap (changed (startLeft w entries)) (sym (standing-changes w entries))
+
+pub standing-make : (source : Source) (opened : Inputs) (cs : List Call)
+    → let w = openOf opened .sheet in let entries = run source cs w .entries in
+    inForce w entries ≡ changed opened (editsNamed (standing w entries))
+unfolding openOf freshSheet setOf
+standing-make source opened cs =
+    let w = openOf opened .sheet in
+    let entries = run source cs w .entries in
+    standing-make-lent source w refl cs
+    ∙ ap (λ (i : Inputs). changed i (editsNamed (standing w entries))) (same-start (takenBack entries) opened)
+
+-- THE CHANGES NAMED make them too
 pub named-make-lent : (source : Source) (w : Worksheet) → atRest w ≡ w → (cs : List Call)
     → let entries = run source cs w .entries in
     inForce w entries ≡ changed (startLeft w entries) (namedChanges w entries)
 unfolding namedChanges
 named-make-lent source w rest cs =
     let entries = run source cs w .entries in
-    in-force-exactly source w rest cs
-    ∙ ap (λ (l : List AcceptedCommit). changed (startLeft w entries) (changesBy l)) (sym (commits-exactly source w rest cs))
-    ∙ ap (changed (startLeft w entries)) (sym (standing-changes w entries))
-    ∙ last-make (startLeft w entries) (standing w entries)
+    standing-make-lent source w rest cs ∙ last-make (startLeft w entries) (standing w entries)
 
 pub named-make : (source : Source) (opened : Inputs) → openOf opened .answer ≡ Accepted → (cs : List Call)
     → let w = openOf opened .sheet in let entries = run source cs w .entries in
     inForce w entries ≡ changed opened (namedChanges w entries)
-unfolding openOf freshSheet setOf
+unfolding namedChanges
 named-make source opened given cs =
     let w = openOf opened .sheet in
-    let entries = run source cs w .entries in
-    named-make-lent source w refl cs
-    ∙ ap (λ (i : Inputs). changed i (namedChanges w entries)) (same-start (takenBack entries) opened)
+    standing-make source opened cs ∙ last-make opened (standing w (run source cs w .entries))

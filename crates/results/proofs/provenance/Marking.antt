@@ -56,7 +56,7 @@ module _ (x : Entry) where
   unfolding markOf
   sort-of = sort-back _ (good x) _ (sort-most (x .call))
 
-  good-of : markGood (markOf x) ≡ good x
+  pub good-of : markGood (markOf x) ≡ good x
   unfolding markOf
   good-of = good-back _ (good x) (deskOf (x .call)) (sort-most (x .call))
 
@@ -148,12 +148,12 @@ Reads entries [] = Unit
 Reads entries (x ∷ past) =
     (markAt (marksOf entries) (length past) ≡ markOf x) × (entryAt entries (length past) ≡ x ∷ []) × Reads entries past
 
-mark-there : (front later : List Entry) (x : Entry) → markAt (marksOf (front ++ (x ∷ later))) (length front) ≡ markOf x
+pub mark-there : (front later : List Entry) (x : Entry) → markAt (marksOf (front ++ (x ∷ later))) (length front) ≡ markOf x
 unfolding marksOf
 mark-there [] later x = refl
 mark-there (y ∷ front) later x = mark-there front later x
 
-entry-there : (front later : List Entry) (x : Entry) → entryAt (front ++ (x ∷ later)) (length front) ≡ x ∷ []
+pub entry-there : (front later : List Entry) (x : Entry) → entryAt (front ++ (x ∷ later)) (length front) ≡ x ∷ []
 unfolding entryAt
 entry-there [] later x = refl
 entry-there (y ∷ front) later x = entry-there front later x

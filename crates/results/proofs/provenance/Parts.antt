@@ -47,19 +47,23 @@ last-of part o (e ∷ l) h = last-of part (cond (eqb (editPart e) part) (e ∷ [
 
 -- ---- parts
 
--- j with this part of k
-abbrev put : ℕ → Inputs → Inputs → Inputs
-put part k j = record {
-  month = cond (eqb part 1) (k .month) (j .month);
-  ssn = cond (eqb part 2) (k .ssn) (j .ssn);
-  gmt = cond (eqb part 3) (k .gmt) (j .gmt);
-  route = cond (eqb part 4) (k .route) (j .route);
-  psc = cond (eqb part 5) (k .psc) (j .psc);
-  pole = cond (eqb part 6) (k .pole) (j .pole);
-  model = cond (eqb part 7) (k .model) (j .model);
+-- i's parts for which p is true, and j's others
+abbrev pub mixed : (ℕ → Bool) → Inputs → Inputs → Inputs
+mixed p i j = record {
+  month = cond (p 1) (i .month) (j .month);
+  ssn = cond (p 2) (i .ssn) (j .ssn);
+  gmt = cond (p 3) (i .gmt) (j .gmt);
+  route = cond (p 4) (i .route) (j .route);
+  psc = cond (p 5) (i .psc) (j .psc);
+  pole = cond (p 6) (i .pole) (j .pole);
+  model = cond (p 7) (i .model) (j .model);
 }
 
-edited-part : (e : Edit) (i j : Inputs) → edited e j ≡ put (editPart e) (edited e i) j
+-- j with this part of i
+abbrev put : ℕ → Inputs → Inputs → Inputs
+put part i j = mixed (eqb part) i j
+
+pub edited-part : (e : Edit) (i j : Inputs) → edited e j ≡ put (editPart e) (edited e i) j
 unfolding edited
 edited-part (Sunspot x) i j = refl
 edited-part (Hour x) i j = refl

@@ -17,14 +17,14 @@ use Rattle.worksheet.specs.InForce.{AcceptedCommit, takenBackBy, takenBack, lef
 use Rattle.worksheet.proofs.drafts.Drafts.{atRest}
 use Rattle.auditing.specs.declared.marks.Fate.{Fate}
 use Rattle.auditing.specs.declared.marks.Fate.the-variants.{Stands, TakenBack, Cancelled, Never}
-use Rattle.auditing.specs.Provenance.{settledBy, fateSettled, openBy, fateOf}
+use Rattle.auditing.specs.Provenance.{settledBy, fateSettled, openBy, fateOf, isEnding, endsDraft}
 use Rattle.results.specs.Audit.{CommittedAt}
 use Rattle.results.proofs.lists.Kept.{none-first}
 use Rattle.results.proofs.force.Lasting.{commits-exactly}
 use Rattle.results.proofs.force.Insured.{undisturbed-draft, commit-source}
 use Rattle.results.proofs.force.Unbroken.{commit-call}
 use Rattle.results.proofs.provenance.Named.{none-begun, back-to}
-use Rattle.results.proofs.provenance.StillOpen.{isEnd, ends, begun-once}
+use Rattle.results.proofs.provenance.StillOpen.{begun-once}
 
 -- ---- fates differ
 
@@ -89,21 +89,21 @@ record Settled (n c : ℕ) (past later : List Entry) : Type 0 where
   its-commit : Entry
   after : List Entry
   split : later ≡ between ++ (its-commit ∷ after)
-  still-open : none (ends n) between ≡ true
+  still-open : none (endsDraft n) between ≡ true
   is-commit : roleIn its-commit ≡ settling n
   committed : good its-commit ≡ true
   not-taken-back : takenBack after ≡ false
   place : length (reverseAux between past) ≡ c
 
 module _ (n c : ℕ) where
-  one-more : (x : Entry) (past later : List Entry) → ends n x ≡ false → Settled n c (x ∷ past) later → Settled n c past (x ∷ later)
+  one-more : (x : Entry) (past later : List Entry) → endsDraft n x ≡ false → Settled n c (x ∷ past) later → Settled n c past (x ∷ later)
   unfolding none
   one-more x past later e s = record {
     between = x ∷ s .between;
     its-commit = s .its-commit;
     after = s .after;
     split = ap (λ (l : List Entry). x ∷ l) (s .split);
-    still-open = ap (λ (z : Bool). not z && none (ends n) (s .between)) e ∙ s .still-open;
+    still-open = ap (λ (z : Bool). not z && none (endsDraft n) (s .between)) e ∙ s .still-open;
     is-commit = s .is-commit;
     committed = s .committed;
     not-taken-back = s .not-taken-back;
@@ -118,7 +118,7 @@ module _ (n c : ℕ) where
     on = fateOf n (suc at) later
 
     -- an end of desk m's draft, which is n's or not
-    ends-or-not : (m : ℕ) (t b : Bool) → eqb m n ≡ t → good x ≡ b → ends n x ≡ (t && b) → (f : Fate)
+    ends-or-not : (m : ℕ) (t b : Bool) → eqb m n ≡ t → good x ≡ b → endsDraft n x ≡ (t && b) → (f : Fate)
         → (eqb m n ≡ true → good x ≡ true → f ≡ Stands c → Settled n c past (x ∷ later))
         → cond (t && b) f on ≡ Stands c → Settled n c past (x ∷ later)
     ends-or-not m true true p q e f here h = here p q h
@@ -142,32 +142,33 @@ module _ (n c : ℕ) where
         }
 
     by-role : (r : Role) → roleIn x ≡ r → openBy n at r (good x) (fateSettled at (suc at) later) on ≡ Stands c → Settled n c past (x ∷ later)
-    by-role (beginning m) e h = one-more x past later (ap (λ (r : Role). isEnd n r (good x)) e) (below h)
+    by-role (beginning m) e h = one-more x past later (ap (λ (r : Role). isEnding n r (good x)) e) (below h)
     by-role (ending m) e h =
-        ends-or-not m (eqb m n) (good x) refl refl (ap (λ (r : Role). isEnd n r (good x)) e) (Cancelled at) (λ p g q. absurd (cancelled-stands q)) h
+        ends-or-not m (eqb m n) (good x) refl refl (ap (λ (r : Role). isEnding n r (good x)) e) (Cancelled at) (λ p g q. absurd (cancelled-stands q)) h
     by-role (settling m) e h =
-        ends-or-not m (eqb m n) (good x) refl refl (ap (λ (r : Role). isEnd n r (good x)) e) (fateSettled at (suc at) later)
+        ends-or-not m (eqb m n) (good x) refl refl (ap (λ (r : Role). isEnding n r (good x)) e) (fateSettled at (suc at) later)
         (λ p g q. settles-here (e ∙ ap settling (eqb-true m n p)) g q) h
-    by-role (belonging m even es) e h = one-more x past later (ap (λ (r : Role). isEnd n r (good x)) e) (below h)
-    by-role returning e h = one-more x past later (ap (λ (r : Role). isEnd n r (good x)) e) (below h)
-    by-role showing e h = one-more x past later (ap (λ (r : Role). isEnd n r (good x)) e) (below h)
+    by-role (belonging m even es) e h = one-more x past later (ap (λ (r : Role). isEnding n r (good x)) e) (below h)
+    by-role returning e h = one-more x past later (ap (λ (r : Role). isEnding n r (good x)) e) (below h)
+    by-role showing e h = one-more x past later (ap (λ (r : Role). isEnding n r (good x)) e) (below h)
 
   settled-at : (past later : List Entry) → fateOf n (length past) later ≡ Stands c → Settled n c past later
   unfolding fateOf
   settled-at past [] h = absurd (never-stands h)
   settled-at past (x ∷ later) h = by-role x past later (settled-at (x ∷ past) later) (roleIn x) refl h
 
+-- a call that does not end the draft decides nothing
+pub goes-on : (n at : ℕ) (r : Role) (b : Bool) (f g : Fate) → isEnding n r b ≡ false → openBy n at r b f g ≡ g
+goes-on n at (beginning m) b f g h = refl
+goes-on n at (ending m) b f g h = ap (λ (z : Bool). cond z (Cancelled at) g) h
+goes-on n at (settling m) b f g h = ap (λ (z : Bool). cond z f g) h
+goes-on n at (belonging m even es) b f g h = refl
+goes-on n at returning b f g h = refl
+goes-on n at showing b f g h = refl
+
 -- and the other way
 module _ (n : ℕ) (x : Entry) (after : List Entry) (role : roleIn x ≡ settling n) (committed : good x ≡ true) (kept : takenBack after ≡ false) where
-  goes-on : (at : ℕ) (r : Role) (b : Bool) (f g : Fate) → isEnd n r b ≡ false → openBy n at r b f g ≡ g
-  goes-on at (beginning m) b f g h = refl
-  goes-on at (ending m) b f g h = ap (λ (z : Bool). cond z (Cancelled at) g) h
-  goes-on at (settling m) b f g h = ap (λ (z : Bool). cond z f g) h
-  goes-on at (belonging m even es) b f g h = refl
-  goes-on at returning b f g h = refl
-  goes-on at showing b f g h = refl
-
-  stands-at : (past between : List Entry) → none (ends n) between ≡ true
+  stands-at : (past between : List Entry) → none (endsDraft n) between ≡ true
       → fateOf n (length past) (between ++ (x ∷ after)) ≡ Stands (length (reverseAux between past))
   unfolding fateOf
   stands-at past [] h =
@@ -176,8 +177,8 @@ module _ (n : ℕ) (x : Entry) (after : List Entry) (role : roleIn x ≡ settlin
       ∙ ap (λ (z : Bool). cond (z && true) (fateSettled at (suc at) after) (fateOf n (suc at) after)) (eq-eqb n n refl)
       ∙ stands-settled at (suc at) after kept
   stands-at past (y ∷ between) h =
-      let f = none-first (ends n) y between h in
-      goes-on (length past) (roleIn y) (good y) _ _ (f .0) ∙ stands-at (y ∷ past) between (f .1)
+      let f = none-first (endsDraft n) y between h in
+      goes-on n (length past) (roleIn y) (good y) _ _ (f .0) ∙ stands-at (y ∷ past) between (f .1)
 
 -- ---- lists
 
@@ -195,7 +196,7 @@ since-last n (z ∷ front) l b [] l′ b′ p p′ q q′ h =
     absurd (begun-among n front l b p (ap (none (begins n)) (tail-eq-of-cons-eq h) ∙ q′))
 since-last n (z ∷ front) l b (z′ ∷ front′) l′ b′ p p′ q q′ h = since-last n front l b front′ l′ b′ p p′ q q′ (tail-eq-of-cons-eq h)
 
-quiet-unended : (n : ℕ) (r : Role) (b : Bool) → isDisturbing n r b ≡ false → isEnd n r b ≡ false
+quiet-unended : (n : ℕ) (r : Role) (b : Bool) → isDisturbing n r b ≡ false → isEnding n r b ≡ false
 quiet-unended n (beginning m) b h = refl
 quiet-unended n (ending m) b h = h
 quiet-unended n (settling m) b h = ap (λ (z : Bool). eqb m n && z) h ∙ and-false (eqb m n)
@@ -203,12 +204,12 @@ quiet-unended n (belonging m even es) b h = refl
 quiet-unended n returning b h = refl
 quiet-unended n showing b h = refl
 
-none-ended : (n : ℕ) (l : List Entry) → none (disturbs n) l ≡ true → none (ends n) l ≡ true
+none-ended : (n : ℕ) (l : List Entry) → none (disturbs n) l ≡ true → none (endsDraft n) l ≡ true
 unfolding none
 none-ended n [] h = refl
 none-ended n (x ∷ l) h =
     let f = none-first (disturbs n) x l h in
-    ap (λ (z : Bool). not z && none (ends n) l) (quiet-unended n (roleIn x) (good x) (f .0)) ∙ none-ended n l (f .1)
+    ap (λ (z : Bool). not z && none (endsDraft n) l) (quiet-unended n (roleIn x) (good x) (f .0)) ∙ none-ended n l (f .1)
 
 -- an accepted commit that was not taken back is among those left
 left-member : (n : ℕ) (x : Entry) (after : List Entry) → roleIn x ≡ settling n → good x ≡ true → takenBack after ≡ false
@@ -263,7 +264,7 @@ module _ (source : Source) (w : Worksheet) (rest : atRest w ≡ w) (cs : List Ca
         let same : d .between ≡ s .between =
         since-last n (d .front) (d .between) (d .own-begin) front (s .between) b (d .begun) begun (none-begun n (d .between) (d .quiet)) (s .own-begin)
         (sym (d .split) ∙ s .split) in
-        let unended : none (ends n) (s .between) ≡ true = ap (none (ends n)) (sym same) ∙ none-ended n (d .between) (d .quiet) in
+        let unended : none (endsDraft n) (s .between) ≡ true = ap (none (endsDraft n)) (sym same) ∙ none-ended n (d .between) (d .quiet) in
         let all : front ++ (b ∷ later) ≡ front ++ (b ∷ (s .between ++ (x ∷ its .after))) =
         sym split ∙ its .split ∙ ap (λ (l : List Entry). l ++ (x ∷ its .after)) (s .split) ∙ sym (in-one (s .between) (its .after) x) in
         let on : later ≡ s .between ++ (x ∷ its .after) = tail-eq-of-cons-eq (append-cancel-left front _ _ all) in

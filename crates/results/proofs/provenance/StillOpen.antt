@@ -14,23 +14,12 @@ use Rattle.worksheet.specs.declared.desks.Earlier.{Earlier}
 use Rattle.worksheet.specs.declared.desks.Worksheet.{Worksheet}
 use Rattle.worksheet.specs.Desks.{draftAt, withDraft, staleOf, movedTo, editedDraft}
 use Rattle.worksheet.specs.Showing.{Source}
-use Rattle.worksheet.specs.Journal.{Call, begin, commit, cancel, change, takeBack, show, Role, beginning, ending, settling, belonging, returning, showing, roleOf, Entry, accepted, roleIn, good, Step, step, entryOf, run, begins, none}
+use Rattle.worksheet.specs.Journal.{Call, begin, commit, cancel, change, takeBack, show, roleOf, Entry, accepted, Step, step, entryOf, run, begins, none}
 use Rattle.worksheet.proofs.drafts.Drafts.{with-other}
 use Rattle.worksheet.proofs.drafts.Effects.{desk-put, Accepts, refused-unmoved, begun, begin-leaves, was-changed, change-leaves, committed, commit-leaves, cancel-leaves, taken-back, takeBack-leaves}
+use Rattle.auditing.specs.Provenance.{isEnding, endsDraft}
 use Rattle.results.proofs.lists.Kept.{none-first}
 use Rattle.results.proofs.provenance.Named.{begun-by}
-
--- an accepted cancel or commit of desk n
-abbrev pub isEnd : ℕ → Role → Bool → Bool
-isEnd n (beginning m) b = false
-isEnd n (ending m) b = eqb m n && b
-isEnd n (settling m) b = eqb m n && b
-isEnd n (belonging m even es) b = false
-isEnd n returning b = false
-isEnd n showing b = false
-
-abbrev pub ends : ℕ → Entry → Bool
-ends n x = isEnd n (roleIn x) (good x)
 
 -- ---- open drafts
 
@@ -110,7 +99,7 @@ module _ (source : Source) (n : ℕ) where
         let is = change-leaves source m f w (was-changed source m f w a) in
         other-desk m (editedDraft f (draftAt m w)) w (step source (change m f) w) (ap (λ (s : Step). s .sheet) is) e o
 
-    accepted-stays : (c : Call) → Accepts source c w → isEnd n (roleOf c) true ≡ false → Stays c
+    accepted-stays : (c : Call) → Accepts source c w → isEnding n (roleOf c) true ≡ false → Stays c
     unfolding step
     accepted-stays (begin m) a h = begin-stays m a (eqb m n) refl
     accepted-stays (change m f) a h = change-stays m f a (eqb m n) refl
@@ -128,11 +117,11 @@ module _ (source : Source) (n : ℕ) where
         ∙ o
     accepted-stays (show m lent) a h = o
 
-    stays-open : (c : Call) → ends n (entryOf source c w) ≡ false → Open (step source c w .sheet)
+    stays-open : (c : Call) → endsDraft n (entryOf source c w) ≡ false → Open (step source c w .sheet)
     stays-open c h = go (accepted (step source c w .answer)) refl
       where
         go : (b : Bool) → accepted (step source c w .answer) ≡ b → Open (step source c w .sheet)
-        go true a = accepted-stays c a (ap (isEnd n (roleOf c)) (sym a) ∙ h)
+        go true a = accepted-stays c a (ap (isEnding n (roleOf c)) (sym a) ∙ h)
         go false a = ap (λ (v : Worksheet). isOpen (draftAt n v)) (refused-unmoved source c w a) ∙ o
 
     begins-none : (c : Call) → begins n (entryOf source c w) ≡ false
@@ -147,21 +136,21 @@ module _ (source : Source) (n : ℕ) where
   -- ---- a run
 
   open-since : (cs : List Call) (w : Worksheet) (between rest : List Entry) → run source cs w .entries ≡ between ++ rest → Open w
-      → none (ends n) between ≡ true → none (begins n) between ≡ true
+      → none (endsDraft n) between ≡ true → none (begins n) between ≡ true
   unfolding run none
   open-since cs w [] rest h o q = refl
   open-since [] w (y ∷ between) rest h o q = absurd (nil≢cons h)
   open-since (c ∷ cs) w (y ∷ between) rest h o q =
       let is = head-eq-of-cons-eq h in
-      let f = none-first (ends n) y between q in
-      let next = stays-open w o c (ap (ends n) is ∙ f .0) in
+      let f = none-first (endsDraft n) y between q in
+      let next = stays-open w o c (ap (endsDraft n) is ∙ f .0) in
       ap (λ (z : Bool). not z && none (begins n) between) (sym (ap (begins n) is) ∙ begins-none w o c)
       ∙ open-since cs (step source c w .sheet) between rest (tail-eq-of-cons-eq h) next (f .1)
 
   -- A DESK BEGINS NO OTHER DRAFT while one is open
   pub begun-once : (cs : List Call) (w : Worksheet) (front between rest : List Entry) (b : Entry)
       → run source cs w .entries ≡ front ++ (b ∷ (between ++ rest)) → begins n b ≡ true
-      → none (ends n) between ≡ true → none (begins n) between ≡ true
+      → none (endsDraft n) between ≡ true → none (begins n) between ≡ true
   unfolding run
   begun-once [] w [] between rest b h g q = absurd (nil≢cons h)
   begun-once [] w (z ∷ front) between rest b h g q = absurd (nil≢cons h)

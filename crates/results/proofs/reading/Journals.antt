@@ -15,17 +15,15 @@ use Rattle.base.proofs.ladder.Ladders.{and-left, and-right}
 use Rattle.base.proofs.verdicts.Picks.{cond-false}
 use Rattle.worksheet.specs.Desks.{openOf}
 use Rattle.wording.specs.declared.line.Line.{Line}
-use Rattle.wording.specs.declared.line.Line.the-variants.{Open, Call}
+use Rattle.wording.specs.declared.line.Line.the-variants.{Open}
 use Rattle.wording.specs.declared.token.Token.{Token}
 use Rattle.wording.specs.declared.written.WrittenInputs.{WrittenInputs}
 use Rattle.wording.specs.declared.written.WrittenCall.{WrittenCall}
-use Rattle.wording.specs.Line.{lineIn}
 use Rattle.wording.specs.Written.{inputsWritten}
 use Rattle.listing.specs.Written.{openText, callText, lineText}
 use Rattle.listing.proofs.reread.Bytes.{all}
 use Rattle.auditing.specs.Gathered.{linesFrom, textLines, Numbered, waiting, sits, openedTold, telling, toldFrom, toldBy}
-use Rattle.results.specs.ReadBack.{WasRead, callLines, numberedFrom}
-use Rattle.results.proofs.reading.Parts.{read-open, read-call}
+use Rattle.results.specs.ReadBack.{GoodInputs, GoodCall, callLines, numberedFrom}
 use Rattle.results.proofs.reading.Words.{onLine, AllRead, trailing, trailing-on-line}
 use Rattle.results.proofs.reading.Texts.{callTokens, openTokens, call-text, open-text, call-read, open-read}
 use Rattle.results.proofs.reading.Reread.{call-reread, open-reread}
@@ -53,45 +51,43 @@ one-line text l e h =
     let on : all onLine text ≡ true = ap (all onLine) e ∙ trailing-on-line h in
     (line-ends [] text [] on, λ rest. ap textLines (append-snoc text 10 rest) ∙ line-ends [] text rest on)
 
-pub call-one-line : (l : List ℕ) (c : WrittenCall) → lineIn l ≡ Call c → OneLine (callText c)
-call-one-line l c e = let g = read-call l c e in one-line (callText c) (callTokens c) (call-text g) (call-read g)
+pub call-one-line : (c : WrittenCall) → GoodCall c → OneLine (callText c)
+call-one-line c g = one-line (callText c) (callTokens c) (call-text g) (call-read g)
 
-pub open-one-line : (l : List ℕ) (o : WrittenInputs) → lineIn l ≡ Open o → OneLine (openText o)
-open-one-line l o e = let g = read-open l o e in one-line (openText o) (openTokens o) (open-text g) (open-read g)
+pub open-one-line : (o : WrittenInputs) → GoodInputs o → OneLine (openText o)
+open-one-line o g = one-line (openText o) (openTokens o) (open-text g) (open-read g)
 
 -- ---- the calls
 
-abbrev EachRead : List WrittenCall → Type 0
-EachRead cs = (c : WrittenCall) → List·Memᴰ c cs → WasRead (Call c)
+abbrev pub EachGood : List WrittenCall → Type 0
+EachGood cs = (c : WrittenCall) → List·Memᴰ c cs → GoodCall c
 
-each-line : (cs : List WrittenCall) → EachRead cs → textLines (callLines cs) ≡ map callText cs
+each-line : (cs : List WrittenCall) → EachGood cs → textLines (callLines cs) ≡ map callText cs
 unfolding callLines linesFrom
 each-line [] h = refl
 each-line (c ∷ cs) h =
-    let r = h c (List·Memᴰ·head refl) in
-    call-one-line (r .bytes) c (r .says) .1 (callLines cs)
+    call-one-line c (h c (List·Memᴰ·head refl)) .1 (callLines cs)
     ∙ ap (λ (ls : List (List ℕ)). callText c ∷ ls) (each-line cs (λ x m. h x (List·Memᴰ·tail m)))
 
 -- after those that were told
 calls-told :
-    (o : WrittenInputs) (at n : ℕ) (before : List Numbered) (cs : List WrittenCall) → EachRead cs →
+    (o : WrittenInputs) (at n : ℕ) (before : List Numbered) (cs : List WrittenCall) → EachGood cs →
     toldFrom n (sits o at before) (map callText cs) ≡ sits o at (before ++ numberedFrom n cs)
 unfolding toldFrom numberedFrom
 calls-told o at n before [] h = ap (sits o at) (sym (append-nil before))
 calls-told o at n before (c ∷ cs) h =
-    let r = h c (List·Memᴰ·head refl) in
     let x : Numbered = record { call = c; line = n } in
     ap (λ (y : Line). toldFrom (suc n) (telling n (sits o at before) y) (map callText cs))
-    (call-reread (r .bytes) c (r .says))
+    (call-reread c (h c (List·Memᴰ·head refl)))
     ∙ calls-told o at (suc n) (before ++ (x ∷ [])) cs (λ y m. h y (List·Memᴰ·tail m))
     ∙ ap (sits o at) (append-snoc before x (numberedFrom (suc n) cs))
 
 -- ---- THE JOURNAL
 
-module _ (o : WrittenInputs) (cs : List WrittenCall) (first : WasRead (Open o)) (others : EachRead cs) where
+module _ (o : WrittenInputs) (cs : List WrittenCall) (first : GoodInputs o) (others : EachGood cs) where
   all-lines : textLines (lineText (Open o) ++ callLines cs) ≡ openText o ∷ map callText cs
   all-lines =
-      open-one-line (first .bytes) o (first .says) .1 (callLines cs)
+      open-one-line o first .1 (callLines cs)
       ∙ ap (λ (ls : List (List ℕ)). openText o ∷ ls) (each-line cs others)
 
   pub journal-rewritten :
@@ -103,6 +99,6 @@ module _ (o : WrittenInputs) (cs : List WrittenCall) (first : WasRead (Open o)) 
       let few : length texts ≤ length cs = omega (arith, length-map cs callText) in
       ap (λ (ls : List (List ℕ)). toldFrom 1 waiting (take (suc (length cs)) ls)) all-lines
       ∙ ap (λ (ls : List (List ℕ)). toldFrom 1 waiting (openText o ∷ ls)) (take-all (length cs) texts few)
-      ∙ ap (λ (y : Line). toldFrom 2 (telling 1 waiting y) texts) (open-reread (first .bytes) o (first .says))
+      ∙ ap (λ (y : Line). toldFrom 2 (telling 1 waiting y) texts) (open-reread o first)
       ∙ ap (λ (v : Verdict). toldFrom 2 (openedTold 1 o v) texts) e
       ∙ calls-told o 1 2 [] cs others

@@ -1,6 +1,6 @@
 -- Every call and every open that a line reads as can be written: its decimals have few digits, its
 -- whole numbers fit a `u32`, its flags are 0 or 1. By the cases of the grammar. Assumes nothing.
-use Prim.Native.Nat.{ℕ, _^_, _+_, _<_}
+use Prim.Native.Nat.{ℕ, _+_}
 use mathlib.Core.Bool.{Bool, true, false, cond}
 use mathlib.Core.List.{List}
 use mathlib.Core.Path.{_≡_, refl, sym, subst}
@@ -17,77 +17,18 @@ use Rattle.wording.specs.declared.line.Fit.the-variants.{Good, Wrong as NoFit}
 use Rattle.wording.specs.declared.line.Wanted.the-variants.{Start}
 use Rattle.wording.specs.declared.line.Line.{Line}
 use Rattle.wording.specs.declared.line.Line.the-variants.{Blank, Open, Call, Wrong}
-use Rattle.wording.specs.declared.written.WrittenRoute.{WrittenRoute}
-use Rattle.wording.specs.declared.written.WrittenFactors.{WrittenFactors}
-use Rattle.wording.specs.declared.written.WrittenPole.{WrittenPole}
 use Rattle.wording.specs.declared.written.WrittenInputs.{WrittenInputs}
 use Rattle.wording.specs.declared.written.WrittenEdit.{WrittenEdit}
-use Rattle.wording.specs.declared.written.WrittenEdit.the-variants.{Sunspot, Hour, Path, Psc, Pole, Month, Model}
 use Rattle.wording.specs.declared.written.WrittenCall.{WrittenCall}
-use Rattle.wording.specs.declared.written.WrittenCall.the-variants.{Begin, Change, Commit, Cancel, TakeBack, Show}
-use Rattle.wording.specs.Number.{isWritten}
 use Rattle.wording.specs.Token.{tokensOf, tokenAt}
 use Rattle.wording.specs.Line.{isNamed, isWhole, isWholeDecimal, usualFactors, usualPole, lineIf, callIf, decimalAt, wholeAt, modelAt, isLongAt, routeAt, factorsAt, poleAt, brings, factorsStart, poleStart, modelStart, openingFactors, openingPole, openingModel, openingAt, openFit, deedLine, deskLine, wordLine, numberLine, startLine, lineIn, changeEdit, deedFit, deedCall, bareFit, bareCall}
 use Rattle.wording.specs.Line.{OPEN, SUNSPOT, HOUR, PATH, FACTORS, POLE, MONTH, MODEL, URSI, BEGIN, COMMIT, CANCEL, SHOW}
 use Rattle.wording.proofs.words.Fits.{whole-fits, word-fits, deed-parts, bare-parts}
+use Rattle.results.specs.ReadBack.{Few, Fits, Flag, off, on, GoodRoute, GoodFactors, GoodPole, GoodInputs, GoodEdit, sunspot, hour, path, psc, pole, month, model, GoodCall, begin, change, commit, cancel, take-back, show}
 use Rattle.results.proofs.reading.Numbers.{token-sound}
 
--- ---- what can be written
-
-abbrev pub Few : Decimal → Type 0
-Few d = isWritten d ≡ true
-
-abbrev pub Fits : ℕ → Type 0
-Fits n = n < 2 ^ 32
-
-pub data Flag : ℕ → Type 0 where
-  off : Flag 0
-  on : Flag 1
-
-pub record GoodRoute (p : WrittenRoute) : Type 0 where
-  pub tlat : Few (p .tlat)
-  pub tlong : Few (p .tlong)
-  pub rlat : Few (p .rlat)
-  pub rlong : Few (p .rlong)
-  pub long : Flag (p .«long_path»)
-
-pub record GoodFactors (p : WrittenFactors) : Type 0 where
-  pub e : Few (p .e)
-  pub f1 : Few (p .f1)
-  pub f2 : Few (p .f2)
-  pub es : Few (p .es)
-
-pub record GoodPole (p : WrittenPole) : Type 0 where
-  pub lat : Few (p .lat)
-  pub lon : Few (p .lon)
-
-pub record GoodInputs (o : WrittenInputs) : Type 0 where
-  pub month : Fits (o .month)
-  pub ssn : Few (o .ssn)
-  pub gmt : Few (o .gmt)
-  pub route : GoodRoute (o .route)
-  pub psc : GoodFactors (o .psc)
-  pub pole : GoodPole (o .pole)
-  pub model : Flag (o .model)
-
-pub data GoodEdit : WrittenEdit → Type 0 where
-  sunspot : {d : Decimal} → Few d → GoodEdit (Sunspot d)
-  hour : {d : Decimal} → Few d → GoodEdit (Hour d)
-  path : {p : WrittenRoute} → GoodRoute p → GoodEdit (Path p)
-  psc : {p : WrittenFactors} → GoodFactors p → GoodEdit (Psc p)
-  pole : {p : WrittenPole} → GoodPole p → GoodEdit (Pole p)
-  month : {m : ℕ} → Fits m → GoodEdit (Month m)
-  model : {m : ℕ} → Flag m → GoodEdit (Model m)
-
-pub data GoodCall : WrittenCall → Type 0 where
-  begin : {n : ℕ} → Fits n → GoodCall (Begin n)
-  change : {n : ℕ} {e : WrittenEdit} → Fits n → GoodEdit e → GoodCall (Change n e)
-  commit : {n : ℕ} → Fits n → GoodCall (Commit n)
-  cancel : {n : ℕ} → Fits n → GoodCall (Cancel n)
-  take-back : GoodCall TakeBack
-  show : {n : ℕ} → Fits n → GoodCall (Show n)
-
-pub data GoodLine : Line → Type 0 where
+-- a line: its open or its call
+data GoodLine : Line → Type 0 where
   blank : GoodLine Blank
   opened : {o : WrittenInputs} → GoodInputs o → GoodLine (Open o)
   called : {c : WrittenCall} → GoodCall c → GoodLine (Call c)

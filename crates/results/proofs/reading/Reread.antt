@@ -1,5 +1,5 @@
--- A call that was read, written and read again is the same call, and so is an open: the words of its
--- text are known, and the grammar computes on them. Assumes nothing.
+-- The text of a call reads as that call, and so of an open: the words of the text are known, and the
+-- grammar computes on them. Assumes nothing.
 use Prim.Native.Nat.{ℕ, _^_}
 use mathlib.Core.Bool.{Bool, true, false, cond}
 use mathlib.Core.List.{List, [], _∷_}
@@ -24,7 +24,7 @@ use Rattle.wording.specs.Token.{tokensOf, tokenAt}
 use Rattle.wording.specs.Line.{fitUnless, _andThen_, callIf, lineIf, wordFit, numberFit, wholeFit, modelFit, endFit, decimalAt, wholeAt, modelAt, pairFit, fourFit, routeFit, routeAt, routeEnd, factorsAt, poleAt, headFit, factorsStart, poleStart, modelStart, openEnd, factorsFit, poleFit, modelsFit, openFit, openingFactors, openingPole, openingModel, openingAt, changeLine, deedLine, deskLine, wordLine, numberLine, startLine, lineIn}
 use Rattle.wording.specs.Line.{SUNSPOT, HOUR, PATH, MONTH, BEGIN, COMMIT, CANCEL, SHOW}
 use Rattle.listing.specs.Written.{callText, openText}
-use Rattle.results.proofs.reading.Parts.{Fits, Flag, off, on, GoodEdit, sunspot, hour, path, psc, pole, month, model, GoodCall, begin, change, commit, cancel, take-back, show, read-open, read-call}
+use Rattle.results.specs.ReadBack.{Fits, Flag, off, on, GoodEdit, sunspot, hour, path, psc, pole, month, model, GoodInputs, GoodCall, begin, change, commit, cancel, take-back, show}
 use Rattle.results.proofs.reading.Words.{AllRead, trailing, held, tokens-read, blank-first}
 use Rattle.results.proofs.reading.Texts.{whole, routeTokens, factorsTokens, poleTokens, modelTokens, editTokens, callTokens, openTokens, call-text, open-text, call-read, open-read}
 
@@ -146,13 +146,10 @@ open-line o on on h = month-fits (flagged o 1 1) h
 
 -- ---- READ AGAIN
 
-pub call-reread : (l : List ℕ) (c : WrittenCall) → lineIn l ≡ Call c → lineIn (callText c) ≡ Call c
-call-reread l c e =
-    let g = read-call l c e in
-    reads-as (callText c) (callTokens c) (call-text g) (call-read g) ∙ call-line g
+pub call-reread : (c : WrittenCall) → GoodCall c → lineIn (callText c) ≡ Call c
+call-reread c g = reads-as (callText c) (callTokens c) (call-text g) (call-read g) ∙ call-line g
 
-pub open-reread : (l : List ℕ) (o : WrittenInputs) → lineIn l ≡ Open o → lineIn (openText o) ≡ Open o
-open-reread l o e =
-    let g = read-open l o e in
+pub open-reread : (o : WrittenInputs) → GoodInputs o → lineIn (openText o) ≡ Open o
+open-reread o g =
     reads-as (openText o) (openTokens o) (open-text g) (open-read g)
     ∙ open-line o (g .route .long) (g .model) (g .month)

@@ -28,7 +28,7 @@ use Rattle.listing.specs.Decimal.{minusOf}
 use Rattle.listing.specs.Written.{fractionText, digitsText, numberText, pairText, longWord, routeText, factorsText, poleText, modelText, openText, editText, deedText, callText}
 use Rattle.listing.proofs.digits.Quotients.{by-none}
 use Rattle.listing.proofs.reread.Bytes.{inWord, all}
-use Rattle.results.proofs.reading.Parts.{Fits, GoodRoute, GoodFactors, GoodPole, GoodInputs, GoodEdit, sunspot, hour, path, psc, pole, month, model, GoodCall, begin, change, commit, cancel, take-back, show}
+use Rattle.results.specs.ReadBack.{Fits, GoodRoute, GoodFactors, GoodPole, GoodInputs, GoodEdit, sunspot, hour, path, psc, pole, month, model, GoodCall, begin, change, commit, cancel, take-back, show}
 use Rattle.results.proofs.reading.Words.{tokenText, Read, AllRead, none, more, trailing, trailing-both, all-both, number-read}
 
 -- ---- the words

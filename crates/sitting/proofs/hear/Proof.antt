@@ -40,12 +40,12 @@ returns-3 c =
 returns-4 : tie.Need-returns-4
 unfolding hearing
 returns-4 c =
-    let a = c .before .before .before .before .before .before .before .before .before .before .args in
+    let a = c .before .before .before .before .before .before .before .before .before .args in
     let source = lentAs (a .lent) (a .a .now) (a .b .now) in
-    let read = sym (c .before .before .before .before .read3 .given .1) ∙ c .before .before .before .before .before .before .line-in .ensures in
+    let read = sym (c .before .before .before .read3 .given .1) ∙ c .before .before .before .before .before .line-in .ensures in
     let told = ap (λ (x : Line). hearLine source (a .number) (a .s) x) read in
-    let h = c .fault-text .ensures in
-    (c .before .before .ended .ensures ∙ ap (λ x. x .sitting) told, (h .0 ∙ ap (λ x. x .text) told, h .1))
+    let h = c .hear-wrong .ensures in
+    (h .0 ∙ ap (λ x. x .sitting) told, (h .1 .0 ∙ ap (λ x. x .text) told, h .1 .1))
 
 pub hear-spec : {M : Type 1} → statement M
 hear-spec =
@@ -58,7 +58,6 @@ hear-spec =
     (λ c. search needs)
     (λ c κs. search needs)
     (λ c. search needs)
-    (λ c κs. search needs)
     (λ c κs. search needs)
     returns
     returns-2

@@ -25,8 +25,7 @@ abbrev μ-loop : tie.MeasureT-loop
 
 loop-holds : tie.Need-loop-holds Inv-loop μ-loop
 loop-holds c =
-    let e = c .nothing .ensures in
-    (omega arith, (refl, (refl, (refl, read-none _ _ _ (e .0) (e .1)))))
+    (omega arith, (refl, (refl, (refl, read-none _ _ _ (c .nothing .ensures)))))
 
 -- no newline is left
 returns : tie.Need-returns Inv-loop μ-loop

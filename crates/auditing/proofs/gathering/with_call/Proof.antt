@@ -11,7 +11,7 @@ returns : tie.Need-returns
 returns c =
     let b = c .before .before .before .before .before .before .before .before in
     let e = c .ended .ensures in
-    (goes-call-early _ _ _ _ _ _ (waiting-sits _ (c .before .enum-told .given .1)) (e .0), omega (arith, b .pre))
+    (goes-call-early _ _ _ _ _ _ (waiting-sits _ (c .before .enum-told .given .1)) e, omega (arith, b .pre))
 
 returns-2 : tie.Need-returns-2
 unfolding withCall
@@ -27,7 +27,7 @@ returns-3 : tie.Need-returns-3
 returns-3 c =
     let b = c .before .before .before .before .before .before .before .before in
     let e = c .ended2 .ensures in
-    (goes-call-early _ _ _ _ _ _ (ended-sits _ (c .before .enum-told3 .given .1)) (e .0), omega (arith, b .pre))
+    (goes-call-early _ _ _ _ _ _ (ended-sits _ (c .before .enum-told3 .given .1)) e, omega (arith, b .pre))
 
 pub with-call-spec : {M : Type 1} → statement M
 with-call-spec =

@@ -26,7 +26,7 @@ returns-4 : tie.Need-returns-4
 returns-4 c =
     let b = c .before .before .before .before .before .before .before .before in
     let e = c .ended .ensures in
-    (goes-as _ _ _ _ _ (c .before .enum-told2 .given .1) (goes-wrong _ _ _ _ _ _ (e .0)), omega (arith, b .pre))
+    (goes-as _ _ _ _ _ (c .before .enum-told2 .given .1) (goes-wrong _ _ _ _ _ _ e), omega (arith, b .pre))
 
 pub with-line-spec : {M : Type 1} → statement M
 with-line-spec =

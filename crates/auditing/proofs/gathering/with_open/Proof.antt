@@ -23,7 +23,7 @@ returns-2 : tie.Need-returns-2
 returns-2 c =
     let e = c .ended .ensures in (
       λ source marks numbers starts.
-          goes-open-late _ _ _ _ _ _ (λ q. waiting-sits _ q (c .before .enum-told2 .given .1)) (e .0),
+          goes-open-late _ _ _ _ _ _ (λ q. waiting-sits _ q (c .before .enum-told2 .given .1)) e,
       omega arith,
     )
 
@@ -31,7 +31,7 @@ returns-3 : tie.Need-returns-3
 returns-3 c =
     let e = c .ended2 .ensures in (
       λ source marks numbers starts.
-          goes-open-late _ _ _ _ _ _ (λ q. waiting-ended _ q (c .before .enum-told3 .given .1)) (e .0),
+          goes-open-late _ _ _ _ _ _ (λ q. waiting-ended _ q (c .before .enum-told3 .given .1)) e,
       omega arith,
     )
 

@@ -8,7 +8,7 @@ use lib.ListN.{getD}
 use lib.Ieee.{nan}
 use Rattle.listing.specs.Text.{Put}
 use Rattle.listing.specs.Decimal.{decimalText}
-use Rattle.listing.specs.Columns.{cellsText}
+use Rattle.listing.specs.Columns.{cell, cellsText}
 use Rattle.listing.proofs.pieces.Puts.{put-as, joined}
 use Rattle.listing.proofs.pieces.Series.{none-yet, one-more}
 use Rattle.listing.proofs.pieces.Abreast.{length-cells}
@@ -24,10 +24,10 @@ abbrev μ-loop : tie.MeasureT-loop
 loop-holds : tie.Need-loop-holds Inv-loop μ-loop
 loop-holds c =
     let a = c .before .args in
-    (search needs, none-yet (λ (p : ℕ). decimalText (getD (a .figures .now) (a .from + 29 * p) nan)) (a .out .now) (a .at))
+    (search needs, none-yet (λ (p : ℕ). cell (decimalText (getD (a .figures .now) (a .from + 29 * p) nan))) (a .out .now) (a .at))
 
-put-float-requires : tie.Need-put-float-requires Inv-loop μ-loop
-put-float-requires c κs =
+put-figure-requires : tie.Need-put-figure-requires Inv-loop μ-loop
+put-figure-requires c κs =
     let a = c .before .before .before .before .before .args in
     omega (arith, length-cells (a .figures .now) (a .from) (c .before .before .before .loop .p))
 
@@ -35,8 +35,8 @@ loop-again : tie.Need-loop-again Inv-loop μ-loop
 loop-again c =
     let l = c .before .before .before .before .before .before .loop in
     let a = c .before .before .before .before .before .before .before .before .args in
-    let f : ℕ → List ℕ = λ p. decimalText (getD (a .figures .now) (a .from + 29 * p) nan) in
-    (search needs, put-as (joined (l .inv .1) (c .before .before .put-float .ensures)) (one-more f (l .p)))
+    let f : ℕ → List ℕ = λ p. cell (decimalText (getD (a .figures .now) (a .from + 29 * p) nan)) in
+    (search needs, put-as (joined (l .inv .1) (c .before .before .put-figure .ensures)) (one-more f (l .p)))
 
 returns : tie.Need-returns Inv-loop μ-loop
 returns c =
@@ -56,7 +56,7 @@ put-cells-spec =
     (λ c. search needs)
     (λ c. search needs)
     (λ c. search needs)
-    put-float-requires
+    put-figure-requires
     (λ c. search needs)
     (λ c. search needs)
     loop-again

@@ -5,8 +5,7 @@ use mathlib.Core.Path.{_≡_, subst}
 use Prim.Native.Nat.{ℕ, _+_, _-_, _≤_}
 use native.Mathlib.Omega.{arith}
 use Rattle.listing.specs.Text.{Put, decimalOf}
-use Rattle.listing.specs.Fields.{atRight}
-use Rattle.listing.specs.Columns.{pointNumbers}
+use Rattle.listing.specs.Columns.{cell, pointNumbers}
 use Rattle.listing.proofs.pieces.Puts.{put-as, joined}
 use Rattle.listing.proofs.pieces.Series.{none-yet, one-more}
 use Rattle.listing.proofs.pieces.Abreast.{length-numbers}
@@ -22,15 +21,15 @@ abbrev μ-loop : tie.MeasureT-loop
 loop-holds : tie.Need-loop-holds Inv-loop μ-loop
 loop-holds c =
     let a = c .before .args in
-    (search needs, none-yet (λ (p : ℕ). atRight (decimalOf (p + 1))) (a .out .now) (a .at))
+    (search needs, none-yet (λ (p : ℕ). cell (decimalOf (p + 1))) (a .out .now) (a .at))
 
-put-whole-requires : tie.Need-put-whole-requires Inv-loop μ-loop
-put-whole-requires c κs = omega (arith, length-numbers (c .before .before .loop .p))
+put-point-number-requires : tie.Need-put-point-number-requires Inv-loop μ-loop
+put-point-number-requires c κs = omega (arith, length-numbers (c .before .before .loop .p))
 
 loop-again : tie.Need-loop-again Inv-loop μ-loop
 loop-again c =
     let l = c .before .before .before .before .before .loop in
-    (search needs, put-as (joined (l .inv .1) (c .before .before .put-whole .ensures)) (one-more (λ (p : ℕ). atRight (decimalOf (p + 1))) (l .p)))
+    (search needs, put-as (joined (l .inv .1) (c .before .before .put-point-number .ensures)) (one-more (λ (p : ℕ). cell (decimalOf (p + 1))) (l .p)))
 
 returns : tie.Need-returns Inv-loop μ-loop
 returns c =
@@ -48,7 +47,7 @@ put-point-numbers-spec =
     loop-holds
     (λ c. search needs)
     (λ c. search needs)
-    put-whole-requires
+    put-point-number-requires
     (λ c. search needs)
     (λ c. search needs)
     loop-again
