@@ -14,9 +14,9 @@ mod port;
 mod reference;
 
 use commands::{
-    answer, bulk_desk, bulk_desk_lines, bulk_journals, bulk_routes, bulk_sheet, bulk_year_journals,
-    clocks, data, desk, files, journals, numbers, pages, replay_input, routes, self_check,
-    sheet_inputs, sheets, time_sheets, year, year_journals,
+    answer, bulk_desk, bulk_desk_lines, bulk_journals, bulk_lines, bulk_routes, bulk_sheet,
+    bulk_year_journals, clocks, data, desk, desk_words, files, journals, lines, numbers, pages,
+    replay_input, routes, self_check, sheet_inputs, sheets, time_sheets, year, year_journals,
 };
 #[cfg(linked)]
 use commands::{
@@ -36,9 +36,9 @@ const USAGE: &str = "usage:
   oracle year FILE SEED                         write a year file made from a seed
   oracle year-parts DIR FILE                    write fourteen parts and the year file of them
   oracle year-damaged FILE                      write a year file with damaged parts
+  oracle year-few FILE                          write a small year file, two months of which are good
   oracle year-check FILE                        say what can be shown from a year file, by the model
   oracle replay-input FILE                      write an input of the program replay
-  oracle year-input FILE                        write an input of the program replay year
   oracle files DIR                              write the vectors of the file functions
   oracle bulk-files COUNT SEED                  compare the port's file functions with the Rust's
   oracle clocks FILE                            write the vectors of the clocks
@@ -64,9 +64,13 @@ const USAGE: &str = "usage:
   oracle desk-run JOURNAL RECORD MONTH          the same over a pair of files
   oracle desk-audit JOURNAL YEAR LINE           the same of desk audit
   oracle desk-journal FILE SEED                 write a random journal of the program desk
+  oracle desk-words JOURNAL YEAR FILE           write an input of replay year with a journal's calls
   oracle bulk-desk COUNT SEED PROGRAM FOLDER    compare the port's program desk with the model
   oracle bulk-desk-lines COUNT SEED PROGRAM FOLDER
                                                 the same over lines, numbers above all
+  oracle lines-in FILE                          write lines of every kind for the program lines
+  oracle lines FILE                             say what each line of a file is, by the model
+  oracle bulk-lines COUNT SEED PROGRAM          compare the port's program lines with the model
   oracle replay, oracle replay year, oracle sheet, oracle page
                                                 answer standard input as the model does
   oracle time-sheets                            time whole sheets and the Rust's parts of them
@@ -99,9 +103,9 @@ fn command(words: &[&str]) -> Result<(), String> {
         ["year", file, seed] => year::run(file, seed),
         ["year-parts", folder, file] => year::parts(folder, file),
         ["year-damaged", file] => year::damaged(file),
+        ["year-few", file] => year::few(file),
         ["year-check", file] => year::check(file),
         ["replay-input", file] => replay_input::run(file),
-        ["year-input", file] => year::example(file),
         ["journals", file] => journals::run(file),
         ["year-journals", file] => year_journals::run(file),
         ["sheet-inputs", folder] => sheet_inputs::files(folder),
@@ -117,10 +121,14 @@ fn command(words: &[&str]) -> Result<(), String> {
             desk::audit(journal, files, line)
         }
         ["desk-journal", file, seed] => desk::random(file, seed),
+        ["desk-words", journal, year, file] => desk_words::run(journal, year, file),
         ["bulk-desk", count, seed, program, folder] => bulk_desk::run(count, seed, program, folder),
         ["bulk-desk-lines", count, seed, program, folder] => {
             bulk_desk_lines::run(count, seed, program, folder)
         }
+        ["lines-in", file] => lines::input(file),
+        ["lines", file] => lines::run(file),
+        ["bulk-lines", count, seed, program] => bulk_lines::run(count, seed, program),
         ["replay"] => answer::replay(),
         ["replay", "year"] => answer::replay_year(),
         ["sheet"] => answer::sheet(),

@@ -3,14 +3,13 @@
 //! in the place of YEAR. `desk-journal FILE SEED`: a random journal.
 
 use super::answer::{input, print};
-use super::{whole, write_file};
+use super::{read_file, whole, write_file};
 use crate::draw::desk_texts::journal;
 use crate::draw::generator::Generator;
 use crate::model::desks::lent::Lent;
 use crate::model::desks::programs::LONGEST_YEAR;
 use crate::model::desks::text::audit::audit_text;
 use crate::model::desks::text::run::{lines, run_text};
-use std::fs;
 
 pub fn run(name: &str, files: &[&str]) -> Result<(), String> {
     let journal = read_journal(name)?;
@@ -38,18 +37,14 @@ pub fn random(file: &str, seed: &str) -> Result<(), String> {
 fn read_journal(name: &str) -> Result<Vec<u8>, String> {
     match name {
         "-" => input(),
-        _ => read(name),
+        _ => read_file(name),
     }
-}
-
-fn read(name: &str) -> Result<Vec<u8>, String> {
-    fs::read(name).map_err(|e| format!("cannot read {name}: {e}"))
 }
 
 /// A year file, or a record and a month file.
 fn lent(files: &[&str]) -> Result<Lent, String> {
     let files = files.iter().map(|name| {
-        let file = read(name)?;
+        let file = read_file(name)?;
         match file.len() {
             ..=LONGEST_YEAR => Ok(file),
             _ => Err(format!("{name}: too long")),

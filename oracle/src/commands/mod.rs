@@ -10,6 +10,7 @@ pub mod bulk_files;
 pub mod bulk_journals;
 #[cfg(linked)]
 pub mod bulk_layers;
+pub mod bulk_lines;
 #[cfg(any(linked, test))]
 pub mod bulk_lists;
 #[cfg(linked)]
@@ -26,8 +27,10 @@ pub mod bulk_years;
 pub mod clocks;
 pub mod data;
 pub mod desk;
+pub mod desk_words;
 pub mod files;
 pub mod journals;
+pub mod lines;
 pub mod numbers;
 pub mod pages;
 #[cfg(linked)]
@@ -88,6 +91,10 @@ fn write_file(file: impl AsRef<Path>, bytes: &[u8]) -> Result<(), String> {
 fn put_file(file: impl AsRef<Path>, bytes: &[u8]) -> Result<(), String> {
     let file = file.as_ref();
     fs::write(file, bytes).map_err(|e| format!("cannot write {}: {e}", file.display()))
+}
+
+fn read_file(file: &str) -> Result<Vec<u8>, String> {
+    fs::read(file).map_err(|e| format!("cannot read {file}: {e}"))
 }
 
 fn whole(word: &str) -> Result<u64, String> {

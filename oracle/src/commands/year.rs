@@ -1,28 +1,17 @@
-//! `year FILE SEED`, `year-parts DIR FILE` and `year-damaged FILE`: good year files,
-//! and one of which some parts are damaged. `year-check FILE`: what the program
-//! `year check` prints of one. `year-input FILE`: an input of the program `replay
-//! year` over a small one.
+//! `year FILE SEED`, `year-parts DIR FILE`, `year-damaged FILE` and `year-few FILE`:
+//! good year files, one of which some parts are damaged, and a small one.
+//! `year-check FILE`: what the program `year check` prints of one.
 
 mod damaged;
+pub mod few;
 
 use super::answer::print;
-use super::journals::by_hand::inputs;
-use super::journals::drawn::Journal;
-use super::year_journals::{by_hand, input};
-use super::{whole, write, write_file};
+use super::{read_file, whole, write, write_file};
 use crate::draw::generator::Generator;
 use crate::draw::year_files::plain::plain_year;
-use crate::draw::year_files::{calm_year, first_months, packed, NO_GAPS};
-use crate::model::desks::fields::{moved_to, CCIR};
+use crate::draw::year_files::{calm_year, packed, NO_GAPS};
 use crate::model::desks::survey::survey_text;
 use crate::model::year::PARTS;
-use crate::month_file::push_words;
-use std::fs;
-
-/// Months of the small year.
-const MONTHS: usize = 2;
-/// An operation that no journal knows.
-const UNKNOWN: u32 = 13;
 
 /// The files that a year is packed from, in the order of its parts.
 const NAMES: [&str; PARTS] = [
@@ -61,19 +50,12 @@ pub fn damaged(file: &str) -> Result<(), String> {
     write_file(file, &damaged::year())
 }
 
-pub fn check(file: &str) -> Result<(), String> {
-    let year = fs::read(file).map_err(|e| format!("cannot read {file}: {e}"))?;
-    print(&survey_text(&year))
+pub fn few(file: &str) -> Result<(), String> {
+    write_file(file, &few::year())
 }
 
-/// A morning with months and models, some of which are not there; what comes last
-/// is no call.
-pub fn example(file: &str) -> Result<(), String> {
-    let parts = first_months(&mut Generator::new(904), MONTHS);
-    let january = moved_to(inputs(), 1, CCIR);
-    let mut journal = Journal::of("example", january, &by_hand::in_winter());
-    push_words(&mut journal.calls, &[UNKNOWN]);
-    write_file(file, &input(&journal, &packed(&parts, &NO_GAPS)))
+pub fn check(file: &str) -> Result<(), String> {
+    print(&survey_text(&read_file(file)?))
 }
 
 #[cfg(test)]

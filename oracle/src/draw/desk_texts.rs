@@ -1,6 +1,7 @@
 //! Random journals as the program `desk` reads them: calls of four desks, most of
 //! them good, in many spellings, with comments and odd blanks; and what is no call.
 
+pub mod each;
 pub mod faults;
 pub mod lines;
 pub mod numbers;

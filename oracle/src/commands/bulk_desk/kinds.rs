@@ -11,14 +11,14 @@ pub const OF_AUDITS: [(&str, &[&str]); 8] = [
     ("none", &["none"]),
     ("cancelled", &["line", ": cancelled at line"]),
     ("taken back", &["committed at line", "taken back at line"]),
-    ("never committed", &["line", ": never committed"]),
+    ("not committed by then", &["line", ": not committed by then"]),
     (
         "refused, cancelled",
         &["refused at line", ", cancelled at line"],
     ),
     (
-        "refused, never committed",
-        &["refused at line", ", never committed"],
+        "refused, not committed by then",
+        &["refused at line", ", not committed by then"],
     ),
 ];
 
@@ -90,8 +90,8 @@ sunspot number                 92.500000  set by desk 1 at line 3, settled at li
 none
 desk 2, begun at line 5: cancelled at line 7
 desk 1, begun at line 5: committed at line 7, taken back at line 9
-desk 3, begun at line 5: never committed
-desk 3, begun at line 5: refused at line 7, never committed
+desk 3, begun at line 5: not committed by then
+desk 3, begun at line 5: refused at line 7, not committed by then
 desk 3, begun at line 5: refused at line 7, cancelled at line 8
 ";
         let mut kinds = Kinds::default();

@@ -173,37 +173,6 @@ pub fn without_a_directory() -> Vec<Call> {
     ]
 }
 
-/// On a worksheet of January and CCIR, over a year that has but two months.
-pub fn in_winter() -> Vec<Call> {
-    vec![
-        SHOW,
-        Begin(1),
-        month(1, 2),
-        show(1),
-        model(1, URSI),
-        show(1),
-        model(1, 2),
-        month(1, 0),
-        Begin(2),
-        Commit(1),
-        SHOW,
-        Commit(2),
-        show(2),
-        Cancel(2),
-        Begin(3),
-        path(3, FAR, LONG),
-        month(3, 3),
-        show(3),
-        month(3, 1),
-        show(3),
-        TakeBack,
-        TakeBack,
-        SHOW,
-        show(4),
-        month(5, 1),
-    ]
-}
-
 /// Every month and model by turns, of the draft and of the worksheet, over a year
 /// whose parts are worn.
 pub fn over_worn_parts() -> Vec<Vec<Call>> {

@@ -2,7 +2,7 @@
 //! are others. Now and then one is a call all the same.
 
 use super::lines::{call_words, line, open_words};
-use super::numbers::NO_NUMBERS;
+use super::numbers::{NO_NUMBERS, NO_WHOLES};
 use crate::draw::generator::Generator;
 use crate::draw::journal_kinds::year_list;
 use crate::draw::sheet_kinds::{one_of, year_inputs};
@@ -67,21 +67,6 @@ const VOCABULARY: [&str; 36] = [
     "short",
     "desk",
     "\"1\"",
-];
-
-/// Numbers that are not whole, or not below 2^32.
-const NO_WHOLES: [&str; 11] = [
-    "-0",
-    "-1",
-    "1.0",
-    "0.0",
-    ".0",
-    "1.5",
-    "4294967296",
-    "4294967297",
-    "8589934593",
-    "18446744073709551617",
-    "999999999999999999",
 ];
 
 /// What parts words, and what does not.
@@ -157,7 +142,7 @@ pub fn spoiled(random: &mut Generator) -> Vec<u8> {
 }
 
 /// The words of any call, or of an open.
-fn sentence(random: &mut Generator) -> Vec<String> {
+pub fn sentence(random: &mut Generator) -> Vec<String> {
     let inputs = year_inputs(random);
     if random.below(4) == 0 {
         return open_words(random, &inputs);
@@ -165,6 +150,11 @@ fn sentence(random: &mut Generator) -> Vec<String> {
     let opened = Worksheet::open(inputs).expect("in range");
     let call = year_list(random, &opened, 3)[2];
     call_words(random, &call)
+}
+
+/// A few words in any order.
+pub fn any_words(random: &mut Generator) -> Vec<String> {
+    (0..random.below(9)).map(|_| any_word(random)).collect()
 }
 
 fn any_word(random: &mut Generator) -> String {

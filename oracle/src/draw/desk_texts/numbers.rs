@@ -44,6 +44,37 @@ pub const NO_NUMBERS: [&str; 34] = [
     "\u{ff11}",
 ];
 
+/// Numbers that are not whole, or not below 2^32.
+pub const NO_WHOLES: [&str; 11] = [
+    "-0",
+    "-1",
+    "1.0",
+    "0.0",
+    ".0",
+    "1.5",
+    "4294967296",
+    "4294967297",
+    "8589934593",
+    "18446744073709551617",
+    "999999999999999999",
+];
+
+const ZEROS: [&str; 8] = [
+    "0",
+    "-0",
+    "+0",
+    "-0.",
+    "-.0",
+    "00",
+    "0.000000000000000000",
+    "-0.0",
+];
+
+/// Zeros and nines more often, which make neighbours of powers of ten.
+const DIGITS: [char; 14] = [
+    '0', '0', '0', '1', '2', '3', '4', '5', '6', '7', '8', '9', '9', '9',
+];
+
 /// A decimal at or near the f32 with these bits. What is no number, or too large
 /// for 18 digits, becomes the largest that there is.
 pub fn near(random: &mut Generator, word: u32) -> String {
@@ -157,6 +188,59 @@ pub fn dressed(random: &mut Generator, text: &str) -> String {
     match Decimal::read(other.as_bytes()) {
         Some(_) => other,
         None => String::from(text),
+    }
+}
+
+/// A number of any size: near an f32 or near the middle of two, at the middle where 18
+/// digits can say it, or of any digits; now and then what is none.
+pub fn any_number(random: &mut Generator) -> String {
+    let v = (random.sign() * random.scaled(-60, 58)) as f32;
+    let text = match random.below(16) {
+        0 => return one_of(random, &NO_NUMBERS).into(),
+        1 => one_of(random, &ZEROS).into(),
+        2..=5 => any_digits(random),
+        6 => any_whole(random),
+        7 | 8 => near(random, v.to_bits()),
+        9 | 10 => {
+            let field = one_of(random, &[2, 3, 4, 5, 9, 13]);
+            near_an_end(random, field)
+        }
+        _ => near_middle(random, v),
+    };
+    dressed(random, &text)
+}
+
+/// Up to 20 digits with a sign and a point or none, so that some are too many.
+fn any_digits(random: &mut Generator) -> String {
+    let count = match random.below(4) {
+        0 => 1 + random.below(20),
+        1 => 17 + random.below(3),
+        _ => 18,
+    };
+    let digits: String = (0..count).map(|_| one_of(random, &DIGITS)).collect();
+    let (before, after) = digits.split_at(random.below(count + 1) as usize);
+    let sign = one_of(random, &["", "", "-", "+"]);
+    let point = match after.is_empty() {
+        true => one_of(random, &["", "."]),
+        false => ".",
+    };
+    format!("{sign}{before}{point}{after}")
+}
+
+/// A desk or a month, mostly: at the ends of their ranges and of a word, in many
+/// spellings; now and then one that is none.
+pub fn any_whole(random: &mut Generator) -> String {
+    match random.below(12) {
+        0 => one_of(random, &NO_WHOLES).into(),
+        1 => whole(random, u32::MAX),
+        2 => {
+            let n = random.any_word();
+            whole(random, n)
+        }
+        _ => {
+            let n = random.below(14) as u32;
+            whole(random, n)
+        }
     }
 }
 

@@ -6,6 +6,7 @@ pub mod audit;
 pub mod line;
 pub mod number;
 pub mod run;
+pub mod said;
 pub mod settled;
 pub mod sheet;
 pub mod unsaid;

@@ -11,7 +11,7 @@ pub const MOST_CALLS: usize = 8192;
 pub const MOST_BYTES: usize = 1_048_576;
 
 /// Before the shorter journal, and before the sheet.
-pub const SHORTER: &str = "the journal without them, which gives the same sheet:\n";
+pub const SHORTER: &str = "the shorter journal, which gives the same sheet:\n";
 pub const SHEET: &str = "the sheet:\n";
 
 /// The standard output of `desk audit`: the page, or a line that says what is in
@@ -23,12 +23,17 @@ pub fn audit_text(journal: &[u8], lent: &Lent, line: usize) -> String {
 /// Of what is in the way the first counts, by lines.
 fn audited(journal: &[u8], lent: &Lent, line: usize) -> Result<String, String> {
     if journal.len() > MOST_BYTES {
-        return Err(longer_than_held());
+        return Err(format!(
+            "the journal is longer than an audit holds, which is {MOST_BYTES} bytes: \
+             audit a copy of it that ends with that line\n"
+        ));
     }
     let (lines, _) = lines(journal);
     let before = hear(&lines[..line.min(lines.len())], lent);
     if before.heard.len() > MOST_CALLS {
-        return Err(longer_than_held());
+        return Err(format!(
+            "the journal has more calls up to that line than an audit holds, which is {MOST_CALLS}\n"
+        ));
     }
     refuse_ended(&before)?;
     if !(1..=lines.len()).contains(&line) {
@@ -40,12 +45,6 @@ fn audited(journal: &[u8], lent: &Lent, line: usize) -> Result<String, String> {
         "line {line} does not show the worksheet: an audit is of a line that says show\n"
     ))?;
     page(&before.heard, showing).ok_or_else(|| answer_text(showing))
-}
-
-fn longer_than_held() -> String {
-    format!(
-        "the journal is longer than an audit holds: {MOST_CALLS} calls and {MOST_BYTES} bytes\n"
-    )
 }
 
 /// A line that is no call, or an open that was refused, as `desk run` says it.

@@ -58,8 +58,16 @@ impl Decimal {
         if self.digits == 0 {
             return sign;
         }
-        // The size is over / under times 2^exponent; over / under is brought to 24
-        // bits before the point.
+        let (over, under, exponent) = self.scaled();
+        let nearest = half_even(over, under);
+        // The highest of the 24 bits counts one exponent, and 2^24 one more.
+        let exponent = u32::try_from(149 + exponent).expect("large enough");
+        sign | ((exponent << 23) + nearest)
+    }
+
+    /// The size, which is not 0, as over / under times 2^exponent, with over / under
+    /// brought to 24 bits before the point.
+    fn scaled(self) -> (u128, u128, i32) {
         let mut over = u128::from(self.digits);
         let mut under = 10u128.pow(self.places as u32);
         let mut exponent = 0;
@@ -71,10 +79,17 @@ impl Decimal {
             under <<= 1;
             exponent += 1;
         }
-        let nearest = half_even(over, under);
-        // The highest of the 24 bits counts one exponent, and 2^24 one more.
-        let exponent = u32::try_from(149 + exponent).expect("large enough");
-        sign | ((exponent << 23) + nearest)
+        (over, under, exponent)
+    }
+
+    /// Of a number in the middle of two f32 whether the even one is further from 0.
+    pub fn is_tied_up(self) -> Option<bool> {
+        if self.digits == 0 {
+            return None;
+        }
+        let (over, under, _) = self.scaled();
+        let is_tie = 2 * (over % under) == under;
+        is_tie.then_some(over / under % 2 == 1)
     }
 
     /// The digits that were given, zeros in front left out, one before a point put

@@ -47,11 +47,17 @@ impl Journal {
     }
 }
 
-/// The lines of a journal, and what stands after the last newline.
+/// The lines of a journal, and what stands after the last newline; that is a line
+/// too where it is too long to be one.
 pub fn lines(journal: &[u8]) -> (Vec<&[u8]>, &[u8]) {
     let mut lines: Vec<&[u8]> = journal.split(|byte| *byte == b'\n').collect();
-    let rest = lines.pop().expect("there is always a last part");
-    (lines, rest)
+    match lines.pop().expect("there is always a last part") {
+        rest if rest.len() < TOO_LONG => (lines, rest),
+        rest => {
+            lines.push(rest);
+            (lines, b"")
+        }
+    }
 }
 
 /// The calls of these lines, up to what ends a journal: a line that is no call, or

@@ -53,7 +53,7 @@ impl fmt::Display for Draft {
                     "committed at line {committed}, taken back at line {back}"
                 )
             }
-            End::NeverCommitted => write!(f, "never committed"),
+            End::NeverCommitted => write!(f, "not committed by then"),
         }
     }
 }

@@ -16,7 +16,7 @@ pub fn sheet(inputs: &Inputs, shown: &Shown) -> String {
 pub fn fields(inputs: &Inputs) -> Vec<String> {
     let line = |(field, named): (usize, Named)| {
         let value = value(field, inputs[field - 1]);
-        row(unsaid::FIELD_NAME, named, &[value])
+        row(unsaid::FIELD_NAME, named, &[value], unsaid::NUMBER)
     };
     (1..=FIELDS).zip(unsaid::FIELDS).map(line).collect()
 }
@@ -33,7 +33,7 @@ fn value(field: usize, word: u32) -> String {
 
 fn path(shown: &Shown) -> Vec<String> {
     let figures = PATH.iter().zip(shown.words);
-    let line = |(named, word): (&Named, u32)| row(unsaid::PATH_NAME, *named, &[decimals(word)]);
+    let line = |(named, word): (&Named, u32)| figures_row(unsaid::PATH_NAME, *named, &[decimals(word)]);
     figures.map(line).collect()
 }
 
@@ -41,22 +41,24 @@ fn path(shown: &Shown) -> Vec<String> {
 fn points(shown: &Shown) -> Vec<String> {
     let points = 1..=shown.points as usize;
     let numbers: Vec<String> = points.clone().map(|number| number.to_string()).collect();
-    let mut lines = vec![row(unsaid::POINT_NAME, (unsaid::POINTS, ""), &numbers)];
+    let mut lines = vec![figures_row(unsaid::POINT_NAME, (unsaid::POINTS, ""), &numbers)];
     for (k, named) in POINT.iter().enumerate() {
         let figure = |point: usize| decimals(shown.words[PATH.len() + ROW * (point - 1) + k]);
         let figures: Vec<String> = points.clone().map(figure).collect();
-        lines.push(row(unsaid::POINT_NAME, *named, &figures));
+        lines.push(figures_row(unsaid::POINT_NAME, *named, &figures));
     }
     lines
 }
 
-/// A name, values each at the end of its 16 characters, and the unit if there is
+/// The same with a blank before each of the figures.
+fn figures_row(width: usize, named: Named, figures: &[String]) -> String {
+    row(width, named, figures, unsaid::NUMBER + 1)
+}
+
+/// A name, values each at the end of so many characters, and the unit if there is
 /// one.
-fn row(width: usize, (name, unit): Named, values: &[String]) -> String {
-    let values: String = values
-        .iter()
-        .map(|value| format!("{value:>0$}", unsaid::NUMBER))
-        .collect();
+fn row(width: usize, (name, unit): Named, values: &[String], number: usize) -> String {
+    let values: String = values.iter().map(|value| format!("{value:>number$}")).collect();
     let blanks = if unit.is_empty() { "" } else { "  " };
     format!("{name:<width$}{values}{blanks}{unit}")
 }

@@ -41,7 +41,7 @@ fn a_line_for_each_call() {
     let wanted = [
         "line 1: accepted",
         "line 4: accepted",
-        "line 5: refused 15 0: the desk has a draft open already",
+        "line 5: refused 15 0: the desk has a draft already",
         "line 6: refused 14 0: there is no such desk",
         "line 7: refused 2 2: the sunspot number is not 0 to 300",
         "line 8: refused 1 1: the month is not 1 to 12",
@@ -135,6 +135,10 @@ fn a_line_of_65536_bytes_is_no_call() {
             [format!("line 2: no call: {}", unsaid::TOO_LONG)]
         );
     }
+    let unended = |length: usize| [OPEN, &"#".repeat(length)].concat();
+    assert_eq!(answers(&unended(65_535), &lent).len(), 1);
+    let last = answers(&unended(65_536), &lent).pop();
+    assert_eq!(last, Some(format!("line 2: no call: {}", unsaid::TOO_LONG)));
 }
 
 #[test]
@@ -169,7 +173,7 @@ fn a_showing_has_its_sheet_and_an_empty_line() {
     }
     // Each number ends at its place, with its unit two blanks after it.
     for line in &lines[16..22] {
-        assert!(line.len() > 42 && &line[40..42] == "  ", "{line}");
+        assert!(line.len() > 31 && &line[29..31] == "  ", "{line}");
     }
 }
 
@@ -188,8 +192,9 @@ fn points_stand_side_by_side() {
     let text = sheet(&inputs, &Shown { points: 3, words });
     let lines: Vec<&str> = text.lines().collect();
     let columns = |line: &str| -> Vec<String> {
-        let columns = (0..3).map(|i| line[24 + 16 * i..][..16].trim_start().into());
-        columns.collect()
+        let columns = (0..3).map(|i| &line[12 + 17 * i..][..17]);
+        assert!(columns.clone().all(|column| column.starts_with(' ')));
+        columns.map(|column| column.trim_start().into()).collect()
     };
     assert_eq!(columns(lines[23]), ["1", "2", "3"]);
     assert_eq!(columns(lines[24]), ["6.000000", "nan", "-inf"]);
@@ -198,9 +203,9 @@ fn points_stand_side_by_side() {
         ["-16777215*2^104", "8388608*2^1", "65.000000"]
     );
     assert_eq!(columns(lines[52]), ["34.000000", "63.000000", "92.000000"]);
-    assert_eq!(lines[24].len(), 24 + 48 + "  radians".len());
-    assert_eq!(lines[52].len(), 24 + 48);
-    assert_eq!(lines[7].split_whitespace().last(), Some("long"));
+    assert_eq!(lines[24].len(), 12 + 51 + "  radians".len());
+    assert_eq!(lines[52].len(), 12 + 51);
+    assert_eq!(lines[7].split_whitespace().last(), Some("yes"));
 }
 
 /// Over a pair of files months and models are changed like any field.

@@ -172,11 +172,11 @@ show
 ";
     let [_, drafts, shorter, _] = audited(calls, &lent);
     let wanted = "\
-desk 2, begun at line 3: refused at line 10, never committed
+desk 2, begun at line 3: refused at line 10, not committed by then
 desk 3, begun at line 4: refused at line 11, cancelled at line 12
 desk 4, begun at line 5: cancelled at line 13
 desk 1, begun at line 14: committed at line 15, taken back at line 16
-desk 3, begun at line 17: never committed
+desk 3, begun at line 17: not committed by then
 ";
     assert_eq!(drafts, wanted);
     let (open, rest) = shorter.split_once('\n').expect("an open");
@@ -196,7 +196,7 @@ fn later_lines_do_not_count() {
         let [text, drafts, ..] = parts(&audit_text(journal.as_bytes(), &lent, line));
         (String::from(origins(&text)[2]), drafts)
     };
-    let never = "desk 1, begun at line 2: never committed\n";
+    let never = "desk 1, begun at line 2: not committed by then\n";
     assert_eq!(drafts(4), ("opened at line 1".into(), never.into()));
     let set = "set by desk 1 at line 3, settled at line 5";
     assert_eq!(drafts(6), (set.into(), "none\n".into()));
@@ -237,13 +237,15 @@ fn what_is_in_the_way() {
 #[test]
 fn what_an_audit_holds() {
     let lent = lent();
-    let longer = "the journal is longer than an audit holds: 8192 calls and 1048576 bytes\n";
+    let longer = "the journal is longer than an audit holds, which is 1048576 bytes: \
+                  audit a copy of it that ends with that line\n";
+    let more = "the journal has more calls up to that line than an audit holds, which is 8192\n";
     let of_calls = |count: usize| {
         let journal = [OPEN, &"9 begin\n".repeat(count - 2), "show\n"].concat();
         audit_text(journal.as_bytes(), &lent, count)
     };
     assert!(of_calls(MOST_CALLS).starts_with("audit of line 8192: "));
-    assert_eq!(of_calls(MOST_CALLS + 1), longer);
+    assert_eq!(of_calls(MOST_CALLS + 1), more);
     let of_bytes = |length: usize| {
         let mut journal = [OPEN, "show\n"].concat();
         journal += &"\n".repeat(length - journal.len());
@@ -323,6 +325,6 @@ const FATES: [&str; 6] = [
     ", cancelled at",
     ": committed at",
     ", taken back at",
-    ": never committed",
-    ", never committed",
+    ": not committed by then",
+    ", not committed by then",
 ];

@@ -1,0 +1,69 @@
+//! A small year file with a good directory: January and February can be shown with
+//! both models, and each month after them is refused by another number.
+
+use crate::draw::data_files::ladders::USUAL;
+use crate::draw::generator::Generator;
+use crate::draw::year_files::{first_months, packed, NO_GAPS};
+use crate::model::year::MONTHS;
+use crate::month_file::{to_bytes, words, LENGTHS};
+use crate::reference::voacap::coefficients::F2_RECORD_BYTES;
+use std::array::from_fn;
+
+/// Months that can be shown.
+const GOOD: usize = 2;
+/// Months with a CCIR record; those of the damaged ones are filled up.
+const RECORDS: usize = 5;
+/// The second marker, and the end of the third.
+const SECOND: usize = 244;
+const THIRD: usize = SECOND + 8;
+/// The index table's word 8 of map 4 and the rows that this map has.
+const WORD: usize = 4 + 40 * 3 + 4 * 8;
+const ROWS: u8 = 76;
+
+pub fn year() -> Vec<u8> {
+    let mut parts = first_months(&mut Generator::new(905), GOOD);
+    let good = parts[0].clone();
+    // March ends in the middle of its third marker, April's second is wrong.
+    parts[2] = good[..THIRD - 2].to_vec();
+    parts[3] = good[..THIRD].to_vec();
+    parts[3][SECOND] ^= 1;
+    parts[4] = bad_index();
+    parts[MONTHS].resize(RECORDS * F2_RECORD_BYTES, 0);
+    packed(&parts, &NO_GAPS)
+}
+
+/// A month file of zeros that takes little room, with a bad index table.
+fn bad_index() -> Vec<u8> {
+    let mut month = to_bytes(&from_fn(|table| match table {
+        0 => words(&USUAL),
+        _ => vec![0; LENGTHS[table]],
+    }));
+    month[WORD] = ROWS;
+    month
+}
+
+#[cfg(test)]
+mod tests {
+    use super::year;
+    use crate::model::desks::survey::survey_text;
+
+    /// What each month is refused by with CCIR and with URSI.
+    const WANTED: [[&str; 2]; 5] = [
+        ["can be shown"; 2],
+        ["can be shown"; 2],
+        ["refused 9 248:", "refused 8 0:"],
+        ["refused 10 244:", "refused 8 0:"],
+        ["refused 11 4:", "refused 8 0:"],
+    ];
+
+    #[test]
+    fn each_month_has_its_own_answer() {
+        let text = survey_text(&year());
+        let lines: Vec<&str> = text.lines().collect();
+        let (first, rest) = lines.split_at(2 * WANTED.len());
+        for (line, wanted) in first.iter().zip(WANTED.as_flattened()) {
+            assert!(line.contains(&format!(": {wanted}")), "{line}");
+        }
+        assert!(rest.iter().all(|line| line.contains(": refused 8 0:")));
+    }
+}
