@@ -19,6 +19,7 @@ use auditing::gathering::gather;
 use auditing::gathering::line_end;
 use auditing::marks::kept_in;
 use auditing::page::page_part;
+use libc::STDERR_FILENO;
 use libc::STDIN_FILENO;
 use listing::columns::COLUMNS;
 use listing::spoken::SPOKEN;
@@ -369,15 +370,29 @@ fn audit_text(whole: &[u8], n: usize, line: usize, lent: Lent, a: &[u8], b: &[u8
 
 // ---- the journal and the arguments
 
+// Says that there is more of a journal: it does not fit, or, where the buffer is not full, a read
+// before this one has failed.
+fn say_left(name: &[u8], full: bool) {
+    if full {
+        say_long_text();
+        return;
+    }
+    io::write_all(STDERR_FILENO, name);
+    io::write_all(
+        STDERR_FILENO,
+        b": it could not be read to its end: try again\n",
+    );
+}
+
 // Whether a journal has been read to its end; else what is left, or what failed, is said.
-fn is_held(fd: i32, name: &[u8]) -> bool {
+fn is_held(fd: i32, name: &[u8], full: bool) -> bool {
     let mut more = [0u8; 1];
     let left = libc::read(fd, &mut more);
     if left < 0 {
         os::fail(name);
     }
     if left > 0 {
-        say_long_text();
+        say_left(name, full);
     }
     left == 0
 }
@@ -398,7 +413,7 @@ fn audit_read(
     journal: &mut [u8; TEXT],
 ) {
     let n = read_into(fd, journal);
-    if is_held(fd, name) {
+    if is_held(fd, name, n == TEXT) {
         audit_text(journal, n, line, lent, a, b);
     }
 }

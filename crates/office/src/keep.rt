@@ -68,11 +68,12 @@ fn put_aside(name: &[u8], bytes: &[u8]) -> bool {
     put(made, name, bytes) && sync_folder(name)
 }
 
-// Whether the journal could be cut to so many bytes; else what failed is said.
+// Whether the journal could be cut to so many bytes, and that is on its device; else what failed is
+// said.
 fn cut_back(fd: i32, name: &[u8], bytes: u64) -> bool
     requires { ⌜ bytes ≤ 72057594037927936 ⌝ }
 {
-    let good = libc::ftruncate(fd, bytes as i64) == 0;
+    let good = libc::ftruncate(fd, bytes as i64) == 0 && libc::fsync(fd) == 0;
     if !good {
         os::fail(name);
     }

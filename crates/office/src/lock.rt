@@ -160,9 +160,12 @@ pub(crate) fn give_back(lock: &[u8]) {
     if is_gone {
         io::write_all(
             STDERR_FILENO,
-            b"the lock was lifted by somebody else while the call was made: ",
+            b"the lock was lifted by somebody else meanwhile: ",
         );
-        io::write_all(STDERR_FILENO, b"see that the journal has its line once\n");
+        io::write_all(
+            STDERR_FILENO,
+            b"see that the journal's last lines are as they were answered\n",
+        );
     } else {
         io::write_all(STDERR_FILENO, b"the lock stands: delete it by hand\n");
     }

@@ -1,6 +1,6 @@
 -- The insurer's page: each statement of specs/AuditPage.antt, from where the work is done. Assumes
 -- nothing.
-use Rattle.results.specs.AuditPage.{PageShowing, PageFields, PageSetValue, PageOpenedValue, PageDrafts, PageNoDraft, PageShorter, PageRoom, PageCalls, PageSameSheet, PageSheet, PageHad}
+use Rattle.results.specs.AuditPage.{PageShowing, PageFields, PageSetValue, PageOpenedValue, PageDrafts, PageNoDraft, PageShorter, PageRoom, PageCalls, PageSameSheet, PageSheet, PageWhole, PageHad}
 use Rattle.results.proofs.pages.Fields as Fields
 use Rattle.results.proofs.pages.Values as Values
 use Rattle.results.proofs.pages.Drafts as Drafts
@@ -10,6 +10,7 @@ use Rattle.results.proofs.pages.Room as Room
 use Rattle.results.proofs.pages.Calls as Calls
 use Rattle.results.proofs.pages.SameSheet as SameSheet
 use Rattle.results.proofs.pages.Sheets as Sheets
+use Rattle.results.proofs.pages.Whole as Whole
 use Rattle.results.proofs.pages.Had as Had
 
 pub page-showing : PageShowing
@@ -44,6 +45,9 @@ page-same-sheet = SameSheet.page-same-sheet
 
 pub page-sheet : PageSheet
 page-sheet a line s = (Sheets.sheet-page a line s, Sheets.sheet-figures a line s)
+
+pub page-whole : PageWhole
+page-whole = Whole.page-whole
 
 pub page-had : PageHad
 page-had = Had.page-had

@@ -11,4 +11,5 @@ pub mod Shorter
 pub mod Room
 pub mod Calls
 pub mod SameSheet
+pub mod Whole
 pub mod Had

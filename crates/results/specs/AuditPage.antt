@@ -1,9 +1,9 @@
 -- The insurer's page: is what `desk audit` says of a journal true of that journal? The page's lines
--- are those of crates/auditing/specs/Accounts.antt, made from what `gather` keeps of a text
--- (Gathered.antt); here they are said of the run of the journal's calls (Provenance.antt there, and
--- Journal.antt and InForce.antt of crates/worksheet/specs). Assumes nothing.
+-- are those of crates/auditing/specs/Accounts.antt, in the order of Page.antt there, made from what
+-- `gather` keeps of a text (Gathered.antt); here they are said of the run of the journal's calls
+-- (Provenance.antt there, and Journal.antt and InForce.antt of crates/worksheet/specs). Assumes nothing.
 use Prim.Native.Nat.{ℕ, suc, _≤_, min}
-use mathlib.Core.Bool.{true, false}
+use mathlib.Core.Bool.{true, false, cond}
 use mathlib.Core.List.{List, [], _∷_, _++_}
 use mathlib.Core.Logic.{_↔_}
 use mathlib.Core.Path.{_≡_}
@@ -26,7 +26,7 @@ use Rattle.wording.specs.Token.{ascii}
 use Rattle.wording.specs.Written.{inputsWritten}
 use Rattle.listing.specs.declared.account.Came.{Came}
 use Rattle.listing.specs.declared.account.Came.the-variants.{Opened, Set}
-use Rattle.listing.specs.Account.{cameLine}
+use Rattle.listing.specs.Account.{cameLine, titleText, draftsHead, noneLine, shorterHead, sheetHead}
 use Rattle.listing.specs.Columns.{columnsText}
 use Rattle.listing.specs.Fields.{inTurn, fieldText}
 use Rattle.listing.specs.Spoken.{spokenText}
@@ -40,6 +40,7 @@ use Rattle.auditing.specs.Provenance.{StandingChange, lastStanding, fateOf, ref
 use Rattle.auditing.specs.Marks.{keptPlaces}
 use Rattle.auditing.specs.Gathered.{Numbered, sits, toldBy, callsTold, numbersTold, sheetOpened, runTold, Gathers}
 use Rattle.auditing.specs.Accounts.{numberAt, showingAt, fieldPart, fieldAccount, balkedBy, fateLine, draftAccount, lineAccount, sheetAccount}
+use Rattle.auditing.specs.Page.{draftsText, noDrafts, pageSize, pagePart}
 use Rattle.results.specs.Insurer.{acceptedShowing}
 use Rattle.results.specs.ReadBack.{callLines, numberedFrom}
 use Rattle.results.specs.Heard.{heardBy}
@@ -124,8 +125,8 @@ PageFields =
     ≡ cameLine (inForce (openedSheet a) (entriesIn a)) k
     (cameFrom a (lastStanding (fieldPart k) (openedSheet a) (entriesIn a)))
 
--- Where a change is named for a field, the field's text is what that change makes of it on any inputs:
--- the value is the one that the line named carries
+-- Where a change is named for a field, the field's text is what that change makes of it on any inputs.
+-- That it is the change of the line named is `NamedStands` (Audit.antt)
 abbrev pub PageSetValue : Type 0
 PageSetValue =
     (a : Audited) (k : ℕ) → 1 ≤ k → k ≤ 15 → (x : StandingChange) (others : List StandingChange) →
@@ -211,11 +212,31 @@ PageSheet =
     (sheetAccount (a .source) (a .kept .sheet) ≡ columnsText i (s .points) (s .figures))
     × FiguresOf (a .source) i (s .points) (s .figures)
 
+-- ---- the whole
+
+-- The parts of the page (`pagePart`), one after the other up to the last, are the title, the lines of
+-- the 15 fields, the drafts' heading and their lines or `none`, the shorter journal's heading and its
+-- text, and the sheet's heading and the sheet
+abbrev pub PageWhole : Type 0
+PageWhole =
+    (a : Audited) (places : List ℕ) (size line : ℕ) → length (a .calls) ≤ length places →
+    size ≡ min (length (placesKept a)) (suc (length places)) →
+    (let n = min size (length places) in take n places ≡ take n (placesKept a)) →
+    let g = a .kept in
+    inTurn (pagePart (a .source) (a .text) g (a .marks) (a .numbers) (a .starts) places size line)
+    (pageSize (g .count) size)
+    ≡ titleText line
+    ++ (inTurn (λ (k : ℕ). fieldAccount (g .sheet .inputs) (g .opened) (a .marks) (a .numbers) (g .count) (suc k)) 15
+    ++ (draftsHead
+    ++ (draftsText (a .marks) (a .numbers) (g .count) (g .count)
+    ++ (cond (noDrafts (a .marks) (a .numbers) (g .count)) noneLine []
+    ++ (shorterHead ++ (shorterText a ++ (sheetHead ++ sheetAccount (a .source) (g .sheet))))))))
+
 -- ---- and there are such pages
 
 -- Over every record and month file that pass their checks, and for every length of at least 1, there is
--- an audited journal of this text, in buffers of that length, whose last call shows the worksheet,
--- stands on line 2, and was not refused
+-- an audited journal of two lines, an open and `show`, in buffers of that length, whose last call shows
+-- the worksheet, stands on line 2, and was not refused
 abbrev pub PageHad : Type 0
 PageHad =
     (f2 file : List ℕ) → filesCheck f2 file ≡ Accepted → (room : ℕ) → 1 ≤ room →

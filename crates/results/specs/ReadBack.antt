@@ -26,7 +26,7 @@ use Rattle.auditing.specs.Gathered.{textLines, Numbered, sits, toldBy}
 
 -- ---- words of this page
 
--- a decimal that can be written: at most 18 digits, and at most 18 of them after the point
+-- a decimal that can be written: at most 18 digits, zeros in front not counted, and at most 18 after the point
 abbrev pub Few : Decimal → Type 0
 Few d = isWritten d ≡ true
 

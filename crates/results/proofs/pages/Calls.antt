@@ -13,7 +13,7 @@ use Rattle.results.proofs.pages.Room.{page-room}
 
 -- ---- texts in turn
 
-turn-same : (f g : ℕ → List ℕ) (n : ℕ) → ((j : ℕ) → j < n → f j ≡ g j) → inTurn f n ≡ inTurn g n
+pub turn-same : (f g : ℕ → List ℕ) (n : ℕ) → ((j : ℕ) → j < n → f j ≡ g j) → inTurn f n ≡ inTurn g n
 unfolding inTurn
 turn-same f g zero h = refl
 turn-same f g (suc n) h = ap₂ _++_ (turn-same f g n (λ j q. h j (omega arith))) (h n (omega arith))
