@@ -80,6 +80,8 @@ fn compare_run(
     let heard = hear(&lines, lent);
     // What is said of a cut line after a line that ended the journal is left open.
     let errors = match cut {
+        // That there is no line is said.
+        [] if journal.is_empty() => Errors::Some,
         [] => Errors::None,
         _ if heard.has_ended() => Errors::Any,
         _ => Errors::Some,

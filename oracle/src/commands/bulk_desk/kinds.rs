@@ -11,7 +11,10 @@ pub const OF_AUDITS: [(&str, &[&str]); 8] = [
     ("none", &["none"]),
     ("cancelled", &["line", ": cancelled at line"]),
     ("taken back", &["committed at line", "taken back at line"]),
-    ("not committed by then", &["line", ": not committed by then"]),
+    (
+        "not committed by then",
+        &["line", ": not committed by then"],
+    ),
     (
         "refused, cancelled",
         &["refused at line", ", cancelled at line"],

@@ -33,7 +33,8 @@ fn value(field: usize, word: u32) -> String {
 
 fn path(shown: &Shown) -> Vec<String> {
     let figures = PATH.iter().zip(shown.words);
-    let line = |(named, word): (&Named, u32)| figures_row(unsaid::PATH_NAME, *named, &[decimals(word)]);
+    let line =
+        |(named, word): (&Named, u32)| figures_row(unsaid::PATH_NAME, *named, &[decimals(word)]);
     figures.map(line).collect()
 }
 
@@ -41,7 +42,11 @@ fn path(shown: &Shown) -> Vec<String> {
 fn points(shown: &Shown) -> Vec<String> {
     let points = 1..=shown.points as usize;
     let numbers: Vec<String> = points.clone().map(|number| number.to_string()).collect();
-    let mut lines = vec![figures_row(unsaid::POINT_NAME, (unsaid::POINTS, ""), &numbers)];
+    let mut lines = vec![figures_row(
+        unsaid::POINT_NAME,
+        (unsaid::POINTS, ""),
+        &numbers,
+    )];
     for (k, named) in POINT.iter().enumerate() {
         let figure = |point: usize| decimals(shown.words[PATH.len() + ROW * (point - 1) + k]);
         let figures: Vec<String> = points.clone().map(figure).collect();
@@ -58,7 +63,10 @@ fn figures_row(width: usize, named: Named, figures: &[String]) -> String {
 /// A name, values each at the end of so many characters, and the unit if there is
 /// one.
 fn row(width: usize, (name, unit): Named, values: &[String], number: usize) -> String {
-    let values: String = values.iter().map(|value| format!("{value:>number$}")).collect();
+    let values: String = values
+        .iter()
+        .map(|value| format!("{value:>number$}"))
+        .collect();
     let blanks = if unit.is_empty() { "" } else { "  " };
     format!("{name:<width$}{values}{blanks}{unit}")
 }
