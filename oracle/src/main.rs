@@ -37,6 +37,8 @@ const USAGE: &str = "usage:
   oracle year-parts DIR FILE                    write fourteen parts and the year file of them
   oracle year-damaged FILE                      write a year file with damaged parts
   oracle year-few FILE                          write a small year file, two months of which are good
+  oracle year-pair RECORD MONTH                 write January's F2 record and month file of that one
+  oracle year-cut FILE                          write that one as far as the middle of January
   oracle year-check FILE                        say what can be shown from a year file, by the model
   oracle replay-input FILE                      write an input of the program replay
   oracle files DIR                              write the vectors of the file functions
@@ -104,6 +106,8 @@ fn command(words: &[&str]) -> Result<(), String> {
         ["year-parts", folder, file] => year::parts(folder, file),
         ["year-damaged", file] => year::damaged(file),
         ["year-few", file] => year::few(file),
+        ["year-pair", record, month] => year::pair(record, month),
+        ["year-cut", file] => year::cut(file),
         ["year-check", file] => year::check(file),
         ["replay-input", file] => replay_input::run(file),
         ["journals", file] => journals::run(file),

@@ -136,7 +136,7 @@ module _ (source : Source) (text : List ℕ) where
     -- of every call its mark and the number of its line
     pub marked : HoldsFirst (r .count) (marksOf (runTold source o cs .entries)) marks
     pub numbered : HoldsFirst (r .count) (numbersTold cs) numbers
-    -- and where its line begins; so of the open
+    -- and a byte from which on the text reads as it; so of the open
     pub start : ReadsAt text (r .start) (line.Open o)
     pub starts-at :
         (i : ℕ) → i < r .count → i < length starts → ReadsAt text (getD starts i 0) (line.Call (callTold cs i))

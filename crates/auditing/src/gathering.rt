@@ -303,7 +303,8 @@ fn with_line(
 
 // The first k lines of a journal's text, fewer where there are fewer: a newline ends a line. Each
 // call is made over what is lent, as `make` has it, and leaves its mark, the number of its line and
-// the byte where that begins in the three buffers, as far as there is room; all are counted.
+// the byte where that begins, from which on the text reads as it, in the three buffers, as far as
+// there is room; all are counted.
 pub fn gather(
     text: &[u8],
     k: usize,

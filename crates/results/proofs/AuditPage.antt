@@ -1,9 +1,10 @@
 -- The insurer's page: each statement of specs/AuditPage.antt, from where the work is done. Assumes
 -- nothing.
-use Rattle.results.specs.AuditPage.{PageShowing, PageFields, PageSetValue, PageOpenedValue, PageDrafts, PageNoDraft, PageShorter, PageRoom, PageCalls, PageSameSheet, PageSheet, PageWhole, PageHad}
+use Rattle.results.specs.AuditPage.{PageShowing, PageRefused, PageFields, PageSetValue, PageOpenedValue, PageDrafts, PageNoDraft, PageNone, PageShorter, PageRoom, PageCalls, PageSameSheet, PageSheet, PageWhole, PageHad, PageRefusedHad}
 use Rattle.results.proofs.pages.Fields as Fields
 use Rattle.results.proofs.pages.Values as Values
 use Rattle.results.proofs.pages.Drafts as Drafts
+use Rattle.results.proofs.pages.None as None
 use Rattle.results.proofs.pages.Showings as Showings
 use Rattle.results.proofs.pages.Shorter as Shorter
 use Rattle.results.proofs.pages.Room as Room
@@ -15,6 +16,9 @@ use Rattle.results.proofs.pages.Had as Had
 
 pub page-showing : PageShowing
 page-showing = Showings.page-showing
+
+pub page-refused : PageRefused
+page-refused = Showings.page-refused
 
 pub page-fields : PageFields
 page-fields = Fields.page-fields
@@ -30,6 +34,9 @@ page-drafts a n front later b split begun = Drafts.page-drafts a front later b s
 
 pub page-no-draft : PageNoDraft
 page-no-draft a front later x split none = Drafts.page-no-draft a front later x split none
+
+pub page-none : PageNone
+page-none = None.page-none
 
 pub page-shorter : PageShorter
 page-shorter = Shorter.page-shorter
@@ -50,4 +57,7 @@ pub page-whole : PageWhole
 page-whole = Whole.page-whole
 
 pub page-had : PageHad
-page-had = Had.page-had
+page-had f2 file good room some = Had.page-had f2 file room some good
+
+pub page-refused-had : PageRefusedHad
+page-refused-had f2 file why bad room some = Had.page-refused-had f2 file room some why bad

@@ -4,6 +4,7 @@ pub mod Held
 pub mod Fields
 pub mod Values
 pub mod Drafts
+pub mod None
 pub mod Last
 pub mod Showings
 pub mod Sheets

@@ -1,7 +1,10 @@
 -- The insurer's page: is what `desk audit` says of a journal true of that journal? The page's lines
 -- are those of crates/auditing/specs/Accounts.antt, in the order of Page.antt there, made from what
 -- `gather` keeps of a text (Gathered.antt); here they are said of the run of the journal's calls
--- (Provenance.antt there, and Journal.antt and InForce.antt of crates/worksheet/specs). Assumes nothing.
+-- (Provenance.antt there, and Journal.antt and InForce.antt of crates/worksheet/specs). By `gather`'s
+-- contract every text whose first lines told an open and calls is an `Audited` one where the buffers have
+-- room. That `desk` reads the files, and prints what is spoken of here, is run and not proved
+-- (docs/STORY.md). Assumes nothing.
 use Prim.Native.Nat.{ℕ, suc, _≤_, min}
 use mathlib.Core.Bool.{true, false, cond}
 use mathlib.Core.List.{List, [], _∷_, _++_}
@@ -9,14 +12,15 @@ use mathlib.Core.Logic.{_↔_}
 use mathlib.Core.Path.{_≡_}
 use lib.ListN.{length, take}
 use lib.Ieee.{Float}
-use Rattle.base.specs.declared.refusal.Verdict.the-variants.{Accepted}
+use Rattle.base.specs.declared.refusal.Refusal.{Refusal}
+use Rattle.base.specs.declared.refusal.Verdict.the-variants.{Accepted, Refused as NotPassed}
 use Rattle.base.specs.Files.{filesCheck}
-use Rattle.maps.specs.declared.figures.Shown.the-variants.{Points}
+use Rattle.maps.specs.declared.figures.Shown.the-variants.{Points, Refused as NotShown}
 use Rattle.maps.specs.declared.inputs.Inputs.{Inputs}
 use Rattle.worksheet.specs.declared.desks.Worksheet.{Worksheet}
 use Rattle.worksheet.specs.Inputs.{edited}
 use Rattle.worksheet.specs.Showing.{Source, pair}
-use Rattle.worksheet.specs.Journal.{shown, Entry, begins, shorter, callsOf}
+use Rattle.worksheet.specs.Journal.{show, shown, Entry, begins, shorter, callsOf}
 use Rattle.worksheet.specs.InForce.{inForce, FiguresOf}
 use Rattle.wording.specs.declared.line.Line.the-variants.{Open}
 use Rattle.wording.specs.declared.written.WrittenCall.{WrittenCall}
@@ -33,12 +37,13 @@ use Rattle.listing.specs.Spoken.{spokenText}
 use Rattle.listing.specs.Turn.{blank}
 use Rattle.listing.specs.Written.{lineText}
 use Rattle.sitting.specs.Sitting.{firstSitting}
-use Rattle.auditing.specs.declared.accounts.Showing.the-variants.{Shown}
+use Rattle.auditing.specs.declared.accounts.Showing.the-variants.{Shown, Refused}
 use Rattle.auditing.specs.declared.gathering.Gathered.{Gathered}
+use Rattle.auditing.specs.declared.marks.Fate.the-variants.{Stands}
 use Rattle.auditing.specs.declared.marks.Refused.the-variants.{Never}
 use Rattle.auditing.specs.Provenance.{StandingChange, lastStanding, fateOf, refusedOf}
 use Rattle.auditing.specs.Marks.{keptPlaces}
-use Rattle.auditing.specs.Gathered.{Numbered, sits, toldBy, callsTold, numbersTold, sheetOpened, runTold, Gathers}
+use Rattle.auditing.specs.Gathered.{Numbered, sits, toldBy, callTold, callsTold, numbersTold, sheetOpened, runTold, Gathers}
 use Rattle.auditing.specs.Accounts.{numberAt, showingAt, fieldPart, fieldAccount, balkedBy, fateLine, draftAccount, lineAccount, sheetAccount}
 use Rattle.auditing.specs.Page.{draftsText, noDrafts, pageSize, pagePart}
 use Rattle.results.specs.Insurer.{acceptedShowing}
@@ -91,6 +96,14 @@ linesAt text starts (p ∷ ps) = lineAccount text (numberAt starts p) ++ linesAt
 abbrev pub placesKept : Audited → List ℕ
 placesKept a = keptPlaces (a .marks) (a .kept .count)
 
+-- the calls at some places, as they were written
+unfoldable pub callsAt : List Numbered → List ℕ → List WrittenCall
+callsAt cs [] = []
+callsAt cs (p ∷ ps) = callTold cs p ∷ callsAt cs ps
+
+abbrev pub callsKept : Audited → List WrittenCall
+callsKept a = callsAt (a .calls) (placesKept a)
+
 abbrev pub shorterText : Audited → List ℕ
 shorterText a = lineAccount (a .text) (a .kept .start) ++ linesAt (a .text) (a .starts) (placesKept a)
 
@@ -104,14 +117,32 @@ pub record ShownLast (a : Audited) (line : ℕ) : Type 0 where
       entriesIn a
       ≡ runTold (a .source) (a .opening) before .entries ++ (acceptedShowing blank points figures ∷ [])
 
+-- the last call shows the worksheet, stands on this line, and was refused
+pub record RefusedShowing (a : Audited) (line : ℕ) : Type 0 where
+  pub before : List Numbered
+  pub split : a .calls ≡ before ++ (record { call = Show 0; line = line } ∷ [])
+  pub why : Refusal
+  pub buffer : List Float
+  pub answered :
+      entriesIn a
+      ≡ runTold (a .source) (a .opening) before .entries
+      ++ (record { call = show 0 blank; answer = shown (NotShown why) buffer } ∷ [])
+
 -- ---- of which lines there is a page
 
--- There is a page exactly where the last call up to the line shows the worksheet, stands on that
--- line, and was not refused
+-- `showing_at` answers `Shown`, on which `desk` prints the page, exactly where the last of the calls that
+-- were gathered shows the worksheet, stands on the line asked for, and was not refused
 abbrev pub PageShowing : Type 0
 PageShowing =
     (a : Audited) (line : ℕ) →
     (showingAt (a .marks) (a .numbers) (a .kept .count) line ≡ Shown) ↔ ShownLast a line
+
+-- It answers `Refused`, on which `desk` prints the refusal instead, exactly where the last of them shows the
+-- worksheet, stands on the line asked for, and was refused; where neither is so, it answers `Other`
+abbrev pub PageRefused : Type 0
+PageRefused =
+    (a : Audited) (line : ℕ) →
+    (showingAt (a .marks) (a .numbers) (a .kept .count) line ≡ Refused) ↔ RefusedShowing a line
 
 -- ---- where the fields come from
 
@@ -161,19 +192,27 @@ PageNoDraft =
     ((n : ℕ) → begins n x ≡ false) →
     draftAccount (a .marks) (a .numbers) (a .kept .count) (length front) ≡ []
 
+-- So `none` stands in their place exactly where every draft that was begun stands
+abbrev pub PageNone : Type 0
+PageNone =
+    (a : Audited) →
+    (noDrafts (a .marks) (a .numbers) (a .kept .count) ≡ true)
+    ↔ ((n : ℕ) (front later : List Entry) (b : Entry) → entriesIn a ≡ front ++ (b ∷ later) → begins n b ≡ true →
+    (s : ℕ) × (fateOf n (suc (length front)) later ≡ Stands s))
+
 -- ---- the shorter journal
 
--- the text is the open and these calls, each written anew on a line of its own, and nothing else; it
+-- the text is the open and the calls kept, each written anew on a line of its own, and nothing else; it
 -- tells the open on line 1 and these calls from line 2 on, and they are the calls of document 01's
 -- shorter list
 pub record ShorterTold (a : Audited) : Type 0 where
-  pub calls : List WrittenCall
-  pub written : shorterText a ≡ lineText (Open (a .opening)) ++ callLines calls
-  pub told : toldBy (shorterText a) (suc (length calls)) ≡ sits (a .opening) 1 (numberedFrom 2 calls)
-  pub shorter-list : callsTold (numberedFrom 2 calls) ≡ callsOf (shorter [] (entriesIn a))
+  pub written : shorterText a ≡ lineText (Open (a .opening)) ++ callLines (callsKept a)
+  pub told : toldBy (shorterText a) (suc (length (callsKept a))) ≡ sits (a .opening) 1 (numberedFrom 2 (callsKept a))
+  pub shorter-list : callsTold (numberedFrom 2 (callsKept a)) ≡ callsOf (shorter [] (entriesIn a))
 
--- The text of the shorter journal is the same open and exactly the calls of the shorter list, each
--- written anew on a line of its own, and it reads as these
+-- The text of the shorter journal is the same open and exactly the calls of the shorter list, those of the
+-- journal at their places with the digits that they have there, each written anew on a line of its own, and
+-- it reads as these
 abbrev pub PageShorter : Type 0
 PageShorter = (a : Audited) → ShorterTold a
 
@@ -195,8 +234,8 @@ PageCalls =
 -- showing: of the same inputs, with the same number of points and the same figures
 abbrev pub PageSameSheet : Type 0
 PageSameSheet =
-    (a : Audited) (line : ℕ) (s : ShownLast a line) (t : ShorterTold a) →
-    let n = suc (length (t .calls)) in
+    (a : Audited) (line : ℕ) (s : ShownLast a line) →
+    let n = suc (length (callsKept a)) in
     (before : List ℕ)
     × (heardBy (a .source) firstSitting (shorterText a) n .text
     ≡ before ++ spokenText n (inForce (openedSheet a) (entriesIn a)) (shown (Points (s .points)) (s .figures)))
@@ -216,7 +255,7 @@ PageSheet =
 
 -- The parts of the page (`pagePart`), one after the other up to the last, are the title, the lines of
 -- the 15 fields, the drafts' heading and their lines or `none`, the shorter journal's heading and its
--- text, and the sheet's heading and the sheet
+-- text, and the sheet's heading and the sheet; the title has the number that is handed to it
 abbrev pub PageWhole : Type 0
 PageWhole =
     (a : Audited) (places : List ℕ) (size line : ℕ) → length (a .calls) ≤ length places →
@@ -234,14 +273,26 @@ PageWhole =
 
 -- ---- and there are such pages
 
+-- an audited journal of two lines, an open and `show`, over these files, in buffers of this length
+pub record TwoLines (files : Source) (room : ℕ) : Type 0 where
+  pub audited : Audited
+  pub over : audited .source ≡ files
+  pub its-text : audited .text ≡ ascii "open month 6 sunspot 80 hour 12 from 62.47 6.15 to 64.13 -21.9\nshow\n"
+  pub marks-are : length (audited .marks) ≡ room
+  pub numbers-are : length (audited .numbers) ≡ room
+  pub starts-are : length (audited .starts) ≡ room
+
 -- Over every record and month file that pass their checks, and for every length of at least 1, there is
 -- an audited journal of two lines, an open and `show`, in buffers of that length, whose last call shows
 -- the worksheet, stands on line 2, and was not refused
 abbrev pub PageHad : Type 0
 PageHad =
     (f2 file : List ℕ) → filesCheck f2 file ≡ Accepted → (room : ℕ) → 1 ≤ room →
-    (a : Audited)
-    × ((a .source ≡ pair f2 file)
-    × ((a .text ≡ ascii "open month 6 sunspot 80 hour 12 from 62.47 6.15 to 64.13 -21.9\nshow\n")
-    × (((length (a .marks) ≡ room) × ((length (a .numbers) ≡ room) × (length (a .starts) ≡ room)))
-    × ShownLast a 2)))
+    (two : TwoLines (pair f2 file) room) × ShownLast (two .audited) 2
+
+-- Over every record and month file that do not pass them there is such a journal too, whose last call
+-- was refused by what the files are refused by
+abbrev pub PageRefusedHad : Type 0
+PageRefusedHad =
+    (f2 file : List ℕ) (why : Refusal) → filesCheck f2 file ≡ NotPassed why → (room : ℕ) → 1 ≤ room →
+    (two : TwoLines (pair f2 file) room) × ((showing : RefusedShowing (two .audited) 2) × (showing .why ≡ why))

@@ -1,6 +1,7 @@
 -- A sitter's question: is what was said to me of a journal's lines what the run of its calls answers?
 -- The hearing of a line is that of crates/sitting/specs/Sitting.antt, and what the lines told, with
--- the run, that of crates/auditing/specs/Gathered.antt. Assumes nothing.
+-- the run, that of crates/auditing/specs/Gathered.antt. `desk` hears lines of fewer than 65,536 bytes
+-- only: a longer one ends its journal, which no definition here says. Assumes nothing.
 use Prim.Native.Nat.{ℕ, suc, _<_}
 use mathlib.Core.List.{List, [], _∷_, _++_}
 use mathlib.Core.Path.{_≡_}

@@ -1,19 +1,18 @@
 -- The words of a line, and what each is: a word that calls are written with, a number, or neither.
 -- Assumes nothing.
-use Prim.Native.Nat.{ℕ, suc, _+_}
+use Prim.Native.Nat.{ℕ, suc}
 use Prim.Native.Char.{code}
 use Prim.Native.String.{String, [] as []ˢ, _∷_ as _∷ˢ_}
 use mathlib.Core.Bool.{Bool, true, false, cond, _&&_, _||_}
 use mathlib.Core.List.{List, [], _∷_, _++_}
 use lib.Dec.{eqb}
-use lib.ListN.{getD, set, take, replicate}
+use lib.ListN.{getD, take, replicate}
 use Rattle.wording.specs.declared.number.Number.{Number as Written}
 use Rattle.wording.specs.declared.number.Number.the-variants.{Is, Not}
 use Rattle.wording.specs.declared.token.Token.{Token}
 use Rattle.wording.specs.declared.token.Token.the-variants.{End, Word, Number, Other}
 use Rattle.wording.specs.declared.token.Slot.{Slot}
 use Rattle.wording.specs.declared.token.Tokens.{Tokens}
-use Rattle.wording.specs.declared.token.Gathered.{Gathered}
 use Rattle.wording.specs.Number.{numberIn}
 
 -- ---- the words that calls are written with, by number
@@ -106,9 +105,3 @@ tokenAt t k = getD (t .slots) k (record { token = End }) .token
 unfoldable pub beforeBlank : List ℕ → List ℕ
 beforeBlank [] = []
 beforeBlank (c ∷ l) = cond (eqb c 32) [] (c ∷ beforeBlank l)
-
--- words put into slots, each behind the last; those for which there is no slot are only counted
-unfoldable pub wordsPut : Gathered → List (List ℕ) → Gathered
-wordsPut s [] = s
-wordsPut s (w ∷ l) =
-    wordsPut (record { slots = set (s .slots) (s .count) (record { token = tokenOf w }); count = s .count + 1 }) l

@@ -4,11 +4,11 @@ use crate::number::Decimal;
 use crate::number::Number;
 use crate::number::number_in;
 ghost use mathlib.Core.Path.{_≡_};
-ghost use mathlib.Core.List.{[]};
-ghost use Prim.Native.Nat.{_-_, _≤_, _<_};
-ghost use lib.ListN.{length, getD, set, take, drop};
+ghost use mathlib.Core.List.{[], _++_};
+ghost use Prim.Native.Nat.{_+_, _-_, _≤_, _<_};
+ghost use lib.ListN.{length, getD, take, drop};
 ghost use Rattle.wording.specs.declared.token.Token.the-variants.{End};
-ghost use Rattle.wording.specs.Token.{names, ascii, same, isBlank, uncommented, closed, wordsFrom, nameFrom, numberOr, tokenOf, tokensOf, tokenAt, firstTokens, beforeBlank, wordsPut};
+ghost use Rattle.wording.specs.Token.{names, ascii, same, isBlank, uncommented, closed, wordsFrom, nameFrom, numberOr, tokenOf, tokensOf, tokenAt, firstTokens, beforeBlank};
 
 // The words that calls are written with, by number.
 pub const OPEN: u32 = 0;
@@ -132,6 +132,10 @@ fn is_name(name: &[u8], word: &[u8]) -> bool
 fn name_in(word: &[u8]) -> Token
     ensures { λ r. ⌜ r ≡ nameFrom 0 names (now (word .entry)) ⌝ }
 {
+    // Each begins with a small letter: no number is sought among them.
+    if letter(word, 0) < b'a' {
+        return Token::Other;
+    }
     let mut k: u32 = 0;
     while k < 19 {
         let name = name(k as usize);
@@ -192,59 +196,46 @@ fn comment_at(line: &[u8]) -> usize
     i
 }
 
-// The words so far, and how many there were: more than there are slots, perhaps.
-struct Gathered {
-    slots: [Slot; WORDS],
-    count: usize,
-}
-
-// With the word from `from` up to `to`, where there is one.
-fn with_word(w: Gathered, line: &[u8], from: usize, to: usize) -> Gathered
-    requires { ⌜ (w .count ≤ from) × (from ≤ to) × (to ≤ length (now line)) ⌝ }
-    ensures { λ r. ⌜ r ≡ wordsPut w (closed (take (to - from) (drop from (now (line .entry))))) ⌝ }
+// Where the word that begins at a place ends: at a blank, or where the line does.
+fn word_end(line: &[u8], from: usize) -> usize
+    requires { ⌜ from ≤ length (now line) ⌝ }
+    ensures within { λ r. ⌜ (from ≤ r) × (r ≤ length (now (line .entry))) ⌝ }
+    ensures words { λ r. ⌜ (
+        let l = now (line .entry) in
+        wordsFrom [] (drop from l)
+        ≡ closed (take (r - from) (drop from l)) ++ wordsFrom [] (drop (r + 1) l)
+        ) ⌝ }
 {
-    if from == to {
-        return w;
-    }
-    let n = w.count;
-    let before = w.slots;
-    let slots = put(before, n, token_in(&line[from..to]));
-    Gathered {
-        slots,
-        count: n + 1,
-    }
-}
-
-// Stored, if there is a slot of that number.
-fn put(slots: [Slot; WORDS], n: usize, token: Token) -> [Slot; WORDS]
-    ensures { λ r. ⌜ r ≡ set slots n (record { token = token }) ⌝ }
-{
-    let mut stored = slots;
-    if n < WORDS {
-        stored[n] = Slot { token };
-    }
-    stored
-}
-
-// The words of a line that has no comment.
-fn words_in(line: &[u8]) -> Tokens
-    ensures { λ r. ⌜ r ≡ firstTokens (wordsFrom [] (now (line .entry))) ⌝ }
-{
-    let mut words = Gathered {
-        slots: [Slot { token: Token::End }; WORDS],
-        count: 0,
-    };
-    let mut start: usize = 0;
-    let mut i: usize = 0;
+    let mut i = from;
     while i < line.len() {
         if is_blank(line[i]) {
-            words = with_word(words, line, start, i);
-            start = i + 1;
+            return i;
         }
         i += 1;
     }
-    let all = with_word(words, line, start, i);
-    let slots = all.slots;
+    i
+}
+
+// The words of a line that has no comment; those that no slot is left for are not read.
+fn words_in(line: &[u8]) -> Tokens
+    ensures { λ r. ⌜ r ≡ firstTokens (wordsFrom [] (now (line .entry))) ⌝ }
+{
+    let mut slots = [Slot { token: Token::End }; WORDS];
+    let mut n: usize = 0;
+    let mut at: usize = 0;
+    while at < line.len() {
+        let end = word_end(line, at);
+        if at < end {
+            if n == WORDS {
+                return Tokens { slots };
+            }
+            slots[n] = Slot {
+                token: token_in(&line[at..end]),
+            };
+            n += 1;
+        }
+        at = end + 1;
+    }
     Tokens { slots }
 }
 

@@ -177,6 +177,56 @@ mod tests {
         assert_eq!(refused.collect::<HashSet<_>>(), wanted.collect());
     }
 
+    /// What the gate gives to `desk run` over a pair of files and over a year file that
+    /// was cut, with these answers.
+    #[test]
+    fn the_gate_asks_over_other_files() {
+        let ([record, month], cut) = (few::pair(), few::cut());
+        assert!(gate("desk_pair/data/record.bin") == record);
+        assert!(gate("desk_pair/data/month.bin") == month);
+        assert!(gate("desk_cut/data/year.bin") == cut);
+        let runs = [
+            ("desk_pair", "night", Lent::pair(&record, &month)),
+            ("desk_cut", "watch", Lent::year(&cut)),
+        ];
+        for (program, name, lent) in &runs {
+            let text = run_text(&gate(&format!("{program}/data/{name}.journal")), lent);
+            assert!(
+                gate(&format!("{program}/stdout")) == text.into_bytes(),
+                "{program}"
+            );
+        }
+    }
+
+    /// Over a cut year file each showing of the worksheet is refused by 19.
+    #[test]
+    fn nothing_is_shown_from_half_a_year() {
+        let cut = few::cut();
+        let heard = hear(
+            &lines(&gate("desk_cut/data/watch.journal")).0,
+            &Lent::year(&cut),
+        );
+        assert!(heard.no_call.is_none());
+        let answers: Vec<_> = heard
+            .heard
+            .iter()
+            .map(|heard| heard.answer.clone())
+            .collect();
+        assert!(!answers
+            .iter()
+            .any(|answer| matches!(answer, Answer::Points(_))));
+        let nineteen = |answer: &&Answer| {
+            matches!(
+                answer,
+                Answer::Refused(Refusal {
+                    number: 19,
+                    place: 14
+                })
+            )
+        };
+        assert_eq!(answers.iter().filter(nineteen).count(), 5);
+    }
+
     /// A draft is begun, all that is given to it is refused, and it goes.
     #[test]
     fn what_no_line_says_is_refused() {

@@ -1,5 +1,6 @@
 //! `year FILE SEED`, `year-parts DIR FILE`, `year-damaged FILE` and `year-few FILE`:
 //! good year files, one of which some parts are damaged, and a small one.
+//! `year-pair RECORD MONTH` and `year-cut FILE`: a pair of the small one, and half of it.
 //! `year-check FILE`: what the program `year check` prints of one.
 
 mod damaged;
@@ -52,6 +53,16 @@ pub fn damaged(file: &str) -> Result<(), String> {
 
 pub fn few(file: &str) -> Result<(), String> {
     write_file(file, &few::year())
+}
+
+pub fn pair(record: &str, month: &str) -> Result<(), String> {
+    let [first, second] = few::pair();
+    write_file(record, &first)?;
+    write_file(month, &second)
+}
+
+pub fn cut(file: &str) -> Result<(), String> {
+    write_file(file, &few::cut())
 }
 
 pub fn check(file: &str) -> Result<(), String> {

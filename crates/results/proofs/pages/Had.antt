@@ -1,5 +1,5 @@
--- An audited journal of two lines, an open and a showing: its lines are read by computation, and the
--- showing is accepted since its inputs are in range. Assumes nothing.
+-- An audited journal of two lines, an open and a showing: its lines are read by computation, and since
+-- its inputs are in range the showing is answered as the files are found to be. Assumes nothing.
 use Prim.Native.Nat.{ℕ, _≤_}
 use mathlib.Core.List.{List, [], _∷_}
 use mathlib.Core.Path.{_≡_, refl, sym, ap, subst, _∙_}
@@ -7,8 +7,9 @@ use native.Mathlib.Omega.{arith}
 use lib.Dec.{lit≤}
 use lib.ListN.{length, take, replicate, length-replicate, length-set}
 use lib.Ieee.{le, round}
+use Rattle.base.specs.declared.refusal.Refusal.{Refusal}
 use Rattle.base.specs.declared.refusal.Verdict.{Verdict}
-use Rattle.base.specs.declared.refusal.Verdict.the-variants.{Accepted}
+use Rattle.base.specs.declared.refusal.Verdict.the-variants.{Accepted, Refused}
 use Rattle.base.specs.Files.{filesCheck}
 use Rattle.base.specs.Single.{decimal, minusDecimal}
 use Rattle.base.specs.Ranges.{monthCheck, hourCheck, latitudeCheck, longitudeCheck, modelCheck}
@@ -30,9 +31,9 @@ use Rattle.auditing.specs.declared.gathering.Stage.the-variants.{Waiting}
 use Rattle.auditing.specs.declared.gathering.Gathered.{Gathered}
 use Rattle.auditing.specs.Gathered.{linesFrom, textLines, firstLine, Numbered, Told, waiting, sits, openedTold, telling, toldFrom, toldBy, callsTold, sheetOpened, ReadsAt, GatheredAs, stageOf, openedAs, Gathering, gathering, withCall, GatheringAs, GoesOn}
 use Rattle.auditing.proofs.journals.Turns.{goes-open, goes-call}
-use Rattle.results.specs.AuditPage.{Audited, ShownLast}
+use Rattle.results.specs.AuditPage.{Audited, ShownLast, RefusedShowing, TwoLines}
 use Rattle.results.proofs.hearings.Examples.{opening}
-use Rattle.results.proofs.sheet.AlwaysShown.{first-showing}
+use Rattle.results.proofs.sheet.AlwaysShown.{first-showing, first-refused}
 
 -- ---- the text, and what its lines read as
 
@@ -105,7 +106,7 @@ module _ (source : Source) (marks numbers starts : List ℕ) where
 
 -- ---- THE PAGE
 
-module _ (f2 file : List ℕ) (good : filesCheck f2 file ≡ Accepted) (room : ℕ) (some : 1 ≤ room) where
+module _ (f2 file : List ℕ) (room : ℕ) (some : 1 ≤ room) where
   abbrev buffer : List ℕ
   buffer = replicate room 0
 
@@ -138,12 +139,27 @@ module _ (f2 file : List ℕ) (good : filesCheck f2 file ≡ Accepted) (room : �
         starts-room = omega (arith, sizes .1 .1, some);
       }
 
+  abbrev two : TwoLines (pair f2 file) room
+  two =
+      record {
+        audited = audited;
+        over = refl;
+        its-text = refl;
+        marks-are = sizes .0;
+        numbers-are = sizes .1 .0;
+        starts-are = sizes .1 .1;
+      }
+
   abbrev i : Inputs
   i = inputsWritten opening
 
-  shown-there : ShownLast audited 2
+  blank-fits : length blank ≡ 151
+  blank-fits = length-replicate 151 (decimal 0 1)
+
+  pub page-had : filesCheck f2 file ≡ Accepted → (two : TwoLines (pair f2 file) room) × ShownLast (two .audited) 2
   unfolding run callsTold callWritten
-  shown-there =
+  page-had good =
+      let shown-there : ShownLast audited 2 =
       record {
         before = [];
         split = refl;
@@ -151,13 +167,23 @@ module _ (f2 file : List ℕ) (good : filesCheck f2 file ≡ Accepted) (room : �
         figures = figuresOf f2 file i;
         answered =
             ap (λ (x : Answer). record { call = show 0 blank; answer = x } ∷ [])
-            (first-showing f2 file good i opens blank (length-replicate 151 (decimal 0 1)));
-      }
+            (first-showing f2 file good i opens blank blank-fits);
+      } in
+      (two, shown-there)
 
-  pub page-had :
-      (a : Audited)
-      × ((a .source ≡ pair f2 file)
-      × ((a .text ≡ text)
-      × (((length (a .marks) ≡ room) × ((length (a .numbers) ≡ room) × (length (a .starts) ≡ room)))
-      × ShownLast a 2)))
-  page-had = (audited, (refl, (refl, (sizes, shown-there))))
+  pub page-refused-had :
+      (why : Refusal) → filesCheck f2 file ≡ Refused why →
+      (two : TwoLines (pair f2 file) room) × ((showing : RefusedShowing (two .audited) 2) × (showing .why ≡ why))
+  unfolding run callsTold callWritten
+  page-refused-had why bad =
+      let refused-there : RefusedShowing audited 2 =
+      record {
+        before = [];
+        split = refl;
+        why = why;
+        buffer = blank;
+        answered =
+            ap (λ (x : Answer). record { call = show 0 blank; answer = x } ∷ [])
+            (first-refused f2 file why bad i opens blank blank-fits);
+      } in
+      (two, (refused-there, refl))

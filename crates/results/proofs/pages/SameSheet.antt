@@ -29,12 +29,13 @@ use Rattle.auditing.proofs.journals.Runs.{sheet-more}
 use Rattle.results.specs.Heard.{heardBy, saidOf}
 use Rattle.results.specs.Insurer.{acceptedShowing}
 use Rattle.results.specs.ReadBack.{numberedFrom}
-use Rattle.results.specs.AuditPage.{Audited, openedSheet, entriesIn, shorterText, ShownLast, ShorterTold}
+use Rattle.results.specs.AuditPage.{Audited, openedSheet, entriesIn, callsKept, shorterText, ShownLast, ShorterTold}
 use Rattle.results.proofs.lists.Kept.{shorter-append}
 use Rattle.results.proofs.force.Insured.{in-force}
 use Rattle.results.proofs.hearings.Said.{callOf, answerSaid, said-more}
 use Rattle.results.proofs.hearings.Lines.{HeardAs, heard-as}
 use Rattle.results.proofs.pages.Held.{opened-rest}
+use Rattle.results.proofs.pages.Shorter.{page-shorter}
 use Rattle.results.proofs.pages.Last.{Ends, last-of, last-same, run-ends}
 
 -- ---- lists that end in a showing of the worksheet
@@ -67,7 +68,10 @@ asks-worksheet (Cancel n) w h = refl
 asks-worksheet TakeBack w h = refl
 asks-worksheet (Show n) w h = ap (λ (k : ℕ). inputsShown k w) (ap deskOf h)
 
-module _ (a : Audited) (line : ℕ) (s : ShownLast a line) (t : ShorterTold a) where
+module _ (a : Audited) (line : ℕ) (s : ShownLast a line) where
+  abbrev t : ShorterTold a
+  t = page-shorter a
+
   abbrev w : Worksheet
   w = openedSheet a
 
@@ -81,14 +85,14 @@ module _ (a : Audited) (line : ℕ) (s : ShownLast a line) (t : ShorterTold a) w
   shows = acceptedShowing blank (s .points) (s .figures)
 
   abbrev n : ℕ
-  n = suc (length (t .calls))
+  n = suc (length (callsKept a))
 
   -- ---- the run of the shorter journal
 
   demand : Demand3 (a .source) w (callsTold (a .calls))
   demand = demand-3-lent (a .source) w (opened-rest a) (callsTold (a .calls))
 
-  ran : runTold (a .source) (a .opening) (numberedFrom 2 (t .calls)) .entries ≡ shorter [] front ++ (shows ∷ [])
+  ran : runTold (a .source) (a .opening) (numberedFrom 2 (callsKept a)) .entries ≡ shorter [] front ++ (shows ∷ [])
   unfolding keptOf shortRun
   ran =
       ap (λ (cs : List Call). run (a .source) cs w .entries) (t .shorter-list)
@@ -96,7 +100,7 @@ module _ (a : Audited) (line : ℕ) (s : ShownLast a line) (t : ShorterTold a) w
       ∙ ap (shorter []) (s .answered)
       ∙ shorter-ends front (s .points) (s .figures)
 
-  left : runTold (a .source) (a .opening) (numberedFrom 2 (t .calls)) .sheet .inputs ≡ i
+  left : runTold (a .source) (a .opening) (numberedFrom 2 (callsKept a)) .sheet .inputs ≡ i
   unfolding keptOf shortRun
   left =
       ap (λ (cs : List Call). run (a .source) cs w .sheet .inputs) (t .shorter-list)
@@ -105,14 +109,14 @@ module _ (a : Audited) (line : ℕ) (s : ShownLast a line) (t : ShorterTold a) w
 
   -- ---- its last call
 
-  some-call : t .calls ≡ [] → ⊥
+  some-call : callsKept a ≡ [] → ⊥
   unfolding numberedFrom callsTold run
   some-call e =
       let none : [] ≡ shorter [] front ++ (shows ∷ []) =
       ap (λ (cs : List WrittenCall). runTold (a .source) (a .opening) (numberedFrom 2 cs) .entries) (sym e) ∙ ran in
       omega (arith, ap length none, length-append (shorter [] front) (shows ∷ []))
 
-  module _ (e : Ends (t .calls)) where
+  module _ (e : Ends (callsKept a)) where
     abbrev x : Numbered
     x = record { call = e .last; line = n }
 
@@ -122,7 +126,7 @@ module _ (a : Audited) (line : ℕ) (s : ShownLast a line) (t : ShorterTold a) w
     abbrev v : Worksheet
     v = runTold (a .source) (a .opening) ns .sheet
 
-    numbered : numberedFrom 2 (t .calls) ≡ ns ++ (x ∷ [])
+    numbered : numberedFrom 2 (callsKept a) ≡ ns ++ (x ∷ [])
     numbered =
         ap (numberedFrom 2) (e .split)
         ∙ numbered-more 2 n (e .front) (e .last) (omega (arith, ap length (e .split), length-append (e .front) (e .last ∷ [])))
@@ -159,7 +163,7 @@ module _ (a : Audited) (line : ℕ) (s : ShownLast a line) (t : ShorterTold a) w
     heard-last =
         let opened = spokenVerdict 1 Accepted in
         let said = saidOf (a .source) w ns in
-        let told = sits (a .opening) 1 (numberedFrom 2 (t .calls)) in (
+        let told = sits (a .opening) 1 (numberedFrom 2 (callsKept a)) in (
           opened ++ said,
           heard-as (a .source) firstSitting refl (shorterText a) n told (t .told) .text
               ∙ ap (λ (cs : List Numbered). opened ++ saidOf (a .source) w cs) numbered
@@ -173,10 +177,10 @@ module _ (a : Audited) (line : ℕ) (s : ShownLast a line) (t : ShorterTold a) w
       (before : List ℕ)
       × (heardBy (a .source) firstSitting (shorterText a) n .text
       ≡ before ++ spokenText n i (shown (Points (s .points)) (s .figures)))
-  page-same-sheet = go (last-of (t .calls))
+  page-same-sheet = go (last-of (callsKept a))
     where
       go :
-          (t .calls ≡ []) ⊎ Ends (t .calls) →
+          (callsKept a ≡ []) ⊎ Ends (callsKept a) →
           (before : List ℕ)
           × (heardBy (a .source) firstSitting (shorterText a) n .text
           ≡ before ++ spokenText n i (shown (Points (s .points)) (s .figures)))

@@ -27,7 +27,7 @@ use Rattle.auditing.specs.Accounts.{numberAt}
 use Rattle.results.specs.ExhibitedFiles.{Below}
 use Rattle.results.specs.ReadBack.{GoodInputs, GoodCall, callLines, numberedFrom}
 use Rattle.results.specs.Audit.{entryAt, entriesAt}
-use Rattle.results.specs.AuditPage.{Audited, openedSheet, entriesIn, linesAt, placesKept, shorterText, ShorterTold}
+use Rattle.results.specs.AuditPage.{Audited, openedSheet, entriesIn, linesAt, placesKept, callsAt, callsKept, shorterText, ShorterTold}
 use Rattle.results.proofs.provenance.Places.{kept-by-marks, kept-below}
 use Rattle.results.proofs.reading.Journals.{EachGood, journal-rewritten}
 use Rattle.results.proofs.reading.Parts.{read-open, read-call}
@@ -66,10 +66,6 @@ told-well n t (l ∷ ls) h = told-well (suc n) (telling n t (lineIn l)) ls (tell
 
 abbrev callBy : WrittenCall → Call
 callBy c = called (callWritten c) blank
-
-unfoldable callsAt : List Numbered → List ℕ → List WrittenCall
-callsAt cs [] = []
-callsAt cs (p ∷ ps) = callTold cs p ∷ callsAt cs ps
 
 told-calls : (n : ℕ) (cs : List WrittenCall) → callsTold (numberedFrom n cs) ≡ map callBy cs
 unfolding callsTold numberedFrom
@@ -128,9 +124,6 @@ module _ (a : Audited) where
   unfolding toldBy
   accepted-open = subst WellOpened (a .told) (told-well 1 waiting _ tt)
 
-  abbrev callsKept : List WrittenCall
-  callsKept = callsAt (a .calls) (placesKept a)
-
   reads-there :
       (p : ℕ) → p < length (a .calls) →
       ReadsAt (a .text) (numberAt (a .starts) p) (line.Call (callTold (a .calls) p))
@@ -142,12 +135,12 @@ module _ (a : Audited) where
   open-good : GoodInputs (a .opening)
   open-good = read-open (lineAt (a .text) (a .kept .start)) (a .opening) (sat a .start .said)
 
-  text-as : shorterText a ≡ lineText (line.Open (a .opening)) ++ callLines callsKept
+  text-as : shorterText a ≡ lineText (line.Open (a .opening)) ++ callLines (callsKept a)
   text-as =
       ap₂ _++_ (ap lineText (sat a .start .said))
       (lines-at (a .text) (a .starts) (a .calls) reads-there (placesKept a) places-below)
 
-  calls-good : EachGood callsKept
+  calls-good : EachGood (callsKept a)
   calls-good = each-good (a .text) (a .starts) (a .calls) reads-there (placesKept a) places-below
 
   places-as : placesKept a ≡ keptPlaces (marksOf (entriesIn a)) (length (entriesIn a))
@@ -155,9 +148,9 @@ module _ (a : Audited) where
       kept-alike (a .marks) (marksOf (entriesIn a)) (a .kept .count) (marks-alike a)
       ∙ ap (keptPlaces (marksOf (entriesIn a))) (counted a)
 
-  list-as : callsTold (numberedFrom 2 callsKept) ≡ callsOf (shorter [] (entriesIn a))
+  list-as : callsTold (numberedFrom 2 (callsKept a)) ≡ callsOf (shorter [] (entriesIn a))
   list-as =
-      told-calls 2 callsKept
+      told-calls 2 (callsKept a)
       ∙ sym (calls-at (a .source) (a .calls) (openedSheet a) (placesKept a) places-below)
       ∙ ap (λ (ps : List ℕ). callsOf (entriesAt (entriesIn a) ps)) places-as
       ∙ ap callsOf (sym (kept-by-marks (a .source) (openedSheet a) (callsTold (a .calls))))
@@ -165,10 +158,9 @@ module _ (a : Audited) where
   pub page-shorter : ShorterTold a
   page-shorter =
       record {
-        calls = callsKept;
         written = text-as;
         told =
-            ap (λ (t : List ℕ). toldBy t (suc (length callsKept))) text-as
-            ∙ journal-rewritten (a .opening) callsKept open-good calls-good accepted-open;
+            ap (λ (t : List ℕ). toldBy t (suc (length (callsKept a)))) text-as
+            ∙ journal-rewritten (a .opening) (callsKept a) open-good calls-good accepted-open;
         shorter-list = list-as;
       }

@@ -1,7 +1,9 @@
--- There is a page exactly where the last call shows the worksheet and was not refused: by its mark, which
--- has the sort, the desk and the acceptance of its entry. Assumes nothing.
+-- It is told of a line that the worksheet was shown there, or that this was refused, exactly where the last
+-- call is such a showing: by its mark, which has the sort, the desk and the acceptance of its entry. Both are
+-- read from one law: such a showing is found or neither is told, and what is told of one is by its answer.
+-- Assumes nothing.
 use Prim.Native.Nat.{ℕ}
-use mathlib.Core.Bool.{Bool, true, false, cond, false≢true}
+use mathlib.Core.Bool.{Bool, true, false, cond}
 use mathlib.Core.List.{List, [], _∷_, _++_}
 use mathlib.Core.Logic.{_⊎_, inl, inr, _↔_}
 use mathlib.Core.Path.{_≡_, refl, sym, ap, _∙_}
@@ -13,9 +15,8 @@ use borrow.Author.Tests.{eqb-true, eqb-false, eq-eqb, ne-eqb}
 use Rattle.base.proofs.verdicts.Picks.{cond-true, cond-false}
 use Rattle.maps.specs.declared.figures.Shown.{Shown as Given}
 use Rattle.maps.specs.declared.figures.Shown.the-variants.{Points, Refused as NotShown}
-use Rattle.worksheet.specs.declared.desks.Worksheet.{Worksheet}
-use Rattle.worksheet.specs.Showing.{Source, showOf, showBuffer}
-use Rattle.worksheet.specs.Journal.{Call, Answer, shown, show, Entry, accepted, step, entryOf}
+use Rattle.worksheet.specs.Showing.{showOf, showBuffer}
+use Rattle.worksheet.specs.Journal.{shown, show, Entry, step, entryOf}
 use Rattle.worksheet.specs.Calls.{called}
 use Rattle.worksheet.proofs.drafts.Effects.{both-true}
 use Rattle.wording.specs.declared.written.WrittenCall.{WrittenCall}
@@ -25,44 +26,13 @@ use Rattle.listing.specs.Turn.{blank}
 use Rattle.auditing.specs.declared.accounts.Showing.{Showing}
 use Rattle.auditing.specs.declared.accounts.Showing.the-variants.{Shown, Refused, Other}
 use Rattle.auditing.specs.Provenance.{editPart}
-use Rattle.auditing.specs.Marks.{sortOf, deskOf, markOf, markSort, markGood, markDesk, isShowing}
+use Rattle.auditing.specs.Marks.{sortOf, deskOf, markOf, markSort, markDesk, isShowing}
 use Rattle.auditing.specs.Gathered.{Numbered, runTold}
 use Rattle.auditing.specs.Accounts.{showingBy, showingAt}
-use Rattle.results.specs.Insurer.{acceptedShowing}
-use Rattle.results.specs.AuditPage.{Audited, ShownLast}
-use Rattle.results.proofs.provenance.Marking.{no-part, sort-of, good-of, desk-of}
-use Rattle.results.proofs.hearings.Said.{callOf}
+use Rattle.results.specs.AuditPage.{Audited, entriesIn, ShownLast, RefusedShowing}
+use Rattle.results.proofs.provenance.Marking.{no-part, sort-of, desk-of}
 use Rattle.results.proofs.pages.Held.{sat}
 use Rattle.results.proofs.pages.Last.{Ends, last-of, last-same, lastEntry, entries-end, count-is, line-last, mark-last}
-
--- ---- answers of the marks
-
-isShown : Showing → Bool
-isShown Shown = true
-isShown Refused = false
-isShown Other = false
-
-other-not : Other ≡ Shown → ⊥
-unfolding isShown
-other-not h = false≢true (ap isShown h)
-
-refused-not : Refused ≡ Shown → ⊥
-unfolding isShown
-refused-not h = false≢true (ap isShown h)
-
-picked : (t : Bool) (s : Showing) → cond t s Other ≡ Shown → (t ≡ true) × (s ≡ Shown)
-picked true s h = (refl, h)
-picked false s h = absurd (other-not h)
-
-shown-by : (m : ℕ) → showingBy m ≡ Shown → (isShowing m ≡ true) × (markGood m ≡ true)
-unfolding showingBy
-shown-by m h =
-    let p = picked (isShowing m) (cond (markGood m) Shown Refused) h in
-    (p .0, go (markGood m) (p .1))
-  where
-    go : (t : Bool) → cond t Shown Refused ≡ Shown → t ≡ true
-    go true e = refl
-    go false e = absurd (refused-not e)
 
 -- ---- a written call of the sort and desk of a showing of the worksheet is one
 
@@ -78,29 +48,41 @@ shows-worksheet (Cancel n) s d = absurd (omega arith)
 shows-worksheet TakeBack s d = absurd (omega arith)
 shows-worksheet (Show n) s d = ap Show d
 
--- ---- a showing that was not refused gave points and figures
+-- ---- what is told of a showing of the worksheet, by its answer
 
-record Gave (answer : Answer) : Type 0 where
-  pub points : ℕ
-  pub figures : List Float
-  pub is : answer ≡ shown (Points points) figures
+abbrev showingEntry : Given → List Float → Entry
+showingEntry s buffer = record { call = show 0 blank; answer = shown s buffer }
 
-gave : (source : Source) (v : Worksheet) → let x = step source (show 0 blank) v .answer in accepted x ≡ true → Gave x
-unfolding step
-gave source v h = go (showOf source 0 blank v) (showBuffer source 0 blank v) h
-  where
-    go : (s : Given) (figures : List Float) → accepted (shown s figures) ≡ true → Gave (shown s figures)
-    go (Points n) figures e = record { points = n; figures = figures; is = refl }
-    go (NotShown why) figures e = absurd (false≢true e)
+abbrev toldOf : Given → Showing
+toldOf (Points n) = Shown
+toldOf (NotShown why) = Refused
+
+told-of : (s : Given) (buffer : List Float) → showingBy (markOf (showingEntry s buffer)) ≡ toldOf s
+unfolding showingBy markOf
+told-of (Points n) buffer = refl
+told-of (NotShown why) buffer = refl
+
+-- a number for each that can be told, since these differ where numbers do
+abbrev numberOf : Showing → ℕ
+numberOf Shown = 2
+numberOf Refused = 1
+numberOf Other = 0
 
 module _ (a : Audited) (line : ℕ) where
   abbrev answer : Showing
   answer = showingAt (a .marks) (a .numbers) (a .kept .count) line
 
-  -- of no call there is none
-  none-shown : a .calls ≡ [] → answer ≡ Other
-  unfolding showingAt
-  none-shown e = cond-true _ _ (eq-eqb (a .kept .count) 0 (sat a .count ∙ ap length e))
+  -- the last call shows the worksheet, stands on this line, and was answered so
+  record Showed (s : Given) : Type 0 where
+    pub before : List Numbered
+    pub split : a .calls ≡ before ++ (record { call = Show 0; line = line } ∷ [])
+    pub buffer : List Float
+    pub answered : entriesIn a ≡ runTold (a .source) (a .opening) before .entries ++ (showingEntry s buffer ∷ [])
+
+  -- such a showing, or neither is told
+  data Found : Type 0 where
+    showed : (s : Given) → Showed s → Found
+    neither : answer ≡ Other → Found
 
   module _ (front : List Numbered) (x : Numbered) (split : a .calls ≡ front ++ (x ∷ [])) where
     abbrev entry : Entry
@@ -113,57 +95,80 @@ module _ (a : Audited) (line : ℕ) where
         cond-false _ _ (ne-eqb (a .kept .count) 0 (λ e. omega (arith, count-is a front x split)))
         ∙ (λ t. cond (eqb (line-last a front x split t) line) (showingBy (mark-last a front x split t)) Other)
 
-    shown-last : answer ≡ Shown → ShownLast a line
-    unfolding callWritten
-    shown-last h =
-        let p = picked (eqb (x .line) line) (showingBy (markOf entry)) (sym showing-as ∙ h) in
-        let q = shown-by (markOf entry) (p .1) in
-        let b = both-true (eqb (markSort (markOf entry)) 12) (eqb (markDesk (markOf entry)) 0) (q .0) in
-        let sort = sym (sort-of entry) ∙ eqb-true (markSort (markOf entry)) 12 (b .0) in
-        let desk = sym (desk-of entry) ∙ eqb-true (markDesk (markOf entry)) 0 (b .1) in
+    -- by whether it stands on the line and whether its mark is a showing's
+    found-by : (here shows : Bool) → eqb (x .line) line ≡ here → isShowing (markOf entry) ≡ shows → Found
+    unfolding showingBy step callWritten
+    found-by false shows h i = neither (showing-as ∙ cond-false _ _ h)
+    found-by true false h i = neither (showing-as ∙ cond-true _ _ h ∙ cond-false _ _ i)
+    found-by true true h i =
+        let m = markOf entry in
+        let b = both-true (eqb (markSort m) 12) (eqb (markDesk m) 0) i in
+        let sort = sym (sort-of entry) ∙ eqb-true (markSort m) 12 (b .0) in
+        let desk = sym (desk-of entry) ∙ eqb-true (markDesk m) 0 (b .1) in
         let is : x .call ≡ Show 0 = shows-worksheet (x .call) sort desk in
-        let its-line : x .line ≡ line = eqb-true (x .line) line (p .0) in
+        let its-line : x .line ≡ line = eqb-true (x .line) line h in
         let v = runTold (a .source) (a .opening) front .sheet in
-        let called-so : callOf x ≡ show 0 blank = ap (λ (c : WrittenCall). called (callWritten c) blank) is in
-        let fine : accepted (step (a .source) (show 0 blank) v .answer) ≡ true =
-        ap (λ (c : Call). accepted (step (a .source) c v .answer)) (sym called-so)
-        ∙ sym (good-of entry)
-        ∙ q .1 in
-        let g = gave (a .source) v fine in
-        let shown-there : entry ≡ acceptedShowing blank (g .points) (g .figures) =
-        ap (λ (c : Call). entryOf (a .source) c v) called-so
-        ∙ ap (λ (y : Answer). record { call = show 0 blank; answer = y }) (g .is) in
+        let s = showOf (a .source) 0 blank v in
+        let buffer = showBuffer (a .source) 0 blank v in
+        let as-called : entry ≡ showingEntry s buffer =
+        ap (λ (c : WrittenCall). entryOf (a .source) (called (callWritten c) blank) v) is in
+        showed s
         record {
           before = front;
           split = split ∙ (λ t. front ++ (record { call = is t; line = its-line t } ∷ []));
-          points = g .points;
-          figures = g .figures;
+          buffer = buffer;
           answered =
               entries-end a front x split
-              ∙ ap (λ (y : Entry). runTold (a .source) (a .opening) front .entries ++ (y ∷ [])) shown-there;
+              ∙ ap (λ (y : Entry). runTold (a .source) (a .opening) front .entries ++ (y ∷ [])) as-called;
         }
 
-  -- the mark of a showing that gave points
-  shown-mark : (points : ℕ) (figures : List Float) → showingBy (markOf (acceptedShowing blank points figures)) ≡ Shown
-  unfolding showingBy markOf
-  shown-mark points figures = refl
+  -- of no call neither is told
+  found : Found
+  unfolding showingAt
+  found = go (last-of (a .calls))
+    where
+      go : (a .calls ≡ []) ⊎ Ends (a .calls) → Found
+      go (inl e) = neither (cond-true _ _ (eq-eqb (a .kept .count) 0 (sat a .count ∙ ap length e)))
+      go (inr e) = found-by (e .front) (e .last) (e .split) _ _ refl refl
+
+  -- the other way: a run has one last entry, so that the mark is that of this answer
+  told-so : (s : Given) → Showed s → answer ≡ toldOf s
+  told-so s h =
+      let x : Numbered = record { call = Show 0; line = line } in
+      let front = runTold (a .source) (a .opening) (h .before) .entries in
+      let same : lastEntry a (h .before) x (h .split) ≡ showingEntry s (h .buffer) =
+      last-same front front _ _ (sym (entries-end a (h .before) x (h .split)) ∙ h .answered) in
+      showing-as (h .before) x (h .split)
+      ∙ cond-true _ _ (eq-eqb line line refl)
+      ∙ ap (λ (y : Entry). showingBy (markOf y)) same
+      ∙ told-of s (h .buffer)
 
   -- THERE IS A PAGE
   pub page-showing : (answer ≡ Shown) ↔ ShownLast a line
-  page-showing = (λ h. there h (last-of (a .calls)), back)
+  page-showing = (λ e. there e found, back)
     where
-      there : answer ≡ Shown → (a .calls ≡ []) ⊎ Ends (a .calls) → ShownLast a line
-      there h (inl e) = absurd (other-not (sym (none-shown e) ∙ h))
-      there h (inr e) = shown-last (e .front) (e .last) (e .split) h
+      there : answer ≡ Shown → Found → ShownLast a line
+      there e (showed (Points n) h) =
+          record { before = h .before; split = h .split; points = n; figures = h .buffer; answered = h .answered }
+      there e (showed (NotShown why) h) = absurd (omega (arith, ap numberOf (sym (told-so _ h) ∙ e)))
+      there e (neither o) = absurd (omega (arith, ap numberOf (sym o ∙ e)))
 
       back : ShownLast a line → answer ≡ Shown
       back s =
-          let x : Numbered = record { call = Show 0; line = line } in
-          let shows = acceptedShowing blank (s .points) (s .figures) in
-          let front = runTold (a .source) (a .opening) (s .before) .entries in
-          let same : lastEntry a (s .before) x (s .split) ≡ shows =
-          last-same front front _ _ (sym (entries-end a (s .before) x (s .split)) ∙ s .answered) in
-          showing-as (s .before) x (s .split)
-          ∙ cond-true _ _ (eq-eqb line line refl)
-          ∙ ap (λ (y : Entry). showingBy (markOf y)) same
-          ∙ shown-mark (s .points) (s .figures)
+          told-so (Points (s .points))
+          record { before = s .before; split = s .split; buffer = s .figures; answered = s .answered }
+
+  -- THE SHOWING WAS REFUSED
+  pub page-refused : (answer ≡ Refused) ↔ RefusedShowing a line
+  page-refused = (λ e. there e found, back)
+    where
+      there : answer ≡ Refused → Found → RefusedShowing a line
+      there e (showed (Points n) h) = absurd (omega (arith, ap numberOf (sym (told-so _ h) ∙ e)))
+      there e (showed (NotShown why) h) =
+          record { before = h .before; split = h .split; why = why; buffer = h .buffer; answered = h .answered }
+      there e (neither o) = absurd (omega (arith, ap numberOf (sym o ∙ e)))
+
+      back : RefusedShowing a line → answer ≡ Refused
+      back s =
+          told-so (NotShown (s .why))
+          record { before = s .before; split = s .split; buffer = s .buffer; answered = s .answered }

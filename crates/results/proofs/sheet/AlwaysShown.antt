@@ -8,15 +8,16 @@ use mathlib.Core.Path.{_≡_, ap}
 use Prim.Native.Nat.{ℕ}
 use lib.ListN.{length}
 use lib.Ieee.{Float}
+use Rattle.base.specs.declared.refusal.Refusal.{Refusal}
 use Rattle.base.specs.declared.refusal.Refusal.the-variants.{Month, Model}
 use Rattle.base.specs.declared.refusal.Verdict.{Verdict}
-use Rattle.base.specs.declared.refusal.Verdict.the-variants.{Accepted}
+use Rattle.base.specs.declared.refusal.Verdict.the-variants.{Accepted, Refused}
 use Rattle.base.specs.Refusal.{_then_, writtenOver}
 use Rattle.base.specs.Ranges.{isMonth, isBit, monthCheck, hourCheck, modelCheck}
 use Rattle.base.specs.Files.{filesCheck}
 use Rattle.base.proofs.verdicts.Refusals.{then-both, passed}
 use Rattle.maps.specs.declared.inputs.Inputs.{Inputs}
-use Rattle.maps.specs.declared.figures.Shown.the-variants.{Points}
+use Rattle.maps.specs.declared.figures.Shown.the-variants.{Points, Refused as NotShown}
 use Rattle.maps.specs.Figures.{sheetPath, figuresOf, pointsOr}
 use Rattle.worksheet.specs.declared.inputs.Edit.{Edit}
 use Rattle.worksheet.specs.declared.inputs.Edit.the-variants.{Sunspot, Hour, Path, Psc, Pole, Month as Monthly, Model as Modelled}
@@ -116,22 +117,23 @@ fits : (lent : List Float) → length lent ≡ 151 → bufferCheck (length lent)
 unfolding bufferCheck
 fits lent h = ap bufferCheck h
 
--- the files of some inputs pass their checks
-abbrev Good : Files → Type 0
-Good files = (files .verdict then filesCheck (files .f2) (files .file)) ≡ Accepted
+-- what the files of some inputs are found to be
+abbrev verdictOn : Files → Verdict
+verdictOn files = files .verdict then filesCheck (files .f2) (files .file)
 
--- a worksheet with inputs in range, over good files
-shown-sheet : (source : Source) (w : Worksheet) → inputsCheck (w .inputs) ≡ Accepted → Good (source (w .inputs)) →
-    (lent : List Float) → length lent ≡ 151 → let files = source (w .inputs) in
+-- a worksheet with inputs in range is answered by that
+answered-sheet : (source : Source) (w : Worksheet) → inputsCheck (w .inputs) ≡ Accepted →
+    (v : Verdict) → verdictOn (source (w .inputs)) ≡ v → (lent : List Float) → length lent ≡ 151 →
+    let files = source (w .inputs) in
     step source (show 0 lent) w .answer
-    ≡ shown (Points (sheetPath (w .inputs) .count)) (figuresOf (files .f2) (files .file) (w .inputs))
+    ≡ shown (pointsOr v (sheetPath (w .inputs) .count)) (writtenOver v (figuresOf (files .f2) (files .file) (w .inputs)) lent)
 unfolding step showOf showBuffer showCheck judgedCheck askedCheck inputsShown drawnCheck
-shown-sheet source w h good lent l =
+answered-sheet source w h v found lent l =
     let i = w .inputs in
     let f = source i in
     let b = fits lent l in
-    let e : (inputsCheck i then bufferCheck (length lent) then f .verdict then filesCheck (f .f2) (f .file)) ≡ Accepted =
-    λ t. h t then b t then good t in
+    let e : (inputsCheck i then bufferCheck (length lent) then f .verdict then filesCheck (f .f2) (f .file)) ≡ v =
+    λ t. h t then b t then found t in
     ap (λ (v : Verdict). shown (pointsOr v (sheetPath i .count)) (writtenOver v (figuresOf (f .f2) (f .file) i) lent)) e
 
 module _ (f2 file : List ℕ) (good : filesCheck f2 file ≡ Accepted) where
@@ -140,14 +142,21 @@ module _ (f2 file : List ℕ) (good : filesCheck f2 file ≡ Accepted) where
       let w = run (pair f2 file) cs (openOf i .sheet) .sheet in
       step (pair f2 file) (show 0 lent) w .answer
       ≡ shown (Points (sheetPath (w .inputs) .count)) (figuresOf f2 file (w .inputs))
-  always-shown i h cs = shown-sheet (pair f2 file) _ (stay-in-range (pair f2 file) i h cs) good
+  always-shown i h cs = answered-sheet (pair f2 file) _ (stay-in-range (pair f2 file) i h cs) Accepted good
 
   -- the list of no calls
   pub first-showing : (i : Inputs) → openOf i .answer ≡ Accepted → (lent : List Float) → length lent ≡ 151 →
       step (pair f2 file) (show 0 lent) (openOf i .sheet) .answer
       ≡ shown (Points (sheetPath i .count)) (figuresOf f2 file i)
   unfolding openOf freshSheet
-  first-showing i h = shown-sheet (pair f2 file) (openOf i .sheet) h good
+  first-showing i h = answered-sheet (pair f2 file) (openOf i .sheet) h Accepted good
+
+-- over files that do not pass them it is refused by what they are refused by, and the buffer stays
+pub first-refused : (f2 file : List ℕ) (why : Refusal) → filesCheck f2 file ≡ Refused why →
+    (i : Inputs) → openOf i .answer ≡ Accepted → (lent : List Float) → length lent ≡ 151 →
+    step (pair f2 file) (show 0 lent) (openOf i .sheet) .answer ≡ shown (NotShown why) lent
+unfolding openOf freshSheet
+first-refused f2 file why bad i h = answered-sheet (pair f2 file) (openOf i .sheet) h (Refused why) bad
 
 -- over a year file that refuses nothing of the month and model that the inputs have then
 pub year-shown : (s : List ℕ) (i : Inputs) → openOf i .answer ≡ Accepted → (cs : List Call) (lent : List Float) → length lent ≡ 151 →
@@ -162,4 +171,4 @@ year-shown s i h cs lent l good =
     let month = w .inputs .month in
     let model = w .inputs .model in
     let both = then-both (monthCheck month then modelCheck model) _ good in
-    shown-sheet (yearly s) w (stay-in-range (yearly s) i h cs) (both .1) lent l
+    answered-sheet (yearly s) w (stay-in-range (yearly s) i h cs) Accepted (both .1) lent l

@@ -7,11 +7,12 @@ use Prim.Native.Nat.{ℕ, zero, suc, _+_, _≤_, _<_}
 use Prim.Native.String.{String}
 use native.Mathlib.Numerals.{add-one}
 use native.Mathlib.Omega.{arith}
-use borrow.Author.Tests.{eq-eqb, ne-eqb}
-use lib.Dec.{eqb}
+use borrow.Author.Tests.{eq-eqb, ne-eqb, leb-true}
+use lib.Dec.{eqb, leb}
 use lib.ListN.{length, getD, take, drop, replicate, drop-of-length-le, List·getD-map}
 use lib.Seq.{drop-cons}
 use Rattle.base.proofs.verdicts.Picks.{cond-true, cond-false}
+use Rattle.worksheet.proofs.drafts.Effects.{both-true}
 use Rattle.wording.specs.declared.token.Token.{Token}
 use Rattle.wording.specs.declared.token.Token.the-variants.{Word, Other}
 use Rattle.wording.specs.Token.{names, ascii, same, nameFrom, beforeBlank}
@@ -105,3 +106,26 @@ module _ (w : List ℕ) (k : ℕ) (h : k < 19) {letters : List ℕ} (r : letters
 pub none-left : (w : List ℕ) (k : ℕ) → 19 ≤ k → untried w k ≡ Other
 unfolding nameFrom
 none-left w k h = ap (λ (l : List String). nameFrom k l w) (drop-of-length-le names {i = k} h)
+
+-- ---- what begins with no small letter is no name
+
+differs : (name w : List ℕ) → 97 ≤ getD name 0 0 → getD w 0 32 < 97 → same name w ≡ false
+unfolding same
+differs [] w h c = absurd (omega arith)
+differs (x ∷ name) [] h c = refl
+differs (x ∷ name) (y ∷ w) h c = ap (λ (b : Bool). b && same name w) (ne-eqb x y (λ e. omega arith))
+
+-- whether each of them does
+abbrev small : List String → Bool
+small [] = true
+small (s ∷ l) = leb 97 (getD (ascii s) 0 0) && small l
+
+none-of : (k : ℕ) (l : List String) (w : List ℕ) → small l ≡ true → getD w 0 32 < 97 → nameFrom k l w ≡ Other
+unfolding nameFrom
+none-of k [] w s h = refl
+none-of k (x ∷ l) w s h =
+    let b = both-true (leb 97 (getD (ascii x) 0 0)) (small l) s in
+    cond-false _ _ (differs (ascii x) w (leb-true _ _ (b .0)) h) ∙ none-of (suc k) l w (b .1) h
+
+pub no-name : (w : List ℕ) → getD w 0 32 < 97 → nameFrom 0 names w ≡ Other
+no-name w h = none-of 0 names w refl h

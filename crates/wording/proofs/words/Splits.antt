@@ -7,13 +7,12 @@ use Prim.Native.Nat.{ℕ, zero, suc, _+_, _-_, _≤_, _<_}
 use native.Mathlib.Numerals.{add-one}
 use native.Mathlib.Omega.{arith}
 use borrow.Author.Tests.{eq-eqb, ne-eqb}
-use lib.ListN.{length, getD, set, take, drop, replicate, length-append, length-set, length-drop, drop-of-length-le}
+use lib.ListN.{length, getD, set, take, drop, replicate, length-append, length-set, length-take, length-drop, drop-of-length-le}
 use lib.Seq.{drop-cons, take-suc, getD-drop, set-append-seam, set-out, append-snoc}
 use Rattle.base.proofs.verdicts.Picks.{cond-true, cond-false}
 use Rattle.wording.specs.declared.token.Token.the-variants.{End}
 use Rattle.wording.specs.declared.token.Slot.{Slot}
-use Rattle.wording.specs.declared.token.Gathered.{Gathered}
-use Rattle.wording.specs.Token.{isBlank, uncommented, closed, wordsFrom, tokenOf, slotsOf, firstTokens, wordsPut}
+use Rattle.wording.specs.Token.{isBlank, uncommented, closed, wordsFrom, tokenOf, slotsOf, firstTokens}
 
 -- ---- up to a comment
 
@@ -42,74 +41,108 @@ module _ (line : List ℕ) where
     no-comment h =
         ap (λ (l : List ℕ). take i line ++ uncommented l) (drop-of-length-le line {i = i} h) ∙ append-nil (take i line)
 
--- ---- a byte more
+-- ---- a word: the bytes from `from` on, read up to i
 
-module _ (line : List ℕ) (start i : ℕ) where
-  -- the letters of the word that was begun
-  abbrev begun : List ℕ
-  begun = take (i - start) (drop start line)
+module _ (line : List ℕ) (from i : ℕ) where
+  -- its letters so far
+  abbrev pub begun : List ℕ
+  begun = take (i - from) (drop from line)
 
-  -- the words that are still to come
-  abbrev coming : List (List ℕ)
-  coming = wordsFrom begun (drop i line)
+  pub record Letters : Type 0 where
+    pub begins : from ≤ i
+    pub within : i ≤ length line
+    pub rest : wordsFrom [] (drop from line) ≡ wordsFrom begun (drop i line)
 
-blank-next : (line : List ℕ) (start i : ℕ) → i < length line → isBlank (getD line i 0) ≡ true → coming line start i ≡ closed (begun line start i) ++ coming line (i + 1) (i + 1)
-unfolding wordsFrom
-blank-next line start i h e =
-    let none : i + 1 - (i + 1) ≡ 0 = omega arith in
-    let w = begun line start i in
-    ap (wordsFrom w) (drop-cons line i 0 h)
-    ∙ cond-true _ _ e
-    ∙ (λ t. closed w ++ wordsFrom (take (sym none t) (drop (i + 1) line)) (drop (sym (add-one i) t) line))
+  -- the word ends at i
+  abbrev pub Ends : Type 0
+  Ends = wordsFrom [] (drop from line) ≡ closed begun ++ wordsFrom [] (drop (i + 1) line)
 
-letter-next : (line : List ℕ) (start i : ℕ) → start ≤ i → i < length line → isBlank (getD line i 0) ≡ false → coming line start i ≡ coming line start (i + 1)
-unfolding wordsFrom
-letter-next line start i s h e =
-    let w = begun line start i in
-    let place : start + (i - start) ≡ i = omega arith in
-    let more : suc (i - start) ≡ i + 1 - start = omega arith in
-    let last : getD (drop start line) (i - start) 0 ≡ getD line i 0 = getD-drop start line (i - start) 0 ∙ ap (λ (j : ℕ). getD line j 0) place in
-    let longer : w ++ (getD line i 0 ∷ []) ≡ begun line start (i + 1) =
-    ap (λ (x : ℕ). w ++ (x ∷ [])) (sym last)
-    ∙ sym (take-suc (drop start line) (i - start) 0 (omega (arith, length-drop start line)))
-    ∙ ap (λ (j : ℕ). take j (drop start line)) more in
-    ap (wordsFrom w) (drop-cons line i 0 h)
-    ∙ cond-false _ _ e
-    ∙ (λ t. wordsFrom (longer t) (drop (sym (add-one i) t) line))
+module _ {line : List ℕ} {from : ℕ} where
+  pub word-begins : from ≤ length line → Letters line from from
+  word-begins h =
+      let none : from - from ≡ 0 = omega arith in
+      record {
+        begins = omega arith;
+        within = h;
+        rest = ap (λ (n : ℕ). wordsFrom (take n (drop from line)) (drop from line)) (sym none);
+      }
 
-line-ends : (line : List ℕ) (start i : ℕ) → length line ≤ i → coming line start i ≡ closed (begun line start i)
-unfolding wordsFrom
-line-ends line start i h = ap (wordsFrom (begun line start i)) (drop-of-length-le line {i = i} h)
+  module _ {i : ℕ} (r : Letters line from i) where
+    pub goes-on : i < length line → isBlank (getD line i 0) ≡ false → Letters line from (i + 1)
+    unfolding wordsFrom
+    goes-on h e =
+        let w = begun line from i in
+        let place : from + (i - from) ≡ i = omega (arith, r .begins) in
+        let more : suc (i - from) ≡ i + 1 - from = omega (arith, r .begins) in
+        let last : getD (drop from line) (i - from) 0 ≡ getD line i 0 =
+        getD-drop from line (i - from) 0 ∙ ap (λ (j : ℕ). getD line j 0) place in
+        let longer : w ++ (getD line i 0 ∷ []) ≡ begun line from (i + 1) =
+        ap (λ (x : ℕ). w ++ (x ∷ [])) (sym last)
+        ∙ sym (take-suc (drop from line) (i - from) 0 (omega (arith, r .begins, length-drop from line)))
+        ∙ ap (λ (j : ℕ). take j (drop from line)) more in
+        record {
+          begins = omega (arith, r .begins);
+          within = omega arith;
+          rest =
+              r .rest
+              ∙ ap (wordsFrom w) (drop-cons line i 0 h)
+              ∙ cond-false _ _ e
+              ∙ (λ t. wordsFrom (longer t) (drop (sym (add-one i) t) line));
+        }
+
+    pub blank-ends : i < length line → isBlank (getD line i 0) ≡ true → Ends line from i
+    unfolding wordsFrom
+    blank-ends h e =
+        let w = begun line from i in
+        r .rest
+        ∙ ap (wordsFrom w) (drop-cons line i 0 h)
+        ∙ cond-true _ _ e
+        ∙ ap (λ (j : ℕ). closed w ++ wordsFrom [] (drop j line)) (sym (add-one i))
+
+    pub line-ends : length line ≤ i → Ends line from i
+    unfolding wordsFrom
+    line-ends h =
+        let w = begun line from i in
+        r .rest
+        ∙ ap (wordsFrom w) (drop-of-length-le line {i = i} h)
+        ∙ sym (append-nil (closed w))
+        ∙ ap (λ (l : List ℕ). closed w ++ wordsFrom [] l) (sym (drop-of-length-le line {i = i + 1} (omega arith)))
 
 -- ---- words put into slots
 
-put-more : (s : Gathered) (a b : List (List ℕ)) → wordsPut s (a ++ b) ≡ wordsPut (wordsPut s a) b
-unfolding wordsPut
-put-more s [] b = refl
-put-more s (w ∷ a) b = put-more _ a b
+-- the slots, and how many words were put into them
+pub record Filled : Type 0 where
+  pub slots : List Slot
+  pub count : ℕ
 
-pub put-none : (s : Gathered) → wordsPut s [] ≡ s
-unfolding wordsPut
-put-none s = refl
+abbrev pub filled : List Slot → ℕ → Filled
+filled slots count = record { slots = slots; count = count }
 
-pub put-one : (s : Gathered) (w : List ℕ) → 0 < length w → wordsPut s (closed w) ≡ record { slots = set (s .slots) (s .count) (record { token = tokenOf w }); count = s .count + 1 }
-unfolding wordsPut
-put-one s [] h = absurd (omega arith)
-put-one s (x ∷ w) h = refl
+-- one behind the last
+abbrev pub withWord : Filled → List ℕ → Filled
+withWord s w = filled (set (s .slots) (s .count) (record { token = tokenOf w })) (s .count + 1)
 
-counted : (s : Gathered) (w : List ℕ) → wordsPut s (closed w) .count ≤ s .count + 1
+unfoldable pub wordsPut : Filled → List (List ℕ) → Filled
+wordsPut s [] = s
+wordsPut s (w ∷ l) = wordsPut (withWord s w) l
+
+put-none : (s : Filled) (w : List ℕ) (l : List (List ℕ)) → length w ≤ 0 → wordsPut s (closed w ++ l) ≡ wordsPut s l
+put-none s [] l h = refl
+put-none s (x ∷ w) l h = absurd (omega arith)
+
+put-one : (s : Filled) (w : List ℕ) (l : List (List ℕ)) → 0 < length w → wordsPut s (closed w ++ l) ≡ wordsPut (withWord s w) l
 unfolding wordsPut
-counted s [] = omega arith
-counted s (x ∷ w) = omega arith
+put-one s [] l h = absurd (omega arith)
+put-one s (x ∷ w) l h = refl
 
 abbrev end : Slot
 end = record { token = End }
 
-abbrev noWords : Gathered
+abbrev noWords : Filled
 noWords = record { slots = replicate 25 end; count = 0 }
 
 -- where no slot is left
-all-full : (s : Gathered) (ws : List (List ℕ)) → length (s .slots) ≤ s .count → wordsPut s ws .slots ≡ s .slots
+all-full : (s : Filled) (ws : List (List ℕ)) → length (s .slots) ≤ s .count → wordsPut s ws .slots ≡ s .slots
 unfolding wordsPut
 all-full s [] h = refl
 all-full s (w ∷ ws) h =
@@ -143,45 +176,49 @@ all-put : (ws : List (List ℕ)) → record { slots = wordsPut noWords ws .slots
 unfolding firstTokens
 all-put ws = λ t. record { slots = rest-put [] ws 25 25 (omega arith) t }
 
--- ---- the words of a line, i bytes being read
+-- ---- the words of a line, those before a place being read
 
-pub record Reading (line : List ℕ) (s : Gathered) (start i : ℕ) : Type 0 where
-  pub begins : start ≤ i
-  pub within : i ≤ length line
-  pub few : s .count ≤ start
+pub record Read (line : List ℕ) (s : Filled) (at : ℕ) : Type 0 where
+  pub room : length (s .slots) ≡ 25
+  pub few : s .count ≤ 25
   -- the words so far and those to come are all words
-  pub whole : wordsPut noWords (wordsFrom [] line) ≡ wordsPut s (coming line start i)
+  pub whole : firstTokens (wordsFrom [] line) ≡ record { slots = wordsPut s (wordsFrom [] (drop at line)) .slots }
 
-pub nothing-read : (line : List ℕ) → Reading line noWords 0 0
-nothing-read line = record { begins = omega arith; within = omega arith; few = omega arith; whole = refl }
+pub nothing-read : (line : List ℕ) → Read line noWords 0
+nothing-read line = record { room = refl; few = omega arith; whole = sym (all-put (wordsFrom [] line)) }
 
-module _ {line : List ℕ} {s : Gathered} {start i : ℕ} (r : Reading line s start i) where
-  pub after-blank :
-      {s' : Gathered} → s' ≡ wordsPut s (closed (begun line start i)) → i < length line → isBlank (getD line i 0) ≡ true → Reading line s' (i + 1) (i + 1)
-  after-blank {s'} e h b =
-      let w = closed (begun line start i) in
-      let few : s' .count ≤ s .count + 1 = rw e (counted s (begun line start i)) in
-      record {
-        begins = omega arith;
-        within = omega arith;
-        few = omega (arith, r .begins, r .few);
-        whole =
-            r .whole
-            ∙ ap (wordsPut s) (blank-next line start i h b)
-            ∙ put-more s w (coming line (i + 1) (i + 1))
-            ∙ ap (λ (x : Gathered). wordsPut x (coming line (i + 1) (i + 1))) (sym e);
-      }
+module _ {line : List ℕ} {s : Filled} {at : ℕ} (r : Read line s at) where
+  module _ (end : ℕ) (e : Ends line at end) where
+    next : (s' : Filled) → wordsPut s (wordsFrom [] (drop at line)) ≡ wordsPut s' (wordsFrom [] (drop (end + 1) line)) → firstTokens (wordsFrom [] line) ≡ record { slots = wordsPut s' (wordsFrom [] (drop (end + 1) line)) .slots }
+    next s' p = r .whole ∙ (λ t. record { slots = p t .slots })
 
-  pub after-letter : i < length line → isBlank (getD line i 0) ≡ false → Reading line s start (i + 1)
-  after-letter h b =
-      record {
-        begins = omega (arith, r .begins);
-        within = omega arith;
-        few = r .few;
-        whole = r .whole ∙ ap (wordsPut s) (letter-next line start i (r .begins) h b);
-      }
+    pub no-word : end ≤ at → Read line s (end + 1)
+    no-word h =
+        let none : length (begun line at end) ≤ 0 = simp (length-take, length-drop) (omega arith) in
+        record {
+          room = r .room;
+          few = r .few;
+          whole = next s (ap (wordsPut s) e ∙ put-none s (begun line at end) _ none);
+        }
 
-  pub all-read : {s' : Gathered} → s' ≡ wordsPut s (closed (begun line start i)) → length line ≤ i → record { slots = s' .slots } ≡ firstTokens (wordsFrom [] line)
-  all-read e h =
-      let last = e ∙ sym (ap (wordsPut s) (line-ends line start i h)) ∙ sym (r .whole) in
-      (λ t. record { slots = last t .slots }) ∙ all-put (wordsFrom [] line)
+    some : at < end → end ≤ length line → 0 < length (begun line at end)
+    some h b = simp (length-take, length-drop) (omega arith)
+
+    pub word-read : at < end → end ≤ length line → s .count < 25 → Read line (withWord s (begun line at end)) (end + 1)
+    word-read h b c =
+        let w = begun line at end in
+        record {
+          room = length-set (s .slots) (s .count) (record { token = tokenOf w }) ∙ r .room;
+          few = omega arith;
+          whole = next (withWord s w) (ap (wordsPut s) e ∙ put-one s w _ (some h b));
+        }
+
+  pub slots-full : s .count ≡ 25 → record { slots = s .slots } ≡ firstTokens (wordsFrom [] line)
+  slots-full c =
+      let full : length (s .slots) ≤ s .count = omega (arith, r .room) in
+      sym (r .whole ∙ (λ t. record { slots = all-full s (wordsFrom [] (drop at line)) full t }))
+
+  pub all-read : length line ≤ at → record { slots = s .slots } ≡ firstTokens (wordsFrom [] line)
+  unfolding wordsFrom wordsPut
+  all-read h =
+      sym (r .whole ∙ ap (λ (l : List ℕ). record { slots = wordsPut s (wordsFrom [] l) .slots }) (drop-of-length-le line {i = at} h))

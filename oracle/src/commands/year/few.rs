@@ -3,8 +3,8 @@
 
 use crate::draw::data_files::ladders::USUAL;
 use crate::draw::generator::Generator;
-use crate::draw::year_files::{first_months, packed, NO_GAPS};
-use crate::model::year::MONTHS;
+use crate::draw::year_files::{first_months, packed, Parts, NO_GAPS};
+use crate::model::year::{DIRECTORY, MONTHS};
 use crate::month_file::{to_bytes, words, LENGTHS};
 use crate::reference::voacap::coefficients::F2_RECORD_BYTES;
 use std::array::from_fn;
@@ -21,6 +21,26 @@ const WORD: usize = 4 + 40 * 3 + 4 * 8;
 const ROWS: u8 = 76;
 
 pub fn year() -> Vec<u8> {
+    packed(&parts(), &NO_GAPS)
+}
+
+/// January's CCIR record and its month file.
+pub fn pair() -> [Vec<u8>; 2] {
+    let parts = parts();
+    let record = parts[MONTHS][..F2_RECORD_BYTES].to_vec();
+    [record, parts[0].clone()]
+}
+
+/// The file as a copy leaves it that stopped in the middle of January: its parts, and so
+/// the last pair of its directory, reach past its end.
+pub fn cut() -> Vec<u8> {
+    let parts = parts();
+    let mut year = packed(&parts, &NO_GAPS);
+    year.truncate(DIRECTORY + parts[0].len() / 2);
+    year
+}
+
+fn parts() -> Parts {
     let mut parts = first_months(&mut Generator::new(905), GOOD);
     let good = parts[0].clone();
     // March ends in the middle of its third marker, April's second is wrong.
@@ -29,7 +49,7 @@ pub fn year() -> Vec<u8> {
     parts[3][SECOND] ^= 1;
     parts[4] = bad_index();
     parts[MONTHS].resize(RECORDS * F2_RECORD_BYTES, 0);
-    packed(&parts, &NO_GAPS)
+    parts
 }
 
 /// A month file of zeros that takes little room, with a bad index table.
