@@ -48,17 +48,18 @@ fn say_many() {
 }
 
 fn say_long_text() {
-    write(b"the journal is longer than an audit holds, which is 1048576 bytes: ");
-    write(b"audit a copy of it that ends with that line\n");
+    if write(b"the journal is longer than an audit holds, which is 1048576 bytes: ") {
+        write(b"audit a copy of it that ends with that line\n");
+    }
 }
 
 // Says words with a line's number between them.
 fn say_around(before: &[u8], line: usize, after: &[u8]) {
     let mut digits = [0u8; 20];
     let k = io::decimal(line as u64, &mut digits);
-    write(before);
-    write(&digits[..k]);
-    write(after);
+    if write(before) && write(&digits[..k]) {
+        write(after);
+    }
 }
 
 fn say_none(line: usize) {

@@ -39,15 +39,20 @@ fn make_journal(name: &[u8]) -> i32 {
     fd
 }
 
-// Puts bytes and a newline behind what an open file has, and gives whether they are on its device;
-// what failed is said.
-fn put(fd: i32, name: &[u8], bytes: &[u8]) -> bool {
-    let good = io::write_all(fd, bytes) && io::write_all(fd, b"\n") && libc::fsync(fd) == 0;
+// Closes a file, once it is said if something failed.
+fn closed(fd: i32, name: &[u8], good: bool) -> bool {
     if !good {
         os::fail(name);
     }
     libc::close(fd);
     good
+}
+
+// Puts bytes and a newline behind what an open file has, and gives whether they are on its device;
+// what failed is said.
+fn put(fd: i32, name: &[u8], bytes: &[u8]) -> bool {
+    let good = io::write_all(fd, bytes) && io::write_all(fd, b"\n") && libc::fsync(fd) == 0;
+    closed(fd, name, good)
 }
 
 // The same of a file by its name; one that is missing is made, and its name put on its device too.
@@ -113,16 +118,26 @@ pub(crate) enum Fate {
     Unsure,
 }
 
-// Puts a line behind the journal's first bytes. Where it cannot be on its device, what failed is
-// said, and the journal is cut back to what it was.
-fn append(fd: i32, name: &[u8], bytes: u64, line: &[u8]) -> Fate
+// Whether a line could be put at the journal's end, wherever that is, and is on its device; else
+// what failed is said.
+fn append(name: &[u8], line: &[u8]) -> bool {
+    let fd = os::open_append(name);
+    if fd < 0 {
+        os::fail(name);
+        return false;
+    }
+    let good = io::write_all(fd, line) && libc::fsync(fd) == 0;
+    closed(fd, name, good)
+}
+
+// Puts a line behind the journal's first bytes, which are all of it. Where it cannot be on its
+// device the journal is cut back to them.
+fn append_or_cut(fd: i32, name: &[u8], bytes: u64, line: &[u8]) -> Fate
     requires { ⌜ bytes ≤ 72057594037927936 ⌝ }
 {
-    libc::lseek(fd, bytes as i64, libc::SEEK_SET);
-    if io::write_all(fd, line) && libc::fsync(fd) == 0 {
+    if append(name, line) {
         return Fate::Kept;
     }
-    os::fail(name);
     if cut_back(fd, name, bytes) {
         return Fate::Failed;
     }
@@ -141,5 +156,5 @@ pub(crate) fn keep(fd: i32, name: &[u8], bytes: u64, line: &[u8]) -> Fate
     }
     let mut text = [0u8; WRITTEN];
     let n = line_text(line_in(line), &mut text);
-    append(fd, name, bytes, &text[..n])
+    append_or_cut(fd, name, bytes, &text[..n])
 }

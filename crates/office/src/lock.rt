@@ -119,12 +119,37 @@ fn say_held(lock: &[u8]) {
     );
 }
 
-// Signs the lock that was made; where that fails the lock is lifted and that is said.
+fn say_lifted() {
+    io::write_all(
+        STDERR_FILENO,
+        b"the lock was lifted by somebody else meanwhile: ",
+    );
+    io::write_all(
+        STDERR_FILENO,
+        b"see that the journal's last lines are as they were answered\n",
+    );
+}
+
+// Deletes the lock; where that fails it is said, and what that means.
+fn lift(lock: &[u8]) {
+    if os::unlink(lock) == 0 {
+        return;
+    }
+    let is_gone = os::errno() == ENOENT;
+    os::fail(lock);
+    if is_gone {
+        say_lifted();
+        return;
+    }
+    io::write_all(STDERR_FILENO, b"the lock stands: delete it by hand\n");
+}
+
+// Signs the lock that was made; where that fails it is said, and the lock is lifted.
 fn signed(fd: i32, lock: &[u8]) -> bool {
     let good = sign(fd);
     if !good {
         os::fail(lock);
-        os::unlink(lock);
+        lift(lock);
     }
     libc::close(fd);
     good
@@ -150,23 +175,43 @@ pub(crate) fn take(lock: &[u8]) -> bool {
     false
 }
 
-// Lifts the lock. One that is gone was lifted under us, when others could write too.
+fn is_same(one: &[u8], other: &[u8]) -> bool {
+    if one.len() != other.len() {
+        return false;
+    }
+    let mut i = 0usize;
+    while i < one.len() {
+        if one[i] != other[i] {
+            return false;
+        }
+        i += 1;
+    }
+    true
+}
+
+// The first line that we sign into a lock.
+fn own_line(own: &mut [u8; LINE]) -> usize
+    ensures { λ r. ⌜ Counts r (now (own .exit)) ⌝ }
+{
+    let n = signature(own);
+    first_line(own, n)
+}
+
+// Whether the lock is signed by another than us.
+fn is_anothers(lock: &[u8]) -> bool {
+    let mut who = [0u8; LINE];
+    let n = signed_into(lock, &mut who);
+    let mut own = [0u8; LINE];
+    let m = own_line(&mut own);
+    n > 0 && !is_same(&who[..n], &own[..m])
+}
+
+// Lifts the lock. One that is gone, or another's now, was lifted under us, when others could write
+// too; another's stays.
 pub(crate) fn give_back(lock: &[u8]) {
-    if os::unlink(lock) == 0 {
+    if is_anothers(lock) {
+        say_lifted();
         return;
     }
-    let is_gone = os::errno() == ENOENT;
-    os::fail(lock);
-    if is_gone {
-        io::write_all(
-            STDERR_FILENO,
-            b"the lock was lifted by somebody else meanwhile: ",
-        );
-        io::write_all(
-            STDERR_FILENO,
-            b"see that the journal's last lines are as they were answered\n",
-        );
-    } else {
-        io::write_all(STDERR_FILENO, b"the lock stands: delete it by hand\n");
-    }
+    lift(lock);
 }
