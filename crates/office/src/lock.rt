@@ -12,7 +12,7 @@ ghost use Rattle.io.specs.Counts.{Counts};
 const TRIES: u32 = 2500;
 
 // The most bytes of what is signed into a lock: a host's name has at most 255.
-const LINE: usize = 300;
+pub(crate) const LINE: usize = 300;
 
 // How many bytes stand before the first 0.
 fn before_zero(text: &[u8]) -> usize
@@ -35,8 +35,8 @@ fn number_of(p: i32) -> u64 {
     0
 }
 
-// Who has the lock: the host and the process.
-fn signature(out: &mut [u8; LINE]) -> usize
+// What we sign into a lock: the host and the process.
+pub(crate) fn signature(out: &mut [u8; LINE]) -> usize
     ensures { λ r. ⌜ Counts r (now (out .exit)) ⌝ }
 {
     let mut host = [0u8; 256];
@@ -49,13 +49,6 @@ fn signature(out: &mut [u8; LINE]) -> usize
     let n = join(out, n, b" process ");
     let n = join(out, n, &digits[..d]);
     join(out, n, b"\n")
-}
-
-// Writes into the lock who has it, at once, so that a stop leaves all of it or nothing.
-fn sign(fd: i32) -> bool {
-    let mut text = [0u8; LINE];
-    let n = signature(&mut text);
-    io::write_all(fd, &text[..n])
 }
 
 // A byte as it is told: anybody can have written it, and a terminal obeys some bytes.
@@ -85,19 +78,27 @@ fn first_line(text: &mut [u8], n: usize) -> usize
     i
 }
 
-// The first line that is signed into a lock; none where it cannot be read.
+// What is signed into a lock; nothing where it cannot be read.
 fn signed_into(lock: &[u8], who: &mut [u8; LINE]) -> usize
     ensures { λ r. ⌜ Counts r (now (who .exit)) ⌝ }
 {
     let fd = os::open_read(lock);
     let n = io::read_full(fd, who);
     libc::close(fd);
+    n
+}
+
+// Its first line, as it is told.
+fn told_of(lock: &[u8], who: &mut [u8; LINE]) -> usize
+    ensures { λ r. ⌜ Counts r (now (who .exit)) ⌝ }
+{
+    let n = signed_into(lock, who);
     first_line(who, n)
 }
 
 fn say_signed(lock: &[u8]) {
     let mut who = [0u8; LINE];
-    let n = signed_into(lock, &mut who);
+    let n = told_of(lock, &mut who);
     if n == 0 {
         io::write_all(STDERR_FILENO, b"a process that did not sign it");
     }
@@ -144,9 +145,10 @@ fn lift(lock: &[u8]) {
     io::write_all(STDERR_FILENO, b"the lock stands: delete it by hand\n");
 }
 
-// Signs the lock that was made; where that fails it is said, and the lock is lifted.
-fn signed(fd: i32, lock: &[u8]) -> bool {
-    let good = sign(fd);
+// Signs the lock that was made, at once, so that a stop leaves all of it or nothing; where that
+// fails it is said, and the lock is lifted.
+fn signed(fd: i32, lock: &[u8], own: &[u8]) -> bool {
+    let good = io::write_all(fd, own);
     if !good {
         os::fail(lock);
         lift(lock);
@@ -155,15 +157,15 @@ fn signed(fd: i32, lock: &[u8]) -> bool {
     good
 }
 
-// Makes the lock's file, waiting a moment where another has it, and gives whether it is ours; what
-// is in the way is said.
-pub(crate) fn take(lock: &[u8]) -> bool {
+// Makes the lock's file and signs it, waiting a moment where another has it, and gives whether it is
+// ours; what is in the way is said.
+pub(crate) fn take(lock: &[u8], own: &[u8]) -> bool {
     let mut left = TRIES;
     while left > 0 {
         left -= 1;
         let fd = os::create(lock);
         if fd >= 0 {
-            return signed(fd, lock);
+            return signed(fd, lock, own);
         }
         if os::errno() != EEXIST {
             os::fail(lock);
@@ -189,27 +191,17 @@ fn is_same(one: &[u8], other: &[u8]) -> bool {
     true
 }
 
-// The first line that we sign into a lock.
-fn own_line(own: &mut [u8; LINE]) -> usize
-    ensures { λ r. ⌜ Counts r (now (own .exit)) ⌝ }
-{
-    let n = signature(own);
-    first_line(own, n)
-}
-
-// Whether the lock is signed by another than us.
-fn is_anothers(lock: &[u8]) -> bool {
+// Whether the lock is signed, and otherwise than we signed it.
+fn is_anothers(lock: &[u8], own: &[u8]) -> bool {
     let mut who = [0u8; LINE];
     let n = signed_into(lock, &mut who);
-    let mut own = [0u8; LINE];
-    let m = own_line(&mut own);
-    n > 0 && !is_same(&who[..n], &own[..m])
+    n > 0 && !is_same(&who[..n], own)
 }
 
 // Lifts the lock. One that is gone, or another's now, was lifted under us, when others could write
 // too; another's stays.
-pub(crate) fn give_back(lock: &[u8]) {
-    if is_anothers(lock) {
+pub(crate) fn give_back(lock: &[u8], own: &[u8]) {
+    if is_anothers(lock, own) {
         say_lifted();
         return;
     }

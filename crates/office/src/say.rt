@@ -16,7 +16,9 @@ use crate::keep::open_journal;
 use crate::keep::say_aside;
 use crate::keep::set_aside;
 use crate::link::is_own;
+use crate::lock::LINE;
 use crate::lock::give_back;
+use crate::lock::signature;
 use crate::lock::take;
 use crate::name::NAME;
 use crate::name::argument;
@@ -277,13 +279,15 @@ fn tell(name: &[u8], t: Told, text: &[u8]) {
 fn say_locked(name: &[u8], line: &[u8], lent: Lent, a: &[u8], b: &[u8]) {
     let mut lock = [0u8; NAME];
     let n = beside(name, b".lock", &mut lock);
-    if !is_own(name) || !take(&lock[..n]) {
+    let mut own = [0u8; LINE];
+    let m = signature(&mut own);
+    if !is_own(name) || !take(&lock[..n], &own[..m]) {
         say_unmade();
         return;
     }
     let mut text = [0u8; SPOKEN];
     let t = say_open(name, line, lent, a, b, &mut text);
-    give_back(&lock[..n]);
+    give_back(&lock[..n], &own[..m]);
     let size = t.size;
     tell(name, t, &text[..size]);
 }

@@ -5,10 +5,10 @@ use Rattle.office.proofs.lock.take.Statement.{statement}
 use Rattle.office.proofs.lock.take.Tie as tie
 
 abbrev Inv-loop : tie.InvT-loop
-Inv-loop lock left₀ left = left ≤ 2500
+Inv-loop lock own left₀ left = left ≤ 2500
 
 abbrev μ-loop : tie.MeasureT-loop
-μ-loop lock left₀ left = left
+μ-loop lock own left₀ left = left
 
 pub take-spec : {M : Type 1} → statement M
 take-spec =
