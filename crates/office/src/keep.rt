@@ -9,7 +9,8 @@ use libc::STDERR_FILENO;
 use listing::written::WRITTEN;
 use listing::written::line_text;
 use wording::line::line_in;
-ghost use Prim.Native.Nat.{_≤_};
+ghost use Prim.Native.Nat.{_≤_, _<_};
+ghost use lib.ListN.{length};
 
 // The journal open for reading and writing, made where it is missing; less than 0 where it cannot
 // be, which is said.
@@ -39,7 +40,7 @@ fn make_journal(name: &[u8]) -> i32 {
     fd
 }
 
-// Closes a file, once it is said if something failed.
+// Closes a file; where something failed, that is said first.
 fn closed(fd: i32, name: &[u8], good: bool) -> bool {
     if !good {
         os::fail(name);
@@ -85,13 +86,30 @@ fn cut_back(fd: i32, name: &[u8], bytes: u64) -> bool
     good
 }
 
+// Whether the journal still has so many bytes, as when it was read; else that is said. It is another
+// than that where somebody deleted our lock, or wrote without one.
+fn is_as_read(fd: i32, name: &[u8], bytes: u64) -> bool
+    requires { ⌜ bytes < 144115188075855872 ⌝ }
+{
+    if libc::lseek(fd, 0, libc::SEEK_END) == bytes as i64 {
+        return true;
+    }
+    io::write_all(STDERR_FILENO, name);
+    io::write_all(
+        STDERR_FILENO,
+        b": the journal was changed while it was read: say the call again\n",
+    );
+    false
+}
+
 // Takes what was cut short off the journal's end, once it is put aside in a file beside it.
 pub(crate) fn set_aside(fd: i32, name: &[u8], bytes: u64, cut: &[u8]) -> bool
-    requires { ⌜ bytes ≤ 72057594037927936 ⌝ }
+    requires { ⌜ (bytes ≤ 72057594037927936) × (length (now cut) ≤ 65536) ⌝ }
 {
+    let size = cut.len() as u64;
     let mut aside = [0u8; NAME];
     let n = beside(name, b".cut", &mut aside);
-    put_aside(&aside[..n], cut) && cut_back(fd, name, bytes)
+    is_as_read(fd, name, bytes + size) && put_aside(&aside[..n], cut) && cut_back(fd, name, bytes)
 }
 
 // Says that line `number` was cut short, and where it was put aside.
@@ -135,6 +153,9 @@ fn append(name: &[u8], line: &[u8]) -> bool {
 fn append_or_cut(fd: i32, name: &[u8], bytes: u64, line: &[u8]) -> Fate
     requires { ⌜ bytes ≤ 72057594037927936 ⌝ }
 {
+    if !is_as_read(fd, name, bytes) {
+        return Fate::Failed;
+    }
     if append(name, line) {
         return Fate::Kept;
     }

@@ -78,7 +78,7 @@ fn first_line(text: &mut [u8], n: usize) -> usize
     i
 }
 
-// What is signed into a lock; nothing where it cannot be read.
+// What is signed into a lock, 300 bytes of it at most; nothing where it cannot be read.
 fn signed_into(lock: &[u8], who: &mut [u8; LINE]) -> usize
     ensures { λ r. ⌜ Counts r (now (who .exit)) ⌝ }
 {
@@ -191,7 +191,8 @@ fn is_same(one: &[u8], other: &[u8]) -> bool {
     true
 }
 
-// Whether the lock is signed, and otherwise than we signed it.
+// Whether the lock is signed, and otherwise than we signed it. One that cannot be read counts as not
+// signed.
 fn is_anothers(lock: &[u8], own: &[u8]) -> bool {
     let mut who = [0u8; LINE];
     let n = signed_into(lock, &mut who);

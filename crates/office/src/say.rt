@@ -130,7 +130,7 @@ fn answer(
 
 // Whether what was cut short, if anything, is put aside.
 fn is_clean(fd: i32, name: &[u8], v: Ran, buffer: &[u8]) -> bool
-    requires { ⌜ (v .from ≤ v .to) × (v .to ≤ length (now buffer)) ⌝ }
+    requires { ⌜ (v .from ≤ v .to) × (v .to ≤ length (now buffer)) × (v .to ≤ 65536) ⌝ }
     requires { ⌜ v .bytes ≤ 72057594037927936 ⌝ }
 {
     let from = v.from;
