@@ -96,7 +96,7 @@ linesAt text starts (p ∷ ps) = lineAccount text (numberAt starts p) ++ linesAt
 abbrev pub placesKept : Audited → List ℕ
 placesKept a = keptPlaces (a .marks) (a .kept .count)
 
--- the calls at some places, as they were written
+-- the calls at some places, as they were written; a take-back for a place past their end
 unfoldable pub callsAt : List Numbered → List ℕ → List WrittenCall
 callsAt cs [] = []
 callsAt cs (p ∷ ps) = callTold cs p ∷ callsAt cs ps
@@ -138,7 +138,8 @@ PageShowing =
     (showingAt (a .marks) (a .numbers) (a .kept .count) line ≡ Shown) ↔ ShownLast a line
 
 -- It answers `Refused`, on which `desk` prints the refusal instead, exactly where the last of them shows the
--- worksheet, stands on the line asked for, and was refused; where neither is so, it answers `Other`
+-- worksheet, stands on the line asked for, and was refused. So with `PageShowing`, where neither is so, it
+-- answers `Other`, which is all that is left
 abbrev pub PageRefused : Type 0
 PageRefused =
     (a : Audited) (line : ℕ) →
@@ -211,8 +212,9 @@ pub record ShorterTold (a : Audited) : Type 0 where
   pub shorter-list : callsTold (numberedFrom 2 (callsKept a)) ≡ callsOf (shorter [] (entriesIn a))
 
 -- The text of the shorter journal is the same open and exactly the calls of the shorter list, those of the
--- journal at their places with the digits that they have there, each written anew on a line of its own, and
--- it reads as these
+-- journal at the places kept with the digits that were read there, each written anew on a line of its own,
+-- and it reads as these. That the places are the shorter list's is `KeptByMarks`, and that none is past the
+-- calls' end `KeptPlacesBelow` (Audit.antt)
 abbrev pub PageShorter : Type 0
 PageShorter = (a : Audited) → ShorterTold a
 
@@ -290,8 +292,9 @@ PageHad =
     (f2 file : List ℕ) → filesCheck f2 file ≡ Accepted → (room : ℕ) → 1 ≤ room →
     (two : TwoLines (pair f2 file) room) × ShownLast (two .audited) 2
 
--- Over every record and month file that do not pass them there is such a journal too, whose last call
--- was refused by what the files are refused by
+-- Over every record and month file that do not pass them there is an audited journal of the same two lines,
+-- in buffers of any length of at least 1, whose last call shows the worksheet, stands on line 2, and was
+-- refused by what the files are refused by
 abbrev pub PageRefusedHad : Type 0
 PageRefusedHad =
     (f2 file : List ℕ) (why : Refusal) → filesCheck f2 file ≡ NotPassed why → (room : ℕ) → 1 ≤ room →
