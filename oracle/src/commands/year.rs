@@ -1,6 +1,7 @@
 //! `year FILE SEED`, `year-parts DIR FILE`, `year-damaged FILE` and `year-few FILE`:
 //! good year files, one of which some parts are damaged, and a small one.
-//! `year-pair RECORD MONTH` and `year-cut FILE`: a pair of the small one, and half of it.
+//! `year-pair RECORD MONTH` and `year-cut FILE`: a pair of the small one, and what a copy
+//! that stopped in January leaves of it.
 //! `year-check FILE`: what the program `year check` prints of one.
 
 mod damaged;
