@@ -299,6 +299,8 @@ float jt_abs32(float x);
 double jt_abs64(double x);
 float jt_min(float a, float b);
 float jt_max(float a, float b);
+/* The size of a, negative where b is below zero or a NaN; -0 is not below zero. */
+float jt_sign(float a, float b);
 double jt_widen(float x);
 float jt_narrow(double x);
 float jt_sqrt32(float x);

@@ -74,7 +74,7 @@ macro_rules! not_exported {
     };
 }
 
-pub const FUNCTIONS: [Function; 26] = [
+pub const FUNCTIONS: [Function; 27] = [
     exported!(1, abs32, f32),
     exported!(2, abs64, f64),
     exported_pair!(3, min),
@@ -87,6 +87,7 @@ pub const FUNCTIONS: [Function; 26] = [
     exported!(10, from_i32, i32),
     exported!(11, to_u64, f64),
     not_exported!(12, is_negative, f64),
+    exported_pair!(13, sign),
     exported!(20, sin64, f64),
     exported!(21, cos64, f64),
     exported!(22, atan64, f64),

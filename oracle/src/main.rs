@@ -21,7 +21,7 @@ use commands::{
 #[cfg(linked)]
 use commands::{
     bulk_clocks, bulk_files, bulk_layers, bulk_lists, bulk_numbers, bulk_sheets, bulk_tables,
-    bulk_years, repeat_sheets, time_layers, time_numbers, time_years,
+    bulk_years, repeat_sheets, time_layers, time_numbers, time_paths, time_years,
 };
 // The compared Rust names its modules from here.
 use reference::voacap;
@@ -78,6 +78,7 @@ const USAGE: &str = "usage:
   oracle time-sheets                            time whole sheets and the Rust's parts of them
   oracle time-years                             time showings over a year file and over pairs of files
   oracle time-layers                            time sheets, refused files and parts of both sides
+  oracle time-paths                             time paths near the poles and anywhere
   oracle repeat-sheets SIDE KIND COUNT          make sheets by one side, to count instructions
   oracle self-check                             hold the steps against the library's functions";
 
@@ -165,6 +166,7 @@ fn with_port(words: &[&str]) -> Result<(), String> {
         ["bulk-years", count, seed] => bulk_years::run(count, seed),
         ["time-layers"] => time_layers::run(),
         ["time-years"] => time_years::run(),
+        ["time-paths"] => time_paths::run(),
         ["repeat-sheets", side, kind, count] => repeat_sheets::run(side, kind, count),
         _ => Err(String::from(USAGE)),
     }
@@ -176,7 +178,7 @@ fn with_port(words: &[&str]) -> Result<(), String> {
         ["bulk-numbers" | "bulk-files" | "bulk-clocks" | "bulk-tables", ..]
         | ["bulk-sheets" | "bulk-layers" | "bulk-lists" | "bulk-year-lists", ..]
         | ["bulk-years" | "time-numbers" | "time-layers" | "time-years", ..]
-        | ["repeat-sheets", ..] => {
+        | ["time-paths" | "repeat-sheets", ..] => {
             "this needs the port: build with JUTETROWEL_LIB set to the folder \
              that holds libjutetrowel.a"
         }

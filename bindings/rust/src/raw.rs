@@ -299,6 +299,7 @@ unsafe extern "C" {
     pub safe fn jt_abs64(x: f64) -> f64;
     pub safe fn jt_min(a: f32, b: f32) -> f32;
     pub safe fn jt_max(a: f32, b: f32) -> f32;
+    pub safe fn jt_sign(a: f32, b: f32) -> f32;
     pub safe fn jt_widen(x: f32) -> f64;
     pub safe fn jt_narrow(x: f64) -> f32;
     pub safe fn jt_sqrt32(x: f32) -> f32;

@@ -1,7 +1,8 @@
-// The arithmetic of `base`, under names of its own.
+// The arithmetic of `base`, and `sign` of `maps::geometry`, under names of their own.
 ghost use mathlib.Core.Path.{_≡_};
 ghost use lib.Ieee.{binary32, binary64, ofInt, toSigned, toUnsigned};
 ghost use Rattle.base.specs.Number.{absOf, minOf, maxOf, narrowOf, sqrtOf};
+ghost use Rattle.maps.specs.Geometry.{signOf};
 ghost use Rattle.base.specs.Elementary.{sinOf, cosOf, atanOf, acosOf, expOf, lnOf, sin32Of, cos32Of, atan32Of, acos32Of, exp32Of, ln32Of};
 
 // The size of x, which takes -0 to +0; a NaN gives a NaN.
@@ -34,6 +35,14 @@ pub extern "C" fn jt_max(a: f32, b: f32) -> f32
     ensures { λ r. ⌜ r ≡ maxOf a b ⌝ }
 {
     base::number::max(a, b)
+}
+
+// As Fortran's SIGN: the size of a, negative where b is below zero or a NaN. -0 is not below zero.
+#[no_mangle]
+pub extern "C" fn jt_sign(a: f32, b: f32) -> f32
+    ensures { λ r. ⌜ r ≡ signOf a b ⌝ }
+{
+    maps::geometry::sign(a, b)
 }
 
 // x as an `f64`, which holds every `f32`; a NaN gives a NaN.

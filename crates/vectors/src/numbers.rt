@@ -8,6 +8,7 @@ use base::angle::Radians;
 use base::constants;
 use base::elementary;
 use base::number;
+use maps::geometry;
 use maps::inputs::MagneticPole;
 use tally::counted;
 use tally::none;
@@ -112,7 +113,7 @@ fn degrees(x: f32) -> f32 {
     a.0
 }
 
-// What `base` answers, as a row's word.
+// What `base` answers, and `maps` for `sign`, as a row's word.
 fn answer(f: u64, w: u64) -> u64 {
     let x = single(w);
     let d = number::float64(w);
@@ -124,6 +125,7 @@ fn answer(f: u64, w: u64) -> u64 {
         10 => from_single(number::from_i32(number::signed(low(w)))),
         11 => number::to_u64(d),
         12 => number::is_negative(d) as u64,
+        13 => from_single(geometry::sign(x, number::float32(high(w)))),
         40 => from_single(constant(w)),
         41 => from_single(radians(x)),
         42 => from_single(degrees(x)),
@@ -132,7 +134,7 @@ fn answer(f: u64, w: u64) -> u64 {
     }
 }
 
-// Whether `base` gives a row's answer.
+// Whether the port gives a row's answer.
 fn is_right(f: u64, w: u64, wanted: u64) -> bool {
     if f == 9 {
         number::to_i32(single(w)) == number::signed(low(wanted))

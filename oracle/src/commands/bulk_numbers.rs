@@ -1,9 +1,10 @@
 //! `bulk-numbers COUNT SEED [NAME]`: the port's exported functions beside
-//! the Rust's over random arguments.
+//! the Rust's over special and random arguments.
 
 use crate::commands::whole;
 use crate::draw::generator::Generator;
 use crate::draw::ranges::inside;
+use crate::draw::specials::specials;
 use crate::functions::{Function, FUNCTIONS};
 
 pub fn run(count: &str, seed: &str, name: Option<&str>) -> Result<(), String> {
@@ -29,10 +30,14 @@ pub fn run(count: &str, seed: &str, name: Option<&str>) -> Result<(), String> {
 /// one word on both sides.
 fn compare(function: &Function, port: fn(u64) -> u64, count: u64, seed: u64) -> u64 {
     let mut random = Generator::new(seed.wrapping_mul(1 << 8) ^ function.number);
+    let special = specials(function);
+    let compared = special.len() as u64 + count;
     let mut differing = 0;
     let mut first = None;
-    for i in 0..count {
-        let word = argument(function, &mut random, i);
+    let words = special
+        .into_iter()
+        .chain((0..count).map(|i| argument(function, &mut random, i)));
+    for word in words {
         let (ours, theirs) = (port(word), (function.rust)(word));
         if ours != theirs {
             differing += 1;
@@ -40,7 +45,7 @@ fn compare(function: &Function, port: fn(u64) -> u64, count: u64, seed: u64) -> 
         }
     }
     println!(
-        "{:<9} {count:>12} compared {differing:>12} differ",
+        "{:<9} {compared:>12} compared {differing:>12} differ",
         function.name
     );
     if let Some((word, ours, theirs)) = first {

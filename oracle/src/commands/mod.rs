@@ -44,6 +44,8 @@ pub mod sheets;
 pub mod time_layers;
 #[cfg(linked)]
 pub mod time_numbers;
+#[cfg(linked)]
+pub mod time_paths;
 pub mod time_sheets;
 #[cfg(linked)]
 pub mod time_years;

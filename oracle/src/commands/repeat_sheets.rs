@@ -1,9 +1,10 @@
 //! `repeat-sheets SIDE KIND COUNT`: COUNT sheets of one kind, or one part of
-//! as many, by one side, and nothing else that depends on COUNT, for a tool
-//! that counts instructions.
+//! as many, or paths near the poles or anywhere, by one side, and nothing else
+//! that depends on COUNT, for a tool that counts instructions.
 
 use crate::commands::parts::{Part, Parts};
 use crate::commands::sides::{Sides, Wrong};
+use crate::commands::time_paths::Paths;
 use crate::commands::whole;
 use crate::draw::data_files::named;
 
@@ -23,6 +24,13 @@ pub fn run(side: &str, kind: &str, count: &str) -> Result<(), String> {
         });
         return Ok(());
     }
+    if let Some(paths) = kind.strip_prefix("path ").and_then(Paths::of) {
+        repeat(&paths.cases, count, |case| match port {
+            true => paths.port(case),
+            false => paths.rust(case),
+        });
+        return Ok(());
+    }
     let sides = sides(kind)?;
     sides.assert_alike();
     repeat(&sides.cases, count, |case| match port {
@@ -39,7 +47,7 @@ fn sides(kind: &str) -> Result<Sides, String> {
         "half" => Sides::refused(pair, Wrong::Half),
         points => Sides::whole(pair, whole(points)? as u32),
     };
-    sides.ok_or_else(|| format!("{kind} is no kind: 1, 3, 5, marker, half or a part's name"))
+    sides.ok_or_else(|| format!("{kind} is no kind: 1, 3, 5, marker, half, a part's name, path near poles or path anywhere"))
 }
 
 /// The same cases again and again, in their order.

@@ -38,6 +38,7 @@ fn plain_functions() {
     time!(abs64, doubles(-1000.0, 1000.0));
     two("min", port::min, reference::min);
     two("max", port::max, reference::max);
+    two("sign", port::sign, reference::sign);
     time!(widen, singles(-1000.0, 1000.0));
     time!(narrow, doubles(-1000.0, 1000.0));
     time!(sqrt64, doubles(0.0, 1000.0));

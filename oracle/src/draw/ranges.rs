@@ -1,6 +1,6 @@
 //! Random arguments inside the range where a function has something to do.
 
-use crate::bits::{Format, Kind, F32, F64};
+use crate::bits::{pair, Format, Kind, F32, F64};
 use crate::draw::generator::Generator;
 use crate::functions::Function;
 use std::f64::consts::{FRAC_PI_4, LN_2};
@@ -8,6 +8,7 @@ use std::f64::consts::{FRAC_PI_4, LN_2};
 pub fn inside(function: &Function, random: &mut Generator) -> u64 {
     let format = if function.kind == Kind::F64 { F64 } else { F32 };
     match (function.kind, function.stem()) {
+        (Kind::Pair, "sign") => pair(random.any(Kind::F32), beside_zero(random)),
         (Kind::Pair, _) => {
             let exponent = random.below(256);
             random.pair_near(exponent)
@@ -39,6 +40,12 @@ fn number(format: Format, stem: &str, random: &mut Generator) -> u64 {
 /// A word at most a few steps away.
 fn beside(word: u64, random: &mut Generator) -> u64 {
     word.wrapping_add_signed(random.between(-3, 3))
+}
+
+/// A zero of either sign, or at most three steps from one.
+fn beside_zero(random: &mut Generator) -> u64 {
+    let sign = random.below(2) * F32.sign();
+    sign | random.below(4)
 }
 
 /// At most 1000 in size; a quarter of them near a multiple of pi/4.

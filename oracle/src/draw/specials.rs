@@ -4,11 +4,13 @@
 use crate::bits::{pair, Format, Kind, F32, F64};
 use crate::functions::Function;
 use crate::reference::steps::power_of_two;
+use crate::reference::voacap::con::{PI, PI2, PIO2};
 use std::f64::consts::{FRAC_PI_4, LN_2, SQRT_2};
 
 pub fn specials(function: &Function) -> Vec<u64> {
     match function.kind {
-        Kind::Pair => pairs(),
+        Kind::Pair if function.name == "sign" => all_pairs(&sign_operands()),
+        Kind::Pair => all_pairs(&compared()),
         Kind::I32 => integers(),
         Kind::F32 => floats(function, F32),
         Kind::F64 => floats(function, F64),
@@ -196,8 +198,23 @@ fn whole_numbers(format: Format, powers: i64) -> Vec<u64> {
     words
 }
 
-/// All pairs of a list in which numbers meet NaNs, zeros and each other.
-fn pairs() -> Vec<u64> {
+/// What `sign` is tried on in either place: zero, infinity, NaNs and the
+/// ends of the format, and the sizes that the Rust gives it.
+fn sign_operands() -> Vec<u64> {
+    let mut sizes = edges(F32).to_vec();
+    sizes.extend([1.0, PI, PI2, PIO2].map(|v| F32.word(v.into())));
+    F32.both_signs(sizes)
+}
+
+fn all_pairs(list: &[u64]) -> Vec<u64> {
+    let rows = list
+        .iter()
+        .flat_map(|a| list.iter().map(move |b| pair(*a, *b)));
+    rows.collect()
+}
+
+/// Numbers that meet NaNs, zeros and each other.
+fn compared() -> Vec<u64> {
     let one = F32.word(1.0);
     let quiet = F32.infinity() | 1 << 22;
     let sizes = [
@@ -212,10 +229,7 @@ fn pairs() -> Vec<u64> {
     let mut list = F32.both_signs(sizes.to_vec());
     list.extend([F32.infinity() | 1, F32.sign() | F32.infinity() | 5]);
     list.extend([F32.word(0.2), F32.word(1.1)]);
-    let rows = list
-        .iter()
-        .flat_map(|a| list.iter().map(move |b| pair(*a, *b)));
-    rows.collect()
+    list
 }
 
 /// The ends, and ties between two f32 with both neighbours.

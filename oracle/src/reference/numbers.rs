@@ -4,6 +4,7 @@
 
 use crate::reference::steps::Step;
 use crate::reference::voacap::con::{D2R, R2D};
+use crate::reference::voacap::geometry;
 
 #[inline(never)]
 pub extern "C" fn abs32(v: f32) -> f32 {
@@ -63,6 +64,11 @@ pub extern "C" fn to_u64(v: f64) -> u64 {
 #[inline(never)]
 pub extern "C" fn is_negative(v: f64) -> bool {
     v.is_sign_negative() && !v.is_nan()
+}
+
+#[inline(never)]
+pub extern "C" fn sign(a: f32, b: f32) -> f32 {
+    geometry::sign(a, b)
 }
 
 macro_rules! step {
