@@ -13,6 +13,10 @@ use base::elementary::cos32;
 use base::elementary::sin32;
 use base::number::abs32;
 ghost use mathlib.Core.Path.{_≡_};
+ghost use mathlib.Core.Bool.{cond};
+ghost use Prim.Native.Nat.{_^_};
+ghost use lib.Ieee.{le};
+ghost use Rattle.base.specs.Single.{decimal};
 ghost use Rattle.maps.specs.Geometry.{signOf, clampedCosine, acosClamped, latitudeOf, turnedOf, foldedOf, otherWay, polar, close, nudgeOf, nudgedOf, placeOf, endLongitude, endOf, cosBetween, dlongOf, atLeastMinimum, gcdOf, fromNorth, circleOf, countOf, distancesOf, downMeridian, circleLongitude, onCircle, sampleOf, polePlace, gmlatOf, pointOf, controlPointIf, rowsOf, pathOf, geomagneticOf, meanLatitude, alatdOf, btrDeg, brtDeg};
 
 const EPSLON: f32 = 1.0e-7;
@@ -69,12 +73,27 @@ pub struct Track {
     pub btr_cos: f32,
 }
 
+// The bit of the sign that `sign` takes from b: set where b is below zero or a NaN. The bits of -0
+// are 2^31 and those of every number below zero are more, so that with 2^31 - 1 added only these
+// carry into the 33rd bit.
+fn sign_from(b: f32) -> u32
+    ensures { λ r. ⌜ r ≡ cond (le (decimal 0 1) b) 0 (2 ^ 31) ⌝ }
+{
+    if b != b {
+        return 0x8000_0000;
+    }
+    let carried = f32::to_bits(b) as u64 + 0x7fff_ffff;
+    (carried / 0x1_0000_0000 * 0x8000_0000) as u32
+}
+
 // As Fortran's SIGN: the size of a, negative where b is below zero or a NaN. -0 is not below zero.
 pub fn sign(a: f32, b: f32) -> f32
     ensures { λ r. ⌜ r ≡ signOf a b ⌝ }
 {
-    let size = abs32(a);
-    if b >= 0.0 { size } else { -size }
+    if a != a {
+        return a;
+    }
+    f32::from_bits(sign_from(b) + f32::to_bits(a) % 0x8000_0000)
 }
 
 // q, but no more than 1 in size.
