@@ -299,7 +299,7 @@ float jt_abs32(float x);
 double jt_abs64(double x);
 float jt_min(float a, float b);
 float jt_max(float a, float b);
-/* The size of a, negative where b is below zero or a NaN; -0 is not below zero. */
+/* The size of a, negative where b is below zero or a NaN; -0 is not below zero. A NaN for a NaN as a. */
 float jt_sign(float a, float b);
 double jt_widen(float x);
 float jt_narrow(double x);

@@ -38,6 +38,7 @@ pub extern "C" fn jt_max(a: f32, b: f32) -> f32
 }
 
 // As Fortran's SIGN: the size of a, negative where b is below zero or a NaN. -0 is not below zero.
+// Where a is a NaN, so is the result.
 #[no_mangle]
 pub extern "C" fn jt_sign(a: f32, b: f32) -> f32
     ensures { λ r. ⌜ r ≡ signOf a b ⌝ }

@@ -87,6 +87,7 @@ fn sign_from(b: f32) -> u32
 }
 
 // As Fortran's SIGN: the size of a, negative where b is below zero or a NaN. -0 is not below zero.
+// Where a is a NaN, so is the result.
 pub fn sign(a: f32, b: f32) -> f32
     ensures { λ r. ⌜ r ≡ signOf a b ⌝ }
 {

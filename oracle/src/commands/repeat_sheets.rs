@@ -4,7 +4,7 @@
 
 use crate::commands::parts::{Part, Parts};
 use crate::commands::sides::{Sides, Wrong};
-use crate::commands::time_paths::Paths;
+use crate::commands::time_paths::{by_port, by_rust, paths};
 use crate::commands::whole;
 use crate::draw::data_files::named;
 
@@ -24,10 +24,10 @@ pub fn run(side: &str, kind: &str, count: &str) -> Result<(), String> {
         });
         return Ok(());
     }
-    if let Some(paths) = kind.strip_prefix("path ").and_then(Paths::of) {
-        repeat(&paths.cases, count, |case| match port {
-            true => paths.port(case),
-            false => paths.rust(case),
+    if let Some(paths) = kind.strip_prefix("path ").and_then(paths) {
+        repeat(&paths, count, |case| match port {
+            true => by_port(case),
+            false => by_rust(case),
         });
         return Ok(());
     }

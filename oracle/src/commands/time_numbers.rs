@@ -198,6 +198,6 @@ impl Bits for (f32, f32) {
         self.0.bits() ^ self.1.bits()
     }
     fn mixed(self, bits: u64) -> Self {
-        (self.0.mixed(bits), self.1)
+        (self.0.mixed(bits), self.1.mixed(bits))
     }
 }

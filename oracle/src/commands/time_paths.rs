@@ -1,5 +1,4 @@
-//! `time-paths`: paths near the poles and paths anywhere on both sides. They
-//! are so many that no predictor of branches learns their order.
+//! `time-paths`: random paths near the poles and anywhere, on both sides.
 
 use crate::bits::words;
 use crate::commands::timing::{best, REPEATS};
@@ -11,16 +10,15 @@ use crate::reference::sheets::Sheet;
 use std::hint::black_box;
 
 const KINDS: [&str; 2] = ["near poles", "anywhere"];
+/// Many, so that the outcome of a branch is not known from the round before.
 const PATHS: usize = 1024;
 
 pub fn run() -> Result<(), String> {
     println!("microseconds for a path, best of {REPEATS} runs over {PATHS} paths");
     println!("{:<14}{:>9}{:>9}{:>8}", "", "port", "Rust", "ratio");
     for kind in KINDS {
-        let paths = Paths::of(kind).expect("a kind of path");
-        let port = |sheet: &_| paths.port(sheet);
-        let rust = |sheet: &_| paths.rust(sheet);
-        let column = best(&paths.cases, &[("port", &port), ("Rust", &rust)]);
+        let cases = paths(kind).expect("a kind of path");
+        let column = best(&cases, &[("port", &by_port), ("Rust", &by_rust)]);
         let [port, rust] = [column[0].1, column[1].1];
         println!("{kind:<14}{port:>9.3}{rust:>9.3}{:>8.2}", port / rust);
     }
@@ -28,33 +26,27 @@ pub fn run() -> Result<(), String> {
 }
 
 /// Random paths of one kind. Of a sheet only the route is used.
-pub struct Paths {
-    pub cases: Vec<Sheet>,
+pub fn paths(kind: &str) -> Option<Vec<Sheet>> {
+    let kind = KINDS.into_iter().find(|known| *known == kind)?;
+    let mut random = Generator::new(3);
+    let sheet = |_| Sheet {
+        month: 1,
+        ssn: 0.0,
+        gmt: 0.0,
+        route: of_kind(kind, &mut random),
+        psc: [1.0; 4],
+    };
+    let cases: Vec<Sheet> = (0..PATHS).map(sheet).collect();
+    cases.iter().for_each(assert_alike);
+    Some(cases)
 }
 
-impl Paths {
-    pub fn of(kind: &str) -> Option<Self> {
-        let kind = KINDS.into_iter().find(|known| *known == kind)?;
-        let mut random = Generator::new(3);
-        let sheet = |_| Sheet {
-            month: 1,
-            ssn: 0.0,
-            gmt: 0.0,
-            route: of_kind(kind, &mut random),
-            psc: [1.0; 4],
-        };
-        let cases: Vec<Sheet> = (0..PATHS).map(sheet).collect();
-        cases.iter().for_each(assert_alike);
-        Some(Self { cases })
-    }
+pub fn by_port(sheet: &Sheet) {
+    black_box(port::path(&sheet.route, sheet.route.long.into()));
+}
 
-    pub fn port(&self, sheet: &Sheet) {
-        black_box(port::path(&sheet.route, sheet.route.long.into()));
-    }
-
-    pub fn rust(&self, sheet: &Sheet) {
-        black_box(measured(sheet));
-    }
+pub fn by_rust(sheet: &Sheet) {
+    black_box(measured(sheet));
 }
 
 /// Times of wrong answers would be worth nothing.

@@ -199,7 +199,7 @@ fn whole_numbers(format: Format, powers: i64) -> Vec<u64> {
 }
 
 /// What `sign` is tried on in either place: zero, infinity, NaNs and the
-/// ends of the format, and the sizes that the Rust gives it.
+/// ends of the format, and plain sizes.
 fn sign_operands() -> Vec<u64> {
     let mut sizes = edges(F32).to_vec();
     sizes.extend([1.0, PI, PI2, PIO2].map(|v| F32.word(v.into())));

@@ -1,7 +1,7 @@
 -- What a float that is no NaN, and a bit pattern that is no NaN's, tell of each other. Assumes
 -- nothing.
 use mathlib.Core.Path.{_≡_, refl, sym, ap, _∙_, subst}
-use mathlib.Core.Logic.{_⊎_, inl, inr}
+use mathlib.Core.Logic.{inl, inr}
 use mathlib.Core.Bool.{Bool, true, false, not, cond}
 use Prim.Native.Nat.{ℕ, zero, suc, _+_, _-_, _*_, _/_, _%_, _^_, _≤_, _<_}
 use native.Mathlib.Nat.{le-trans, eq-zero-or-pos, zero-lt-suc, mul-pos, zero-mul, zero-div, zero-add, add-assoc, add-mod-left, mod-eq-of-lt, mod-le}
@@ -54,9 +54,9 @@ module _ (f : Format) (n : ℕ) (h : top f + n < 2 * top f) where
   signless : n < top f
   signless = omega arith
 
-  pub signless-bits : (s : Bool) → (cond s (top f) 0 + n) % top f ≡ 0 + n
-  signless-bits true = add-mod-left (top f) n ∙ mod-eq-of-lt signless ∙ sym (zero-add n)
-  signless-bits false = ap (λ (x : ℕ). x % top f) (zero-add n) ∙ mod-eq-of-lt signless ∙ sym (zero-add n)
+  signless-bits : (s : Bool) → (cond s (top f) 0 + n) % top f ≡ n
+  signless-bits true = add-mod-left (top f) n ∙ mod-eq-of-lt signless
+  signless-bits false = ap (λ (x : ℕ). x % top f) (zero-add n) ∙ mod-eq-of-lt signless
 
 -- the digits' and the exponent's bits of a finite number
 abbrev body : Format → ℕ → ℤ → ℕ
@@ -76,31 +76,31 @@ body-lt f s m e h = subst (λ (b : ℕ). b < 2 * top f) (split f true m e) (toBi
 
 -- the bits of a size, under either sign
 module _ (f : Format) (s t : Bool) where
-  fin-signed : (m : ℕ) (e : ℤ) → T (fits f (fin s m e)) → ofBits f (cond t (top f) 0 + toBits f (fin s m e) % top f) ≡ fin t m e
-  fin-signed m e h =
-      let size : toBits f (fin s m e) % top f ≡ body f m e = ap (λ (b : ℕ). b % top f) (split f s m e) ∙ signless-bits f (body f m e) (body-lt f s m e h) s ∙ zero-add (body f m e) in
-      ap (ofBits f) (ap (λ (b : ℕ). cond t (top f) 0 + b) size ∙ sym (split f t m e)) ∙ ofBits-toBits f (fin t m e) (fits-either f s t m e h)
+  signed-fin : (m : ℕ) (e : ℤ) → T (fits f (fin s m e)) → ofBits f (cond t (top f) 0 + toBits f (fin s m e) % top f) ≡ fin t m e
+  signed-fin m e h =
+      let rest : toBits f (fin s m e) % top f ≡ body f m e = ap (λ (b : ℕ). b % top f) (split f s m e) ∙ signless-bits f (body f m e) (body-lt f s m e h) s in
+      ap (ofBits f) (ap (λ (b : ℕ). cond t (top f) 0 + b) rest ∙ sym (split f t m e)) ∙ ofBits-toBits f (fin t m e) (fits-either f s t m e h)
 
-  inf-signed : ofBits f (cond t (top f) 0 + toBits f (inf s) % top f) ≡ inf t
+  signed-inf : ofBits f (cond t (top f) 0 + toBits f (inf s) % top f) ≡ inf t
   unfolding toBits
-  inf-signed =
+  signed-inf =
       let l : top f + ones f * hid f < 2 * top f = toBits-lt f (inf true) (inf-fits f true) in
-      ap (λ (b : ℕ). ofBits f (cond t (top f) 0 + b)) (signless-bits f (ones f * hid f) l s ∙ zero-add (ones f * hid f)) ∙ ofBits-toBits f (inf t) (inf-fits f t)
+      ap (λ (b : ℕ). ofBits f (cond t (top f) 0 + b)) (signless-bits f (ones f * hid f) l s) ∙ ofBits-toBits f (inf t) (inf-fits f t)
 
-pub sized-bits : (f : Format) (t : Bool) (x : Float) → T (fits f x) → T (not (isNan x)) → ofBits f (cond t (top f) 0 + toBits f x % top f) ≡ cond t (neg (absOf x)) (absOf x)
+pub signed-size : (f : Format) (t : Bool) (x : Float) → T (fits f x) → T (not (isNan x)) → ofBits f (cond t (top f) 0 + toBits f x % top f) ≡ cond t (neg (absOf x)) (absOf x)
 unfolding absOf negative neg isNan
-sized-bits f t nan h n = absurd n
-sized-bits f true (inf true) h n = inf-signed f true true
-sized-bits f true (inf false) h n = inf-signed f false true
-sized-bits f true (fin true m e) h n = fin-signed f true true m e h
-sized-bits f true (fin false m e) h n = fin-signed f false true m e h
-sized-bits f false (inf true) h n = inf-signed f true false
-sized-bits f false (inf false) h n = inf-signed f false false
-sized-bits f false (fin true m e) h n = fin-signed f true false m e h
-sized-bits f false (fin false m e) h n = fin-signed f false false m e h
+signed-size f t nan h n = absurd n
+signed-size f true (inf true) h n = signed-inf f true true
+signed-size f true (inf false) h n = signed-inf f false true
+signed-size f true (fin true m e) h n = signed-fin f true true m e h
+signed-size f true (fin false m e) h n = signed-fin f false true m e h
+signed-size f false (inf true) h n = signed-inf f true false
+signed-size f false (inf false) h n = signed-inf f false false
+signed-size f false (fin true m e) h n = signed-fin f true false m e h
+signed-size f false (fin false m e) h n = signed-fin f false false m e h
 
 pub abs-bits : (f : Format) (x : Float) → T (fits f x) → T (not (isNan x)) → ofBits f (toBits f x % top f) ≡ absOf x
-abs-bits f x h n = ap (ofBits f) (sym (zero-add (toBits f x % top f))) ∙ sized-bits f false x h n
+abs-bits f x h n = ap (ofBits f) (sym (zero-add (toBits f x % top f))) ∙ signed-size f false x h n
 
 pub abs-nan : (x : Float) → x ≡ nan → x ≡ absOf x
 unfolding absOf negative
@@ -110,13 +110,13 @@ pub abs-no-nan : (f : Format) (x : Float) → T (fits f x) → T (not (isNan x))
 abs-no-nan f x h n = no-nan-bits f (toBits f x % top f) (le-trans (mod-le (toBits f x % top f) (top f)) (magnitude-le f x h n))
 
 -- ---- not below zero: the bits are at most those of -0
-no-body : (f : Format) → (size 0 - prec f) * hid f + 0 / 2 ^ (size 0 - prec f) ≡ 0
+no-digits : (f : Format) → (size 0 - prec f) * hid f + 0 / 2 ^ (size 0 - prec f) ≡ 0
 unfolding size
-no-body binary32 = refl
-no-body binary64 = refl
+no-digits binary32 = refl
+no-digits binary64 = refl
 
-zero-body : (f : Format) (e : ℤ) → body f 0 e ≡ 0
-zero-body f e = ap (λ (n : ℕ). (size n - prec f) * hid f + n / 2 ^ (size n - prec f)) none ∙ no-body f
+body-zero : (f : Format) (e : ℤ) → body f 0 e ≡ 0
+body-zero f e = ap (λ (n : ℕ). (size n - prec f) * hid f + n / 2 ^ (size n - prec f)) none ∙ no-digits f
   where
     none : 0 * up e * 2 ^ low f / down e ≡ 0
     none = ap (λ (n : ℕ). n * 2 ^ low f / down e) (zero-mul (up e)) ∙ ap (λ (n : ℕ). n / down e) (zero-mul (2 ^ low f)) ∙ zero-div (down e)
@@ -126,8 +126,8 @@ unfolding ofBits
 minus-zero binary32 = refl
 minus-zero binary64 = refl
 
-some-body : (f : Format) (m : ℕ) (e : ℤ) → T (fits f (fin true (suc m) e)) → 0 < body f (suc m) e
-some-body f m e h = elim (eq-zero-or-pos (body f (suc m) e)) [
+body-pos : (f : Format) (m : ℕ) (e : ℤ) → T (fits f (fin true (suc m) e)) → 0 < body f (suc m) e
+body-pos f m e h = elim (eq-zero-or-pos (body f (suc m) e)) [
   | inl z ↦ absurd (subst (λ (x : Float). T (is-zero x)) (sym (minus-zero f) ∙ ap (ofBits f) (sym (split f true (suc m) e ∙ ap (λ (b : ℕ). top f + b) z)) ∙ ofBits-toBits f (fin true (suc m) e) h) tt)
   | inr p ↦ p
 ]
@@ -154,10 +154,10 @@ not-below-bits f (fin false m e) h n =
     ∙ sym (is-true (leb (toBits f (fin false m e)) (top f)) (subst (λ (b : ℕ). T (leb b (top f))) (sym (split f false m e)) (le→leb (0 + body f m e) (top f) (omega (arith, body-lt f false m e h)))))
 not-below-bits f (fin true zero e) h n =
     is-true (le nought (fin true 0 e)) (cross→le nought (fin true 0 e) tt tt (omega (arith, zero-mul (down e), zero-mul (up e))))
-    ∙ sym (is-true (leb (toBits f (fin true 0 e)) (top f)) (subst (λ (b : ℕ). T (leb b (top f))) (sym (split f true 0 e)) (le→leb (top f + body f 0 e) (top f) (omega (arith, zero-body f e)))))
+    ∙ sym (is-true (leb (toBits f (fin true 0 e)) (top f)) (subst (λ (b : ℕ). T (leb b (top f))) (sym (split f true 0 e)) (le→leb (top f + body f 0 e) (top f) (omega (arith, body-zero f e)))))
 not-below-bits f (fin true (suc m) e) h n =
     is-false (le nought (fin true (suc m) e)) (not-T (le nought (fin true (suc m) e)) (λ t. omega (arith, le→cross nought (fin true (suc m) e) tt tt t, zero-mul (down e), mul-pos (zero-lt-suc m) (up-pos e))))
-    ∙ sym (is-false (leb (toBits f (fin true (suc m) e)) (top f)) (subst (λ (b : ℕ). T (not (leb b (top f)))) (sym (split f true (suc m) e)) (lt→nleb (top f + body f (suc m) e) (top f) (omega (arith, some-body f m e h)))))
+    ∙ sym (is-false (leb (toBits f (fin true (suc m) e)) (top f)) (subst (λ (b : ℕ). T (not (leb b (top f)))) (sym (split f true (suc m) e)) (lt→nleb (top f + body f (suc m) e) (top f) (omega (arith, body-pos f m e h)))))
 
 -- ---- what owning a float tells of its bits
 module _ (f : Format) (x : Float) (own : fits f x ≡ true) where

@@ -1,4 +1,5 @@
--- `sign` sets the sign that `sign_from` gives over the bits of a's size (`sized-bits`).
+-- `sign` sets the sign that `sign_from` gives over the bits of a's size (`signed-size`), and is a NaN
+-- where a is one.
 use borrow.Author.Needs.{needs}
 use mathlib.Core.Path.{_≡_, refl, sym, ap, subst, _∙_}
 use mathlib.Core.Bool.{Bool, true, false, not, cond}
@@ -8,7 +9,7 @@ use lib.Dec.{T}
 use lib.Ieee.{Float, nan, neg, le, fits, isNan, binary32, nanBits, ofBits, toBits}
 use Rattle.base.specs.Number.{absOf}
 use Rattle.base.specs.Single.{decimal}
-use Rattle.base.proofs.rounding.Patterns.{is-nan, no-nan, no-nan-bits, abs-nan, held, capped, sized-bits}
+use Rattle.base.proofs.rounding.Patterns.{is-nan, no-nan, no-nan-bits, abs-nan, held, capped, signed-size}
 use Rattle.maps.specs.Geometry.{signOf}
 use Rattle.maps.proofs.geometry.sign.Statement.{statement}
 use Rattle.maps.proofs.geometry.sign.Tie as tie
@@ -34,8 +35,8 @@ no-nan-under true n h = no-nan-bits binary32 (0 + n) (omega arith)
 no-nan-under false n h = no-nan-bits binary32 (2 ^ 31 + n) (omega arith)
 
 under : (t : Bool) (a : Float) → T (fits binary32 a) → T (not (isNan a)) → ofBits binary32 (cond t 0 (2 ^ 31) + toBits binary32 a % 2 ^ 31) ≡ cond t (absOf a) (neg (absOf a))
-under true a h n = sized-bits binary32 false a h n
-under false a h n = sized-bits binary32 true a h n
+under true a h n = signed-size binary32 false a h n
+under false a h n = signed-size binary32 true a h n
 
 float-to-bits-result : tie.Need-float-to-bits-result
 float-to-bits-result c = no-nan (c .before .before .args .a) (c .before .if1 .left)
