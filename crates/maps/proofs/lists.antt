@@ -1,4 +1,5 @@
--- Loops, and buffers filled and written.
+-- Loops, buffers filled and written, and the table of series starts.
 pub mod Loops
 pub mod Refills
+pub mod SeriesStarts
 pub mod Written

@@ -1,5 +1,6 @@
 -- `virtim` of ionosphere.rs: every map's daily series worked out at an hour, 2,604 coefficients to
 -- 318. Maps are counted from 0 here. Assumes nothing.
+use mathlib.Core.Path.{_≡_}
 use Prim.Native.Nat.{ℕ, zero, suc, _+_, _-_, _*_, _<_}
 use mathlib.Core.List.{List}
 use lib.ListN.{getD, replicate}
@@ -58,6 +59,13 @@ coefficientIn cof k s j = getD cof (getD IA k 0 - 1 + j * getD IB k 0 + s) nan
 -- number of harmonics
 unfoldable pub rowValue : (ℕ → Wave) → List Float → List ℕ → ℕ → ℕ → Float
 rowValue v cof index iz j = valueOf v cof (getD IA iz 0 - 1 + j * getD IB iz 0) (mapWord index iz 9)
+
+-- Document 02, request 05: the rule of the table of series starts. At the place in AB of the row j
+-- of the map k it has the place in COFION of the row's first coefficient. Maps, rows and places are
+-- counted from 0, as IA and IC are not.
+pub record StartsRule (starts : List ℕ) : Type 0 where
+  pub at :
+      (k j : ℕ) → k < 6 → j < getD rows k 0 → getD starts (getD IC k 0 - 1 + j) 0 ≡ getD IA k 0 - 1 + j * getD IB k 0
 
 -- a map's rows 0 to word 8, put into AB from IC on
 unfoldable pub timeMapOf : (ℕ → Wave) → List Float → List ℕ → ℕ → List Float → List Float

@@ -8,10 +8,11 @@ use Rattle.base.proofs.order.Order.{Between}
 use Rattle.maps.proofs.sums.GeographicFunctions
 use Rattle.maps.proofs.field.FieldSums as Sums
 use Rattle.maps.proofs.field.Legendre
-use Rattle.results.specs.AsInTheRust.{Report340, SixSeries, PointSeries, FigureSeries, MapSeries, FilledClosed, FilledAt, PastEnd, InHarmonic, HourAt, HourElsewhere, EveryWord, EntryInside, EntriesApart, TableEntry, CofionEntry, HmymEntry, FakmapEntry, MapsShaped, PFilled, DpFilled, FieldSums, MagfinArrays, CtGauss, PathCount, LongFive, RowsPast, ClockRange, PointClock, ShownClock, Clock24Stays, Clock0Becomes24, ClockMinus0Becomes24, CngtimSettled, ZeroLeaves, ExactZero, EveryMoved, EveryTimes, EveryLocal, Known, CutShort, LastWrong, PartsMeet, PartsEnd, LineEntry, AbmapEntry, RowGmlat, SignMinusZero, SignNan, RunsMeet, RunsEnd}
+use Rattle.results.specs.AsInTheRust.{Report340, SixSeries, PointSeries, FigureSeries, MapSeries, FilledClosed, FilledAt, PastEnd, InHarmonic, HourAt, HourElsewhere, OneTable, HourFrom, EveryWord, EntryInside, EntriesApart, TableEntry, CofionEntry, HmymEntry, FakmapEntry, MapsShaped, PFilled, DpFilled, FieldSums, MagfinArrays, CtGauss, PathCount, LongFive, RowsPast, ClockRange, PointClock, ShownClock, Clock24Stays, Clock0Becomes24, ClockMinus0Becomes24, CngtimSettled, ZeroLeaves, ExactZero, EveryMoved, EveryTimes, EveryLocal, Known, CutShort, LastWrong, PartsMeet, PartsEnd, LineEntry, AbmapEntry, RowGmlat, SignMinusZero, SignNan, RunsMeet, RunsEnd}
 use Rattle.results.proofs.series.Report340 as Series
 use Rattle.results.proofs.series.FigureSeries as Figured
 use Rattle.results.proofs.series.DailySeries
+use Rattle.results.proofs.series.StartsTable
 use Rattle.results.proofs.files.TableEntries
 use Rattle.results.proofs.files.Marks
 use Rattle.results.proofs.files.FilePoints
@@ -73,6 +74,12 @@ ab-at = DailySeries.ab-at
 
 pub ab-other : HourElsewhere
 ab-other = DailySeries.ab-other
+
+pub one-table : OneTable
+one-table = StartsTable.one-table
+
+pub hour-from : HourFrom
+hour-from = StartsTable.hour-from
 
 -- ---- the words of the tables
 

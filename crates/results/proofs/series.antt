@@ -1,4 +1,5 @@
 -- The map series of CCIR Report 340.
 pub mod DailySeries
 pub mod Report340
+pub mod StartsTable
 pub mod FigureSeries

@@ -41,7 +41,7 @@ use Rattle.maps.specs.declared.ionosphere.clocks.Times.the-variants.{Hours, Ref
 use Rattle.maps.specs.declared.ionosphere.clocks.LocalTime.{LocalTime}
 use Rattle.maps.specs.declared.ionosphere.clocks.LocalTime.the-variants.{At, Refused as NoLocalTime}
 use Rattle.maps.specs.Loop.{loop}
-use Rattle.maps.specs.Virtim.{GoodTable, hourWave, dailyOf, coefficientIn, virtimOf}
+use Rattle.maps.specs.Virtim.{GoodTable, StartsRule, hourWave, dailyOf, coefficientIn, virtimOf}
 use Rattle.maps.specs.Versy.{harmonicOf, geographicOf, filledOf, topOf, versyOf, gammasOf}
 use Rattle.maps.specs.Series.{omegaOf}
 use Rattle.maps.specs.Ionosphere.{hourMapsOf, gammasAt}
@@ -201,6 +201,26 @@ HourElsewhere =
     (cof : List Float) (index : List ℕ) (gmt : Float) → GoodTable index →
     (p : ℕ) → p < 318 → ((k j : ℕ) → k < 6 → j ≤ mapWord index k 8 → getD IC k 0 - 1 + j ≡ p → ⊥) →
     getD (virtimOf cof index gmt) p nan ≡ decimal 0 1
+
+-- Document 02's rule of the table of series starts, by IA, IB and IC, is met by one list of 318
+-- numbers and by no other of that length.
+abbrev pub OneTable : Type 0
+OneTable =
+    (starts : List ℕ)
+    × (length starts ≡ 318)
+    × StartsRule starts
+    × ((other : List ℕ) → length other ≡ 318 → StartsRule other → other ≡ starts)
+
+-- Of a table that meets the rule and an index table whose six maps are good, AB holds at the place
+-- of each row up to word 8 the daily series of the coefficients from the table's entry at that place
+-- on.
+abbrev pub HourFrom : Type 0
+HourFrom =
+    (starts : List ℕ) → StartsRule starts → (cof : List Float) (index : List ℕ) (gmt : Float) → GoodTable index →
+    (k j : ℕ) → k < 6 → j ≤ mapWord index k 8 →
+    let p = getD IC k 0 - 1 + j in
+    let start = getD starts p 0 in
+    getD (virtimOf cof index gmt) p nan ≡ dailyOf (hourWave gmt) (λ s. getD cof (start + s) nan) (mapWord index k 9)
 
 -- ---- demand 2: the words of the tables
 

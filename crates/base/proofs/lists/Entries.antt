@@ -1,10 +1,12 @@
 -- A rule of a table, proved at all of its entries by one test that antt computes, one entry after
--- the other. Assumes nothing.
-use mathlib.Core.Path.{_∙_, subst, sym}
+-- the other; and a test of every number up to n, carried to each. Assumes nothing.
+use mathlib.Core.Path.{_≡_, _∙_, subst, sym}
 use mathlib.Core.Bool.{Bool, true, false}
 use mathlib.Core.List.{List, [], _∷_}
-use Prim.Native.Nat.{ℕ, zero, suc, _+_, _<_}
+use Prim.Native.Nat.{ℕ, zero, suc, _+_, _≤_, _<_}
 use native.Mathlib.Nat.{add-zero, zero-add, add-suc, suc-add, le-of-suc-le-suc, not-suc-le-zero}
+use native.Mathlib.Omega.{arith}
+use native.Mathlib.Decide.{decLt}
 use lib.Dec.{T}
 use lib.ListN.{length, getD}
 
@@ -34,3 +36,15 @@ from f (x ∷ xs) i t (suc k) h =
 
 pub at : (f : ℕ → ℕ → Bool) (xs : List ℕ) → T (every f 0 xs) → (k : ℕ) → k < length xs → T (f k (getD xs k 0))
 at f xs t k h = subst (λ (m : ℕ). T (f m (getD xs k 0))) (zero-add k) (from f xs 0 t k h)
+
+-- the test f passes at each number up to n
+abbrev pub upTo : (ℕ → Bool) → ℕ → Bool
+upTo f zero = f zero
+upTo f (suc n) = both (f (suc n)) (upTo f n)
+
+pub at-each : (f : ℕ → Bool) (n : ℕ) → T (upTo f n) → (k : ℕ) → k ≤ n → T (f k)
+at-each f zero t k h = let e : zero ≡ k = omega arith in subst (λ (m : ℕ). T (f m)) e t
+at-each f (suc n) t k h = elim (decLt k (suc n)) [
+  | yes q ↦ at-each f n (both-right (f (suc n)) (upTo f n) t) k (omega arith)
+  | no q ↦ let e : suc n ≡ k = omega arith in subst (λ (m : ℕ). T (f m)) e (both-left (f (suc n)) (upTo f n) t)
+]

@@ -1,6 +1,6 @@
 // VERSY: the six maps at a place.
 use crate::ionosphere::virtim::TimeMaps;
-use crate::ionosphere::virtim::start_of;
+use crate::ionosphere::virtim::first_row;
 use crate::ionosphere::virtim::word;
 use base::elementary::cos64;
 use base::elementary::sin64;
@@ -227,9 +227,9 @@ fn three_series(
         r ≡ threeOf (now (ab .entry)) (now (index .entry)) k x y z
         ) ⌝ }
 {
-    let i = start_of(k);
-    let j = start_of(k + 1);
-    let l = start_of(k + 2);
+    let i = first_row(k);
+    let j = first_row(k + 1);
+    let l = first_row(k + 2);
     let la = word(index, k, 8);
     let lb = word(index, k + 1, 8);
     let lc = word(index, k + 2, 8);

@@ -1,4 +1,6 @@
 // VIRTIM: the maps' coefficients at an hour.
+use crate::ionosphere::starts::SERIES_STARTS;
+use crate::ionosphere::starts::SeriesStarts;
 use base::angle::Degrees;
 use base::blend::SixMaps;
 use base::elementary::cos32;
@@ -9,7 +11,7 @@ ghost use Prim.Native.Nat.{_+_, _-_, _*_, _≤_, _<_};
 ghost use lib.ListN.{getD};
 ghost use Rattle.base.specs.Index.{mapWord};
 ghost use Rattle.base.specs.Blend.{IC};
-ghost use Rattle.maps.specs.Virtim.{GoodTable, hourWaves, waveIn, valueOf, timeMapOf, virtimOf};
+ghost use Rattle.maps.specs.Virtim.{GoodTable, StartsRule, hourWaves, waveIn, valueOf, timeMapOf, virtimOf};
 
 // The rows of the six maps: at an hour each is one coefficient.
 pub const AB_ROWS: usize = 318;
@@ -17,15 +19,11 @@ pub const AB_ROWS: usize = 318;
 // `AB`, the coefficients of the six maps at an hour, one map after the other.
 pub type TimeMaps = [f32; AB_ROWS];
 
-// Where the run of each map begins among the 2,604 of `COFION`, counted from 1.
-const IA: [usize; 6] = [1, 276, 703, 978, 1966, 2407];
-// How many coefficients a row of each map has.
-const IB: [usize; 6] = [5, 7, 5, 13, 9, 9];
 // Where the rows of each map begin among the 318 of `AB`, counted from 1.
 const IC: [usize; 6] = [1, 56, 117, 172, 248, 297];
 
-// Where the coefficients of the map k start in `AB`, from 0 on.
-pub(crate) fn start_of(k: usize) -> usize
+// Where the rows of the map k begin in `AB`, counted from 0.
+pub(crate) fn first_row(k: usize) -> usize
     requires { ⌜ k < 6 ⌝ }
     ensures { λ r. ⌜ r ≡ getD IC k 0 - 1 ⌝ }
 {
@@ -34,6 +32,13 @@ pub(crate) fn start_of(k: usize) -> usize
 
 // A word as an index.
 fn wide(x: u32) -> usize
+    ensures { λ r. ⌜ r ≡ x ⌝ }
+{
+    x as usize
+}
+
+// A start as an index.
+fn wide_start(x: u16) -> usize
     ensures { λ r. ⌜ r ≡ x ⌝ }
 {
     x as usize
@@ -76,44 +81,68 @@ fn hour_waves(gmt: f32) -> Waves
     Waves { c, s }
 }
 
-// A row's series at the hour: its mean, which stands at `at`, and n harmonics.
-fn row_value(cof: &SixMaps, at: usize, n: usize, c: &[f32; 8], s: &[f32; 8]) -> f32
-    requires { ⌜ (n ≤ 8) × (at + 2 * n < 2604) ⌝ }
-    ensures { λ r. ⌜ r ≡ valueOf (waveIn (now (c .entry)) (now (s .entry))) (now (cof .entry)) at n ⌝ }
-{
-    let mut value = cof[at];
-    let mut ka = 0usize;
-    while ka < n {
-        value = value + s[ka] * cof[at + 2 * ka + 1] + c[ka] * cof[at + 2 * ka + 2];
-        ka += 1;
-    }
-    value
+// The values of two series.
+struct TwoValues {
+    first: f32,
+    second: f32,
 }
 
-// All rows of the map k, put into `AB`.
+// Two rows' series at the hour: their means, which stand at a and b, and n harmonics of each. Two at
+// a time, so that each wave is read once for both.
+fn two_values(cof: &SixMaps, a: usize, b: usize, n: usize, c: &[f32; 8], s: &[f32; 8]) -> TwoValues
+    requires { ⌜ (n ≤ 8) × (a + 2 * n < 2604) × (b + 2 * n < 2604) ⌝ }
+    ensures first { λ r. ⌜ (
+        r .first ≡ valueOf (waveIn (now (c .entry)) (now (s .entry))) (now (cof .entry)) a n
+        ) ⌝ }
+    ensures second { λ r. ⌜ (
+        r .second ≡ valueOf (waveIn (now (c .entry)) (now (s .entry))) (now (cof .entry)) b n
+        ) ⌝ }
+{
+    let mut first = cof[a];
+    let mut second = cof[b];
+    let mut ka = 0usize;
+    while ka < n {
+        let sine = s[ka];
+        let cosine = c[ka];
+        first = first + sine * cof[a + 2 * ka + 1] + cosine * cof[a + 2 * ka + 2];
+        second = second + sine * cof[b + 2 * ka + 1] + cosine * cof[b + 2 * ka + 2];
+        ka += 1;
+    }
+    TwoValues { first, second }
+}
+
+// The rows of the map k up to word 8, put into `AB`; the table says where the series of each starts.
 fn time_map(
     cof: &SixMaps,
     index: &IndexTable,
+    starts: &SeriesStarts,
     k: usize,
     c: &[f32; 8],
     s: &[f32; 8],
     ab: &mut TimeMaps,
 )
-    requires { ⌜ GoodTable (now index) × (k < 6) ⌝ }
+    requires { ⌜ GoodTable (now index) × StartsRule (now starts) × (k < 6) ⌝ }
     ensures { λ _. ⌜ (
         let wave = waveIn (now (c .entry)) (now (s .entry)) in
         now (ab .exit) ≡ timeMapOf wave (now (cof .entry)) (now (index .entry)) k (now (ab .entry))
         ) ⌝ }
 {
-    let first = IA[k] - 1;
-    let width = IB[k];
-    let start = start_of(k);
-    let last = word(index, k, 8);
+    let mut row = first_row(k);
+    let last = row + word(index, k, 8);
     let n = word(index, k, 9);
-    let mut j = 0usize;
-    while j <= last {
-        ab[start + j] = row_value(cof, first + j * width, n, c, s);
-        j += 1;
+    while row < last {
+        let a = wide_start(starts[row]);
+        let b = wide_start(starts[row + 1]);
+        let two = two_values(cof, a, b, n, c, s);
+        ab[row] = two.first;
+        ab[row + 1] = two.second;
+        row += 2;
+    }
+    // The last of an odd number of rows, taken as both.
+    if row == last {
+        let a = wide_start(starts[row]);
+        let one = two_values(cof, a, a, n, c, s);
+        ab[row] = one.first;
     }
 }
 
@@ -128,7 +157,7 @@ pub(crate) fn virtim(cof: &SixMaps, index: &IndexTable, gmt: f32) -> TimeMaps
     let mut ab = [0.0f32; AB_ROWS];
     let mut k = 0usize;
     while k < 6 {
-        time_map(cof, index, k, &c, &s, &mut ab);
+        time_map(cof, index, &SERIES_STARTS, k, &c, &s, &mut ab);
         k += 1;
     }
     ab

@@ -26,12 +26,13 @@ use Rattle.base.specs.Elementary.{nearOf, turnsOf, reducedOf, quarterOf, halfPi
 use Rattle.base.specs.Words.{floatAt}
 use Rattle.base.specs.Tables.{startOf, anew, bnew, achi, bchi, abmap}
 use Rattle.base.proofs.verdicts.Picks.{cond-false}
+use Rattle.base.proofs.lists.Entries.{upTo, at-each}
 use Rattle.base.proofs.order.Order.{nought, Between, wider, trans-le, refl-le, total-le, lt→le, not-lt→le, le-right, no-nan-finite, finite-between, between-finite, abs-not-below, abs→le, le→abs, le-abs, abs-fin}
 use Rattle.base.proofs.order.Monotone.{sub-mono, abs-div, div-not-below}
 use Rattle.base.proofs.order.Intervals.{every, all, exactly, add-in, sub-in, mul-in, div-in, sqrt-in, between-positive}
 use Rattle.results.proofs.numbers.Bounds.{acos32-range}
 use Rattle.results.proofs.numbers.Sizes.{Sized, plus-sized, less-sized, times-sized, between-sized, larger, sized-number, sized-finite}
-use Rattle.results.proofs.numbers.DoubleSizes.{over-sized, turned-sized, either-sized, upTo, at-each}
+use Rattle.results.proofs.numbers.DoubleSizes.{over-sized, turned-sized, either-sized}
 use Rattle.results.proofs.numbers.SineSizes.{nine, sin32-sized, cos32-sized}
 use Rattle.results.proofs.numbers.LogSizes.{logs, ln32-sized}
 use Rattle.results.proofs.finite.ExpNumbers.{add-number, exp32-number, exp32-sized}

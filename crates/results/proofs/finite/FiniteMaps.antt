@@ -30,8 +30,9 @@ use Rattle.base.specs.Index.{mapWord, rows}
 use Rattle.base.proofs.order.Order.{nought, Between}
 use Rattle.base.proofs.order.Intervals.{every}
 use Rattle.results.proofs.numbers.Sizes.{Sized, plus-sized, less-sized, times-sized, between-sized, larger}
-use Rattle.results.proofs.numbers.DoubleSizes.{plus64-sized, times64-sized, over-sized, narrowed-sized, either-sized, upTo, at-each}
+use Rattle.results.proofs.numbers.DoubleSizes.{plus64-sized, times64-sized, over-sized, narrowed-sized, either-sized}
 use Rattle.results.proofs.numbers.SineSizes.{nine, sin-sized, cos-sized, sin32-sized, cos32-sized}
+use Rattle.base.proofs.lists.Entries.{upTo, at-each}
 use Rattle.base.proofs.lists.Fills.{length-fill, fill-at, fill-other, run-at}
 use Rattle.base.proofs.ladder.Ladders.{six, limits}
 use Rattle.base.proofs.ladder.Indexing.{reads-inside}

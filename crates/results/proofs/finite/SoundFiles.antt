@@ -26,9 +26,9 @@ use Rattle.base.specs.Number.{negative, absOf}
 use Rattle.base.specs.Words.{wordAt, floatAt}
 use Rattle.base.specs.MonthFile.{recordSize, sizes}
 use Rattle.base.specs.Tables.{numbered, noSuchTable, wordsIn, startOf, wordsOf}
+use Rattle.base.proofs.lists.Entries.{upTo, at-each}
 use Rattle.maps.specs.declared.inputs.Inputs.{Inputs}
 use Rattle.results.specs.FiniteOrNot.{UpToPower, RouteInRange, FieldsInRange, isRead, Bounded, SoundFiles}
-use Rattle.results.proofs.numbers.DoubleSizes.{upTo, at-each}
 use Rattle.results.proofs.files.MadeFiles.{fourBytes, fileOf, length-front}
 use Rattle.results.proofs.files.GoodFiles.{
   wordBytes,

@@ -1,15 +1,10 @@
--- `Sized` for what `Sizes` leaves out: sums and products in binary64, narrowing, and quotients; and
--- a test that every number up to n passes, which bounds along a sum or a product go by. Assumes
--- nothing.
-use mathlib.Core.Path.{_≡_, sym, subst}
-use mathlib.Core.Bool.{Bool, true, false, _&&_, cond}
+-- `Sized` for what `Sizes` leaves out: sums and products in binary64, narrowing, and quotients.
+-- Assumes nothing.
+use mathlib.Core.Path.{sym, subst}
+use mathlib.Core.Bool.{Bool, true, false, cond}
 use mathlib.Core.List.{[], _∷_}
-use Prim.Native.Nat.{ℕ, zero, suc, _≤_}
-use native.Mathlib.Omega.{arith}
-use native.Mathlib.Decide.{decLt}
 use lib.Dec.{T}
 use lib.Ieee.{Float, binary32, binary64, neg, add, mul, le}
-use lib.Ieee.Fits.{and-l, and-r}
 use lib.Ieee.Scale.{finite}
 use lib.Ieee.Positive.{positive}
 use Rattle.base.specs.Single.{_⊘_}
@@ -39,15 +34,3 @@ turned-sized {a} {x} h = record { size = subst (λ (z : Float). T (le z a)) (sym
 pub either-sized : {a x y : Float} (b : Bool) → Sized a x → Sized a y → Sized a (cond b x y)
 either-sized true h k = h
 either-sized false h k = k
-
--- ---- a test of every number up to n
-abbrev pub upTo : (ℕ → Bool) → ℕ → Bool
-upTo f zero = f zero
-upTo f (suc n) = f (suc n) && upTo f n
-
-pub at-each : (f : ℕ → Bool) (n : ℕ) → T (upTo f n) → (k : ℕ) → k ≤ n → T (f k)
-at-each f zero t k h = let e : zero ≡ k = omega arith in subst (λ (m : ℕ). T (f m)) e t
-at-each f (suc n) t k h = elim (decLt k (suc n)) [
-  | yes q ↦ at-each f n (and-r (f (suc n)) (upTo f n) t) k (omega arith)
-  | no q ↦ let e : suc n ≡ k = omega arith in subst (λ (m : ℕ). T (f m)) e (and-l (f (suc n)) (upTo f n) t)
-]

@@ -46,9 +46,9 @@ together-requires c κs =
     let n = c .least2 .result in
     let l = c .least2 .ensures in
     let m = c .before .least .ensures in
-    let u = inside (a .index .now) (a .k) n (s .before .before .start-of .result) (b .before .before .word .result) (pre .0) (omega arith) (s .before .before .start-of .ensures) (b .before .before .word .ensures) (le-trans (l .0) (m .0)) in
-    let v = inside (a .index .now) (a .k + 1) n (s .before .start-of2 .result) (b .before .word2 .result) (pre .0) (omega arith) (s .before .start-of2 .ensures) (b .before .word2 .ensures) (le-trans (l .0) (m .1)) in
-    let w = inside (a .index .now) (a .k + 2) n (s .start-of3 .result) (b .word3 .result) (pre .0) (omega arith) (s .start-of3 .ensures) (b .word3 .ensures) (l .1) in
+    let u = inside (a .index .now) (a .k) n (s .before .before .first-row .result) (b .before .before .word .result) (pre .0) (omega arith) (s .before .before .first-row .ensures) (b .before .before .word .ensures) (le-trans (l .0) (m .0)) in
+    let v = inside (a .index .now) (a .k + 1) n (s .before .first-row2 .result) (b .before .word2 .result) (pre .0) (omega arith) (s .before .first-row2 .ensures) (b .before .word2 .ensures) (le-trans (l .0) (m .1)) in
+    let w = inside (a .index .now) (a .k + 2) n (s .first-row3 .result) (b .word3 .result) (pre .0) (omega arith) (s .first-row3 .ensures) (b .word3 .ensures) (l .1) in
     (u .most, u .place, v .place, w .place)
 
 two-further-requires : tie.Need-two-further-requires
@@ -59,8 +59,8 @@ two-further-requires c κs =
     let pre = s .before .before .before .pre in
     let n = c .before .before .least .result in
     let m = c .before .before .least .ensures in
-    let u = inside (a .index .now) (a .k) n (s .before .before .start-of .result) (b .before .before .word .result) (pre .0) (omega arith) (s .before .before .start-of .ensures) (b .before .before .word .ensures) (m .0) in
-    let v = inside (a .index .now) (a .k + 1) n (s .before .start-of2 .result) (b .before .word2 .result) (pre .0) (omega arith) (s .before .start-of2 .ensures) (b .before .word2 .ensures) (m .1) in
+    let u = inside (a .index .now) (a .k) n (s .before .before .first-row .result) (b .before .before .word .result) (pre .0) (omega arith) (s .before .before .first-row .ensures) (b .before .before .word .ensures) (m .0) in
+    let v = inside (a .index .now) (a .k + 1) n (s .before .first-row2 .result) (b .before .word2 .result) (pre .0) (omega arith) (s .before .first-row2 .ensures) (b .before .word2 .ensures) (m .1) in
     (ap (λ (x : Sums). x .a) (c .together .ensures), ap (λ (x : Sums). x .b) (c .together .ensures), c .before .least2 .ensures .0, u .most, u .place, v .place)
 
 finished-requires : tie.Need-finished-requires
@@ -70,7 +70,7 @@ finished-requires c κs =
     let a = s .before .before .before .args in
     let pre = s .before .before .before .pre in
     let last = b .before .before .word .result in
-    let u = inside (a .index .now) (a .k) last (s .before .before .start-of .result) last (pre .0) (omega arith) (s .before .before .start-of .ensures) (b .before .before .word .ensures) (omega arith) in
+    let u = inside (a .index .now) (a .k) last (s .before .before .first-row .result) last (pre .0) (omega arith) (s .before .before .first-row .ensures) (b .before .before .word .ensures) (omega arith) in
     (ap (λ (x : Pair). x .a) (c .two-further .ensures), c .before .before .before .least .ensures .0, u .most, u .place)
 
 finished-requires-2 : tie.Need-finished-requires-2
@@ -80,7 +80,7 @@ finished-requires-2 c κs =
     let a = s .before .before .before .args in
     let pre = s .before .before .before .pre in
     let last = b .before .word2 .result in
-    let u = inside (a .index .now) (a .k + 1) last (s .before .start-of2 .result) last (pre .0) (omega arith) (s .before .start-of2 .ensures) (b .before .word2 .ensures) (omega arith) in
+    let u = inside (a .index .now) (a .k + 1) last (s .before .first-row2 .result) last (pre .0) (omega arith) (s .before .first-row2 .ensures) (b .before .word2 .ensures) (omega arith) in
     (ap (λ (x : Pair). x .b) (c .before .two-further .ensures), c .before .before .before .before .least .ensures .1, u .most, u .place)
 
 finished-requires-3 : tie.Need-finished-requires-3
@@ -90,7 +90,7 @@ finished-requires-3 c κs =
     let a = s .before .before .before .args in
     let pre = s .before .before .before .pre in
     let last = b .word3 .result in
-    let u = inside (a .index .now) (a .k + 2) last (s .start-of3 .result) last (pre .0) (omega arith) (s .start-of3 .ensures) (b .word3 .ensures) (omega arith) in
+    let u = inside (a .index .now) (a .k + 2) last (s .first-row3 .result) last (pre .0) (omega arith) (s .first-row3 .ensures) (b .word3 .ensures) (omega arith) in
     (ap (λ (x : Sums). x .c) (c .before .before .before .together .ensures), c .before .before .before .before .least2 .ensures .1, u .most, u .place)
 
 returns : tie.Need-returns
@@ -99,9 +99,9 @@ returns c =
     let b = c .before .before .before .before .before .before .before in
     let s = b .before .before .before in
     let a = s .before .before .before .args in
-    let x = series-of (a .ab .now) (a .index .now) (a .k) (elements (a .ga .now)) (s .before .before .start-of .ensures) (b .before .before .word .ensures) (c .before .before .finished .ensures) in
-    let y = series-of (a .ab .now) (a .index .now) (a .k + 1) (elements (a .gb .now)) (s .before .start-of2 .ensures) (b .before .word2 .ensures) (c .before .finished2 .ensures) in
-    let z = series-of (a .ab .now) (a .index .now) (a .k + 2) (elements (a .gc .now)) (s .start-of3 .ensures) (b .word3 .ensures) (c .finished3 .ensures) in
+    let x = series-of (a .ab .now) (a .index .now) (a .k) (elements (a .ga .now)) (s .before .before .first-row .ensures) (b .before .before .word .ensures) (c .before .before .finished .ensures) in
+    let y = series-of (a .ab .now) (a .index .now) (a .k + 1) (elements (a .gb .now)) (s .before .first-row2 .ensures) (b .before .word2 .ensures) (c .before .finished2 .ensures) in
+    let z = series-of (a .ab .now) (a .index .now) (a .k + 2) (elements (a .gc .now)) (s .first-row3 .ensures) (b .word3 .ensures) (c .finished3 .ensures) in
     λ t. record { a = x t; b = y t; c = z t }
 
 pub three-series-spec : {M : Type 1} → statement M

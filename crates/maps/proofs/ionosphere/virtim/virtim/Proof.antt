@@ -1,6 +1,6 @@
--- `virtim` is `virtimOf`. The loop's invariant: AB is what the loop of the definition has at k. The
--- arrays of cosines and sines hold the waves that the definition takes, as far as a map's harmonics
--- go.
+-- `virtim` is `virtimOf`. The loop's invariant: AB is what the loop of the definition has at k, and
+-- the table that is lent keeps its rule, which is computed here over all of its entries. The arrays
+-- of cosines and sines hold the waves that the definition takes, as far as a map's harmonics go.
 use borrow.Author.Needs.{needs}
 use Prim.Native.Nat.{ℕ, zero, suc, _+_, _-_, _*_, _≤_, _<_}
 use mathlib.Core.Path.{_≡_, refl, ap, _∙_}
@@ -17,16 +17,18 @@ use Rattle.base.proofs.lists.Fills.{run-at}
 use Rattle.base.proofs.ladder.Ladders.{limits}
 use Rattle.maps.specs.declared.ionosphere.virtim.Waves.{Waves}
 use Rattle.maps.specs.Loop.{loop}
-use Rattle.maps.specs.Virtim.{GoodTable, Wave, hourWave, hourWaves, waveIn, valueOf, rowValue, timeMapOf, virtimOf}
+use Rattle.maps.specs.Virtim.{GoodTable, StartsRule, Wave, hourWave, hourWaves, waveIn, valueOf, rowValue, timeMapOf, virtimOf}
 use Rattle.maps.proofs.lists.Loops.{loop-start, loop-turn}
+use Rattle.maps.proofs.lists.SeriesStarts.{carried}
 use Rattle.maps.proofs.ionosphere.virtim.virtim.Statement.{statement}
 use Rattle.maps.proofs.ionosphere.virtim.virtim.Tie as tie
 
 abbrev Inv-loop : tie.InvT-loop
-Inv-loop cof index gmt c s ab₀ k₀ ab k = (k ≤ 6) × (ab ≡ loop 0 k (timeMapOf (hourWave gmt) cof index) ab₀)
+Inv-loop cof index gmt c s ab₀ k₀ starts ab k =
+    (k ≤ 6) × (ab ≡ loop 0 k (timeMapOf (hourWave gmt) cof index) ab₀) × StartsRule starts
 
 abbrev μ-loop : tie.MeasureT-loop
-μ-loop cof index gmt c s ab₀ k₀ ab k = 6 - k
+μ-loop cof index gmt c s ab₀ k₀ starts ab k = 6 - k
 
 wave-in : (gmt : Float) (i : ℕ) → i < 8 → waveIn (hourWaves gmt .c) (hourWaves gmt .s) i ≡ hourWave gmt i
 unfolding hourWaves waveIn
@@ -55,11 +57,11 @@ map-same cof index gmt w k ab good h e =
     (λ i q. wave-in gmt i (omega arith)) t)
 
 loop-holds : tie.Need-loop-holds Inv-loop μ-loop
-loop-holds c = (search needs, loop-start 0 _ _)
+loop-holds c = (search needs, loop-start 0 _ _, carried _ tt)
 
 loop-again : tie.Need-loop-again Inv-loop μ-loop
 loop-again c =
-    let k = c .before .before .before .before .before in
+    let k = c .before .before .before .before .before .before in
     let w = k .before .before .before in
     let s = w .before in
     let f = timeMapOf (hourWave (s .args .gmt)) (now (s .args .cof)) (now (s .args .index)) in (
@@ -67,7 +69,8 @@ loop-again c =
       loop-turn 0 f _ (k .loop .k) (omega arith) (k .loop .inv .1)
           (c .time-map .ensures
           ∙ map-same (now (s .args .cof)) (now (s .args .index)) (s .args .gmt) (w .hour-waves .result) (k .loop .k) _ (s .pre)
-          (c .before .before .before .before .loop-test .taken) (w .hour-waves .ensures)),
+          (c .before .before .before .before .before .loop-test .taken) (w .hour-waves .ensures)),
+      k .loop .inv .2,
     )
 
 returns : tie.Need-returns Inv-loop μ-loop
@@ -82,7 +85,9 @@ virtim-spec =
     μ-loop
     (λ c κs. search needs)
     loop-holds
-    (λ c κs. (c .before .before .before .before .before .before .before .before .pre, c .before .before .before .loop-test .taken))
+    (λ c κs.
+    let k = c .before .before .before .before in
+    (k .before .before .before .before .before .pre, k .before .loop .inv .2, k .loop-test .taken))
     (λ c. search needs)
     (λ c. search needs)
     loop-again
