@@ -15,13 +15,14 @@ mod reference;
 
 use commands::{
     answer, bulk_desk, bulk_desk_lines, bulk_journals, bulk_lines, bulk_routes, bulk_sheet,
-    bulk_year_journals, clocks, data, desk, desk_words, files, journals, lines, numbers, pages,
-    replay_input, routes, self_check, sheet_inputs, sheets, time_sheets, year, year_journals,
+    bulk_year_journals, clocks, data, desk, desk_words, files, hours, journals, lines, numbers,
+    pages, replay_input, routes, self_check, sheet_inputs, sheets, time_sheets, year,
+    year_journals,
 };
 #[cfg(linked)]
 use commands::{
     bulk_clocks, bulk_files, bulk_layers, bulk_lists, bulk_numbers, bulk_sheets, bulk_tables,
-    bulk_years, repeat_sheets, time_layers, time_numbers, time_paths, time_years,
+    bulk_years, repeat_sheets, time_hours, time_layers, time_numbers, time_paths, time_years,
 };
 // The compared Rust names its modules from here.
 use reference::voacap;
@@ -49,6 +50,7 @@ const USAGE: &str = "usage:
   oracle bulk-years COUNT SEED                  compare year files' directories with the model
   oracle routes FILE                            write the vectors of path geometry and field
   oracle bulk-routes FILE COUNT SEED            write random routes in the same form, to be replayed
+  oracle hours FILE                             write the vectors of the hour step
   oracle sheets FILE                            write the vectors of whole sheets
   oracle bulk-sheets COUNT SEED                 compare the port's figures with the Rust's
   oracle bulk-layers COUNT SEED                 compare the parts of the port's sheets with the Rust's
@@ -78,6 +80,7 @@ const USAGE: &str = "usage:
   oracle time-sheets                            time whole sheets and the Rust's parts of them
   oracle time-years                             time showings over a year file and over pairs of files
   oracle time-layers                            time sheets, refused files and parts of both sides
+  oracle time-hours                             time the maps at an hour, the hour step by itself
   oracle time-paths                             time paths near the poles and anywhere
   oracle repeat-sheets SIDE KIND COUNT          make sheets by one side, to count instructions
   oracle self-check                             hold the steps against the library's functions";
@@ -102,6 +105,7 @@ fn command(words: &[&str]) -> Result<(), String> {
         ["clocks", file] => clocks::run(file),
         ["routes", file] => routes::run(file),
         ["bulk-routes", file, count, seed] => bulk_routes::run(file, count, seed),
+        ["hours", file] => hours::run(file),
         ["sheets", file] => sheets::run(file),
         ["year", file, seed] => year::run(file, seed),
         ["year-parts", folder, file] => year::parts(folder, file),
@@ -166,6 +170,7 @@ fn with_port(words: &[&str]) -> Result<(), String> {
         ["bulk-years", count, seed] => bulk_years::run(count, seed),
         ["time-layers"] => time_layers::run(),
         ["time-years"] => time_years::run(),
+        ["time-hours"] => time_hours::run(),
         ["time-paths"] => time_paths::run(),
         ["repeat-sheets", side, kind, count] => repeat_sheets::run(side, kind, count),
         _ => Err(String::from(USAGE)),
@@ -178,7 +183,7 @@ fn with_port(words: &[&str]) -> Result<(), String> {
         ["bulk-numbers" | "bulk-files" | "bulk-clocks" | "bulk-tables", ..]
         | ["bulk-sheets" | "bulk-layers" | "bulk-lists" | "bulk-year-lists", ..]
         | ["bulk-years" | "time-numbers" | "time-layers" | "time-years", ..]
-        | ["time-paths" | "repeat-sheets", ..] => {
+        | ["time-hours" | "time-paths" | "repeat-sheets", ..] => {
             "this needs the port: build with JUTETROWEL_LIB set to the folder \
              that holds libjutetrowel.a"
         }

@@ -2,6 +2,7 @@
 // many differ.
 mod clocks;
 mod files;
+mod hours;
 mod numbers;
 mod routes;
 mod row;
@@ -12,6 +13,7 @@ fn main() {
     numbers::replay();
     files::replay();
     routes::replay();
+    hours::replay();
     sheets::replay();
     clocks::replay();
     tables::replay();

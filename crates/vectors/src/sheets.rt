@@ -23,7 +23,7 @@ ghost use Prim.Native.Nat.{_+_, _*_, _<_, _≤_};
 ghost use lib.ListN.{length};
 
 // What no sheet has: each buffer is lent full of it.
-const LENT: f32 = -12345.0;
+pub const LENT: f32 = -12345.0;
 
 // The largest buffer that is lent to a refused showing.
 const LARGEST: usize = 200;
@@ -73,13 +73,13 @@ fn is_sheet(row: &[u8; 664], record: &[u8; RECORD], month: &[u8; MONTH_FILE]) ->
     t.number == 0 && t.place == word(row, 14) && is_figures(&out, row)
 }
 
-fn next_record(fd: i32) -> [u8; RECORD] {
+pub fn next_record(fd: i32) -> [u8; RECORD] {
     let mut record = [0u8; RECORD];
     io::read_full(fd, &mut record);
     record
 }
 
-fn next_month(fd: i32) -> [u8; MONTH_FILE] {
+pub fn next_month(fd: i32) -> [u8; MONTH_FILE] {
     let mut month = [0u8; MONTH_FILE];
     io::read_full(fd, &mut month);
     month

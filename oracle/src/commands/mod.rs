@@ -29,6 +29,7 @@ pub mod data;
 pub mod desk;
 pub mod desk_words;
 pub mod files;
+pub mod hours;
 pub mod journals;
 pub mod lines;
 pub mod numbers;
@@ -40,6 +41,8 @@ pub mod routes;
 pub mod self_check;
 pub mod sheet_inputs;
 pub mod sheets;
+#[cfg(linked)]
+pub mod time_hours;
 #[cfg(linked)]
 pub mod time_layers;
 #[cfg(linked)]

@@ -1,9 +1,10 @@
 //! `repeat-sheets SIDE KIND COUNT`: COUNT sheets of one kind, or one part of
-//! as many, or paths near the poles or anywhere, by one side, and nothing else
-//! that depends on COUNT, for a tool that counts instructions.
+//! as many, or maps at an hour, or paths near the poles or anywhere, by one side,
+//! and nothing else that depends on COUNT, for a tool that counts instructions.
 
 use crate::commands::parts::{Part, Parts};
 use crate::commands::sides::{Sides, Wrong};
+use crate::commands::time_hours::{Hours, KINDS};
 use crate::commands::time_paths::{by_port, by_rust, paths};
 use crate::commands::whole;
 use crate::draw::data_files::named;
@@ -31,6 +32,13 @@ pub fn run(side: &str, kind: &str, count: &str) -> Result<(), String> {
         });
         return Ok(());
     }
+    if let Some(hours) = kind.strip_prefix("hour ").and_then(Hours::of) {
+        repeat(&hours.cases, count, |case| match port {
+            true => hours.port(case),
+            false => hours.rust(case),
+        });
+        return Ok(());
+    }
     let sides = sides(kind)?;
     sides.assert_alike();
     repeat(&sides.cases, count, |case| match port {
@@ -47,7 +55,10 @@ fn sides(kind: &str) -> Result<Sides, String> {
         "half" => Sides::refused(pair, Wrong::Half),
         points => Sides::whole(pair, whole(points)? as u32),
     };
-    sides.ok_or_else(|| format!("{kind} is no kind: 1, 3, 5, marker, half, a part's name, path near poles or path anywhere"))
+    sides.ok_or_else(|| {
+        let hours = KINDS.map(|kind| format!("hour {kind}")).join(", ");
+        format!("{kind} is no kind: 1, 3, 5, marker, half, a part's name, path near poles, path anywhere, {hours}")
+    })
 }
 
 /// The same cases again and again, in their order.

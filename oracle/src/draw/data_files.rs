@@ -27,6 +27,9 @@ const ACHI: usize = 11;
 const FAKMAP: usize = 13;
 const ABMAP: usize = 14;
 const XESMCF: usize = 15;
+const XESLCF: usize = 17;
+const XESUCF: usize = 18;
+const XERCOF: usize = 19;
 
 /// The pair's words before they become bytes.
 struct Parts {
@@ -109,6 +112,35 @@ pub fn far_below_zero() -> Pair {
     let mut parts = calm_parts(&mut Generator::new(307), &USUAL, 1);
     set_m3000(&mut parts, -1.2e7);
     parts.pair()
+}
+
+/// Each coefficient of the six maps is its own place among the 2,604, in both
+/// planes alike, and so it is when they are blended at a whole sunspot number.
+pub fn counting(ikim: &IndexTable) -> Pair {
+    let Parts {
+        mut records,
+        mut tables,
+    } = calm_parts(&mut Generator::new(308), ikim, 1);
+    let mut next = 0;
+    for table in [XESLCF, XESMCF, XESUCF] {
+        next = count_on(&mut tables[table], next);
+    }
+    next = count_on(&mut records[0], next);
+    for table in [XFM3CF, XERCOF] {
+        next = count_on(&mut tables[table], next);
+    }
+    Parts { records, tables }.pair()
+}
+
+/// The places from `first` on in each of two planes; the next place.
+fn count_on(words: &mut [u32], first: usize) -> usize {
+    let width = words.len() / 2;
+    for plane in words.chunks_mut(width) {
+        for (word, place) in plane.iter_mut().zip(first..) {
+            *word = (place as f32).to_bits();
+        }
+    }
+    first + width
 }
 
 /// A thin F2 at about 570 km: a height ratio of 30 and M(3000) of 2.

@@ -80,6 +80,23 @@ pub const LEAST: IndexTable = [
     [61, 63, 65, 67, 69, 71, 73, 73, 0, 0],
 ];
 
+/// The usual table without a harmonic of time, so that a row's series is its
+/// first coefficient.
+pub fn flat() -> IndexTable {
+    USUAL.map(|mut words| {
+        words[9] = 0;
+        words
+    })
+}
+
+/// The usual ladders with one term of each map and no harmonic.
+pub fn single() -> IndexTable {
+    flat().map(|mut words| {
+        words[8] = 0;
+        words
+    })
+}
+
 /// A random table that passes.
 pub fn good(random: &mut Generator) -> IndexTable {
     from_fn(|map| good_map(random, map))
@@ -166,13 +183,18 @@ fn other_word(random: &mut Generator, map: usize, old: i32) -> i32 {
 
 #[cfg(test)]
 mod tests {
-    use super::{good, near_good, AT_ONCE, BEYOND, LEAST, LONG, LONGEST, SHORT, USUAL};
+    use super::{flat, good, near_good, single};
+    use super::{AT_ONCE, BEYOND, LEAST, LONG, LONGEST, SHORT, USUAL};
     use crate::draw::generator::Generator;
     use crate::model::index_check::answer;
 
     #[test]
     fn good_tables_pass() {
-        for table in [USUAL, LONG, SHORT, AT_ONCE, LONGEST, BEYOND, LEAST] {
+        let others = [flat(), single()];
+        for table in [USUAL, LONG, SHORT, AT_ONCE, LONGEST, BEYOND, LEAST]
+            .into_iter()
+            .chain(others)
+        {
             assert_eq!(answer(&table), (0, 0));
         }
         let mut random = Generator::new(1);
