@@ -3,7 +3,7 @@
 pub mod clocks;
 pub mod layers;
 pub mod noisy;
-mod starts;
+pub mod starts;
 pub mod versy;
 pub mod virtim;
 

@@ -10,7 +10,7 @@ use base::month_file::MONTH_FILE;
 use base::month_file::RECORD;
 use base::words;
 use maps::ionosphere::hour_maps;
-use maps::ionosphere::virtim::AB_ROWS;
+use maps::ionosphere::starts::AB_ROWS;
 use tally::Tally;
 use tally::counted;
 use tally::none;

@@ -1,7 +1,9 @@
 // Where the series of each row of the six maps starts, so that no hour works it out anew.
-use crate::ionosphere::virtim::AB_ROWS;
 
-// A place for each of the 318 rows, as `AB` has them.
+// The rows of the six maps: at an hour each is one coefficient.
+pub const AB_ROWS: usize = 318;
+
+// A place for each row, in the order of `AB`.
 pub(crate) type SeriesStarts = [u16; AB_ROWS];
 
 // The place of each series' first coefficient among the 2,604 of `COFION`, counted from 0. `IC` and

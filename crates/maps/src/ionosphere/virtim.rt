@@ -1,4 +1,5 @@
 // VIRTIM: the maps' coefficients at an hour.
+use crate::ionosphere::starts::AB_ROWS;
 use crate::ionosphere::starts::SERIES_STARTS;
 use crate::ionosphere::starts::SeriesStarts;
 use base::angle::Degrees;
@@ -12,9 +13,6 @@ ghost use lib.ListN.{getD};
 ghost use Rattle.base.specs.Index.{mapWord};
 ghost use Rattle.base.specs.Blend.{IC};
 ghost use Rattle.maps.specs.Virtim.{GoodTable, StartsRule, hourWaves, waveIn, valueOf, timeMapOf, virtimOf};
-
-// The rows of the six maps: at an hour each is one coefficient.
-pub const AB_ROWS: usize = 318;
 
 // `AB`, the coefficients of the six maps at an hour, one map after the other.
 pub type TimeMaps = [f32; AB_ROWS];
