@@ -15,8 +15,8 @@ mod reference;
 
 use commands::{
     answer, bulk_desk, bulk_desk_lines, bulk_journals, bulk_lines, bulk_routes, bulk_sheet,
-    bulk_year_journals, clocks, data, desk, desk_words, files, hours, journals, lines, numbers,
-    pages, replay_input, routes, self_check, sheet_inputs, sheets, time_sheets, year,
+    bulk_year_journals, clocks, data, desk, desk_words, files, finite, hours, journals, lines,
+    numbers, pages, replay_input, routes, self_check, sheet_inputs, sheets, time_sheets, year,
     year_journals,
 };
 #[cfg(linked)]
@@ -43,6 +43,7 @@ const USAGE: &str = "usage:
   oracle year-check FILE                        say what can be shown from a year file, by the model
   oracle replay-input FILE                      write an input of the program replay
   oracle files DIR                              write the vectors of the file functions
+  oracle finite FILE                            write the vectors of words that are no finite numbers
   oracle bulk-files COUNT SEED                  compare the port's file functions with the Rust's
   oracle clocks FILE                            write the vectors of the clocks
   oracle bulk-clocks COUNT SEED                 compare the port's clocks with the Rust's
@@ -102,6 +103,7 @@ fn command(words: &[&str]) -> Result<(), String> {
         ["numbers", file] => numbers::run(file),
         ["data", folder] => data::run(folder),
         ["files", folder] => files::run(folder),
+        ["finite", file] => finite::run(file),
         ["clocks", file] => clocks::run(file),
         ["routes", file] => routes::run(file),
         ["bulk-routes", file, count, seed] => bulk_routes::run(file, count, seed),

@@ -2,6 +2,7 @@
 //! its size. The Rust only reads it.
 
 use crate::reference::voacap::coefficients::RawMonthFile;
+use std::ops::Range;
 
 const RECORDS: [u32; 9] = [240, 11184, 5328, 3528, 3168, 1920, 7128, 4400, 1584];
 /// How many of the 20 tables each record holds.
@@ -100,9 +101,25 @@ pub fn markers() -> Vec<usize> {
     places
 }
 
+/// The bytes of each of the 20 tables in a whole file.
+pub fn tables_at() -> [Range<usize>; 20] {
+    let mut start = 0;
+    let mut lengths = LENGTHS.iter();
+    let mut places = Vec::new();
+    for count in TABLES {
+        start += 4;
+        for length in lengths.by_ref().take(count) {
+            places.push(start..start + 4 * length);
+            start += 4 * length;
+        }
+        start += 4;
+    }
+    places.try_into().expect("20 tables")
+}
+
 #[cfg(test)]
 mod tests {
-    use super::{markers, tables, to_bytes, BYTES, LENGTHS};
+    use super::{markers, tables, tables_at, to_bytes, BYTES, LENGTHS};
     use crate::reference::voacap::coefficients::parse_month_file;
     use std::array::from_fn;
 
@@ -120,6 +137,19 @@ mod tests {
         let read: Vec<u32> = tables(&raw).concat();
         assert!(read.iter().copied().eq(0..9620));
         assert_eq!(to_bytes(&tables(&raw)), bytes);
+    }
+
+    /// Tables and markers leave no byte of the file to anything else.
+    #[test]
+    fn tables_stand_between_the_markers() {
+        let tables = tables_at();
+        assert_eq!((&tables[0], &tables[1]), (&(4..244), &(252..11_388)));
+        let ends = [&tables[14], &tables[16], &tables[19]].map(|table| table.end);
+        assert_eq!(ends, [25_412, 32_548, BYTES - 4]);
+        let words = tables.into_iter().flat_map(|table| table.step_by(4));
+        let mut all: Vec<usize> = words.chain(markers()).collect();
+        all.sort_unstable();
+        assert!(all.into_iter().eq((0..BYTES).step_by(4)));
     }
 
     #[test]

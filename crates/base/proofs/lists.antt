@@ -2,4 +2,3 @@
 pub mod Fills
 pub mod Entries
 pub mod Maps
-pub mod Blends

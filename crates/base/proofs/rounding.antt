@@ -4,6 +4,7 @@ pub mod Halves
 pub mod Fields
 pub mod Narrowing
 pub mod Patterns
+pub mod Exponents
 pub mod Sorts
 pub mod Signs
 pub mod Twos

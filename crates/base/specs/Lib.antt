@@ -14,4 +14,5 @@ pub mod Tables
 pub mod Index
 pub mod Blend
 pub mod Files
+pub mod Finite
 pub mod Year

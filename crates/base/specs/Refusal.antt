@@ -2,7 +2,7 @@
 use Prim.Native.Nat.{ℕ}
 use mathlib.Core.Bool.{Bool, true, false, cond}
 use Rattle.base.specs.declared.refusal.Refusal.{Refusal}
-use Rattle.base.specs.declared.refusal.Refusal.the-variants.{Month, Sunspot, Hour, Latitude, Longitude, Factor, Flag, Record, Ended, Marker, Index, Figures, Table, Desk, Drafted, NoDraft, Stale, NothingEarlier, Model, Year}
+use Rattle.base.specs.declared.refusal.Refusal.the-variants.{Month, Sunspot, Hour, Latitude, Longitude, Factor, Flag, Record, Ended, Marker, RecordWord, MonthWord, Index, Figures, Table, Desk, Drafted, NoDraft, Stale, NothingEarlier, Model, Year}
 use Rattle.base.specs.declared.refusal.Report.{Report}
 use Rattle.base.specs.declared.refusal.Verdict.{Verdict}
 use Rattle.base.specs.declared.refusal.Verdict.the-variants.{Accepted, Refused}
@@ -31,6 +31,9 @@ reportOf Drafted = (15, 0)
 reportOf NoDraft = (16, 0)
 reportOf Stale = (17, 0)
 reportOf NothingEarlier = (18, 0)
+-- document 02, request 10: '23, place the first such word's byte within record or month file'
+reportOf (RecordWord at) = (23, at)
+reportOf (MonthWord at) = (23, at)
 -- document 02, request 01: 'the model being field 15 ..; a wrong model word is refusal 7'; '19, ..
 -- place the lowest such pair'
 reportOf Model = (7, 15)

@@ -6,13 +6,14 @@ use crate::tables::XESMCF;
 use crate::tables::XESUCF;
 use crate::tables::XFM3CF;
 use crate::tables::XPMAP;
+use crate::words::finite_word;
 use crate::words::read_floats;
-use crate::words::whole_word;
 ghost use mathlib.Core.Path.{_≡_};
 ghost use Prim.Native.Nat.{ℕ, _+_, _*_, _≤_};
 ghost use lib.ListN.{length};
-ghost use lib.Ieee.{binary32, ofBits};
 ghost use Rattle.base.specs.Fill.{fill};
+ghost use Rattle.base.specs.Words.{FiniteRun};
+ghost use Rattle.base.specs.Finite.{FiniteRecord, FiniteMonth};
 ghost use Rattle.base.specs.MonthFile.{recordSize, monthFileSize};
 ghost use Rattle.base.specs.Blend.{blendOf, blendAt, f2Weights, eWeights, heightWeights, cofionOf, hmymOf, fakmapOf};
 
@@ -62,21 +63,7 @@ fn blended(w: Weights, x0: f32, x1: f32) -> f32
     (x0 * w.wa + x1 * w.wb) / w.d
 }
 
-// Two words blended. A NaN's pattern gives a NaN whatever the other word is; with both tests before
-// the arithmetic a loop over this one is compiled to four pairs at a time.
-fn blended_words(w: Weights, x0: u32, x1: u32) -> f32
-    ensures { λ r. ⌜ r ≡ blendOf w (ofBits binary32 x0) (ofBits binary32 x1) ⌝ }
-{
-    if x0 % 0x8000_0000 > 0x7f80_0000 {
-        0.0 / 0.0
-    } else if x1 % 0x8000_0000 > 0x7f80_0000 {
-        0.0 / 0.0
-    } else {
-        blended(w, f32::from_bits(x0), f32::from_bits(x1))
-    }
-}
-
-// Two planes of `width` words each, one after the other from `at` on, blended into `out` from
+// Two planes of `width` finite words each, one after the other from `at` on, blended into `out` from
 // `base` on.
 fn blend(s: &[u8], at: usize, width: usize, w: Weights, out: &mut [f32], base: usize)
     requires { ⌜ (
@@ -84,14 +71,15 @@ fn blend(s: &[u8], at: usize, width: usize, w: Weights, out: &mut [f32], base: u
         × (width ≤ 65536)
         × (at + 8 * width ≤ length (now s))
         × (base + width ≤ length (now out))
+        × FiniteRun (now s) at (2 * width)
         ) ⌝ }
     ensures { λ _. ⌜ now (out .exit) ≡ fill (blendAt (now (s .entry)) at width w) base (now (out .entry)) width ⌝ }
 {
     let mut i = 0usize;
     while i < width {
-        let x0 = whole_word(s, at + 4 * i);
-        let x1 = whole_word(s, at + 4 * (width + i));
-        out[base + i] = blended_words(w, x0, x1);
+        let x0 = finite_word(s, at + 4 * i);
+        let x1 = finite_word(s, at + 4 * (width + i));
+        out[base + i] = blended(w, x0, x1);
         i += 1;
     }
 }
@@ -138,7 +126,12 @@ pub type LandMap = [f32; PLANE];
 
 // The coefficients of the six maps at a sunspot number, from files that were checked.
 pub(crate) fn cofion_of(f2: &[u8], month: &[u8], ssn: f32, out: &mut SixMaps)
-    requires { ⌜ (recordSize ≤ length (now f2)) × (monthFileSize ≤ length (now month)) ⌝ }
+    requires { ⌜ (
+        (recordSize ≤ length (now f2))
+        × (monthFileSize ≤ length (now month))
+        × FiniteRecord (now f2)
+        × FiniteMonth (now month)
+        ) ⌝ }
     ensures { λ _. ⌜ now (out .exit) ≡ cofionOf (now (f2 .entry)) (now (month .entry)) ssn ⌝ }
 {
     let wf = f2_weights(ssn);
@@ -153,7 +146,7 @@ pub(crate) fn cofion_of(f2: &[u8], month: &[u8], ssn: f32, out: &mut SixMaps)
 
 // The coefficients of the height map at a sunspot number, from a file that was checked.
 pub(crate) fn hmym_of(month: &[u8], ssn: f32, out: &mut HeightMap)
-    requires { ⌜ monthFileSize ≤ length (now month) ⌝ }
+    requires { ⌜ (monthFileSize ≤ length (now month)) × FiniteMonth (now month) ⌝ }
     ensures { λ _. ⌜ now (out .exit) ≡ hmymOf (now (month .entry)) ssn ⌝ }
 {
     blend(month, XPMAP, PLANE, height_weights(ssn), out, 0);
@@ -161,7 +154,7 @@ pub(crate) fn hmym_of(month: &[u8], ssn: f32, out: &mut HeightMap)
 
 // The words of the land map, of a file that was checked.
 pub(crate) fn fakmap_of(month: &[u8], out: &mut LandMap)
-    requires { ⌜ monthFileSize ≤ length (now month) ⌝ }
+    requires { ⌜ (monthFileSize ≤ length (now month)) × FiniteMonth (now month) ⌝ }
     ensures { λ _. ⌜ now (out .exit) ≡ fakmapOf (now (month .entry)) ⌝ }
 {
     read_floats(month, FAKMAP, out);

@@ -4,6 +4,7 @@ pub mod blend;
 pub mod constants;
 pub mod elementary;
 pub mod files;
+mod finite;
 pub mod index;
 pub mod month_file;
 pub mod number;

@@ -18,6 +18,10 @@ pub enum Refusal {
     Ended(u32),
     // The marker at this place of the month file is wrong.
     Marker(u32),
+    // The word at this place of the F2 record is no finite number.
+    RecordWord(u32),
+    // The word at this place of a table of the month file is no finite number.
+    MonthWord(u32),
     // The index table is bad in this map.
     Index(u32),
     Figures,
@@ -54,6 +58,8 @@ impl Refusal {
             Refusal::Record => Report(8, 0),
             Refusal::Ended(at) => Report(9, at),
             Refusal::Marker(at) => Report(10, at),
+            Refusal::RecordWord(at) => Report(23, at),
+            Refusal::MonthWord(at) => Report(23, at),
             Refusal::Index(map) => Report(11, map),
             Refusal::Figures => Report(12, 0),
             Refusal::Table => Report(13, 0),
@@ -67,7 +73,7 @@ impl Refusal {
         }
     }
 
-    // The number of a refusal, 1 to 19.
+    // The number of a refusal, 1 to 19 or 23.
     pub fn number(self) -> u32
         ensures { λ r. ⌜ r ≡ reportOf self .0 ⌝ }
     {

@@ -17,6 +17,8 @@ pub struct Place {
 // Where the tables that are read by name start in the month file.
 pub const IKIM: usize = 4;
 
+pub const FAKP: usize = 252;
+
 pub const XFM3CF: usize = 16780;
 
 pub const ANEW: usize = 23492;
@@ -41,11 +43,14 @@ pub const XESUCF: usize = 34756;
 
 pub const XERCOF: usize = 36964;
 
+// Where the last of them ends.
+pub const TABLES_END: usize = XERCOF + 1584;
+
 // Start and size of the F2 planes, then of `ikim` to `xercof`.
 const PLACES: [[usize; 2]; 21] = [
     [0, RECORD],
     [IKIM, 240],
-    [252, 11136],
+    [FAKP, 11136],
     [11388, 48],
     [11444, 1200],
     [12644, 672],

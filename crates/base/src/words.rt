@@ -1,10 +1,12 @@
-// The words of a file, little-endian.
+// The words of a file, little-endian: as they are, and as the numbers of tables.
 use crate::number;
 ghost use mathlib.Core.Path.{_≡_};
 ghost use Prim.Native.Nat.{ℕ, _+_, _*_, _<_, _≤_};
+ghost use lib.Dec.{T};
 ghost use lib.ListN.{length, getD};
+ghost use lib.Ieee.Scale.{finite};
 ghost use Rattle.base.specs.Fill.{tabulate};
-ghost use Rattle.base.specs.Words.{wordOf, wordAt, integerAt, floatAt};
+ghost use Rattle.base.specs.Words.{wordOf, wordAt, integerAt, floatAt, tableWordAt, FiniteRun};
 
 fn wide(x: u8) -> u32
     ensures answer { λ r. ⌜ r ≡ x ⌝ }
@@ -84,6 +86,33 @@ pub fn float(s: &[u8], at: usize) -> f32
     number::float32(word(s, at))
 }
 
+// A word of a table: a finite number, or a NaN's or an infinity's pattern.
+pub enum TableWord {
+    Finite(f32),
+    NotFinite,
+}
+
+// The word at `at` as a table's, where every number must be finite; a byte that is not there counts
+// as 0.
+pub fn table_word(s: &[u8], at: usize) -> TableWord
+    ensures { λ r. ⌜ r ≡ tableWordAt (now (s .entry)) at ⌝ }
+{
+    let x = word(s, at);
+    if x % 0x8000_0000 < 0x7f80_0000 {
+        TableWord::Finite(f32::from_bits(x))
+    } else {
+        TableWord::NotFinite
+    }
+}
+
+// The word of a table in which all words were found finite.
+pub(crate) fn finite_word(s: &[u8], at: usize) -> f32
+    requires { ⌜ (at + 4 ≤ length (now s)) × T (finite (floatAt (now s) at)) ⌝ }
+    ensures { λ r. ⌜ r ≡ floatAt (now (s .entry)) at ⌝ }
+{
+    f32::from_bits(whole_word(s, at))
+}
+
 // The words from `at` on into a lent array, all of it.
 pub(crate) fn read_words(s: &[u8], at: usize, out: &mut [u32])
     requires { ⌜ at + 4 * length (now out) ≤ length (now s) ⌝ }
@@ -98,16 +127,16 @@ pub(crate) fn read_words(s: &[u8], at: usize, out: &mut [u32])
     }
 }
 
-// The same of floats.
+// The same of the numbers of a table in which all words were found finite.
 pub(crate) fn read_floats(s: &[u8], at: usize, out: &mut [f32])
-    requires { ⌜ at + 4 * length (now out) ≤ length (now s) ⌝ }
+    requires { ⌜ (at + 4 * length (now out) ≤ length (now s)) × FiniteRun (now s) at (length (now out)) ⌝ }
     ensures { λ _. ⌜ now (out .exit) ≡ tabulate
         (λ i. floatAt (now (s .entry)) (at + 4 * i))
         (length (now (out .entry))) ⌝ }
 {
     let mut i = 0usize;
     while i < out.len() {
-        out[i] = number::float32(whole_word(s, at + 4 * i));
+        out[i] = finite_word(s, at + 4 * i);
         i += 1;
     }
 }

@@ -34,7 +34,8 @@ pub extern "C" fn jt_month_file_check(s: &[u8]) -> Answer
     answered(month_file::month_file_check(s))
 }
 
-// Whether a month file can be used: 9 or 10 by its walk, then 11 by its index table.
+// Whether a month file can be used: 9 or 10 by its walk, then 23 by the words of its tables, then 11
+// by its index table.
 #[no_mangle]
 pub extern "C" fn jt_file_check(month: &[u8]) -> Answer
     ensures { λ r. ⌜ r ≡ answerOf (fileCheck (now (month .entry))) ⌝ }
@@ -125,8 +126,8 @@ pub extern "C" fn jt_year_model(year: &[u8], model: u32) -> Span
     span_unless(verdict, at)
 }
 
-// The blended coefficients of the six maps at a sunspot number. Refuses 8, 9, 10, 11; the array
-// stays as it is.
+// The blended coefficients of the six maps at a sunspot number. Refuses 8, 9, 10, 23, 11; the
+// array stays as it is.
 #[no_mangle]
 pub extern "C" fn jt_cofion(f2: &[u8], month: &[u8], ssn: f32, out: &mut SixMaps) -> Answer
     ensures answer { λ r. ⌜ r ≡ answerOf (filesCheck (now (f2 .entry)) (now (month .entry))) ⌝ }
@@ -139,8 +140,8 @@ pub extern "C" fn jt_cofion(f2: &[u8], month: &[u8], ssn: f32, out: &mut SixMaps
     answered(files::cofion(f2, month, ssn, out))
 }
 
-// The blended coefficients of the height map at a sunspot number. Refuses 9, 10, 11; the array
-// stays as it is.
+// The blended coefficients of the height map at a sunspot number. Refuses 9, 10, 23, 11; the
+// array stays as it is.
 #[no_mangle]
 pub extern "C" fn jt_hmym(month: &[u8], ssn: f32, out: &mut HeightMap) -> Answer
     ensures answer { λ r. ⌜ r ≡ answerOf (fileCheck (now (month .entry))) ⌝ }

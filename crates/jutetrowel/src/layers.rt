@@ -100,8 +100,8 @@ pub extern "C" fn jt_path(
     ))
 }
 
-// The coefficients of the six maps at a sunspot number and an hour. Refuses 8, 9, 10, 11; the array
-// stays as it is.
+// The coefficients of the six maps at a sunspot number and an hour. Refuses 8, 9, 10, 23, 11; the
+// array stays as it is.
 #[no_mangle]
 pub extern "C" fn jt_hour_maps(
     f2: &[u8],
@@ -147,7 +147,7 @@ fn layers_as(l: LayersAt) -> Layers
 }
 
 // The layers at a place in radians, from the maps at the hour and a month file. Refuses 1, then 9,
-// 10, 11, with +0.0 for every parameter.
+// 10, 23, 11, with +0.0 for every parameter.
 #[no_mangle]
 pub extern "C" fn jt_layers_at(
     month: u32,

@@ -17,7 +17,8 @@ ghost use Rattle.jutetrowel.specs.Fields.{inputsTyped};
 ghost use Rattle.jutetrowel.specs.Calls.{Shows};
 
 // The number of points of a sheet by its fields, which nothing judges, with its figures in the
-// buffer; a flag that is not 0 is the long way round. Refuses 12, 8, 9, 10, 11; the buffer stays.
+// buffer; a flag that is not 0 is the long way round. Refuses 12, 8, 9, 10, 23, 11; the buffer
+// stays.
 #[no_mangle]
 pub extern "C" fn jt_figures(
     month: u32,
@@ -65,7 +66,7 @@ pub extern "C" fn jt_figures(
 
 // A whole sheet of 14 little-endian words, an F2 record and a month file: the number of points,
 // with the figures in the buffer. A 15th word is not read: the model is 0. Refuses the fields, 12,
-// 8, 9, 10, 11; the buffer stays.
+// 8, 9, 10, 23, 11; the buffer stays.
 #[no_mangle]
 pub extern "C" fn jt_sheet(words: &[u8], f2: &[u8], file: &[u8], out: &mut [f32]) -> Showing
     ensures { λ r. ⌜ Shows (step (pair (now (f2 .entry)) (now (file .entry)))

@@ -3,7 +3,7 @@ use Prim.Native.Nat.{ℕ}
 use Prim.Native.String.{String}
 use mathlib.Core.List.{List, [], _∷_, _++_}
 use Rattle.base.specs.declared.refusal.Refusal.{Refusal}
-use Rattle.base.specs.declared.refusal.Refusal.the-variants.{Month, Sunspot, Hour, Latitude, Longitude, Factor, Flag, Model, Record, Ended, Marker, Index, Figures, Table, Desk, Drafted, NoDraft, Stale, NothingEarlier, Year}
+use Rattle.base.specs.declared.refusal.Refusal.the-variants.{Month, Sunspot, Hour, Latitude, Longitude, Factor, Flag, Model, Record, Ended, Marker, RecordWord, MonthWord, Index, Figures, Table, Desk, Drafted, NoDraft, Stale, NothingEarlier, Year}
 use Rattle.base.specs.Refusal.{reportOf}
 use Rattle.wording.specs.Token.{ascii}
 use Rattle.listing.specs.Text.{decimalOf}
@@ -20,6 +20,8 @@ reasonOf Model = "the F2 model is neither CCIR nor URSI"
 reasonOf Record = "the F2 record of the month is not whole"
 reasonOf (Ended at) = "the month file ends too early"
 reasonOf (Marker at) = "the month file has a wrong marker at this byte"
+reasonOf (RecordWord at) = "the F2 record has no finite number at this byte"
+reasonOf (MonthWord at) = "the month file has no finite number at this byte"
 reasonOf (Index map) = "the month file has a bad index table for this map"
 reasonOf Figures = "the buffer has not 151 numbers"
 reasonOf Table = "there is no such table"
@@ -55,6 +57,8 @@ reasons =
     ∷ "the F2 record of the month is not whole"
     ∷ "the month file ends too early"
     ∷ "the month file has a wrong marker at this byte"
+    ∷ "the F2 record has no finite number at this byte"
+    ∷ "the month file has no finite number at this byte"
     ∷ "the month file has a bad index table for this map"
     ∷ "the buffer has not 151 numbers"
     ∷ "there is no such table"
@@ -79,12 +83,14 @@ reasonRow Model = 7
 reasonRow Record = 8
 reasonRow (Ended at) = 9
 reasonRow (Marker at) = 10
-reasonRow (Index map) = 11
-reasonRow Figures = 12
-reasonRow Table = 13
-reasonRow Desk = 14
-reasonRow Drafted = 15
-reasonRow NoDraft = 16
-reasonRow Stale = 17
-reasonRow NothingEarlier = 18
-reasonRow (Year pair) = 19
+reasonRow (RecordWord at) = 11
+reasonRow (MonthWord at) = 12
+reasonRow (Index map) = 13
+reasonRow Figures = 14
+reasonRow Table = 15
+reasonRow Desk = 16
+reasonRow Drafted = 17
+reasonRow NoDraft = 18
+reasonRow Stale = 19
+reasonRow NothingEarlier = 20
+reasonRow (Year pair) = 21

@@ -10,7 +10,7 @@ ghost use Rattle.listing.specs.Text.{Put};
 ghost use Rattle.listing.specs.Reason.{reasonOf, reasonRow, refusedWords};
 
 // The reasons in the order of `row_of`, with blanks behind them, and how many letters each has.
-const REASONS: [[u8; 49]; 20] = [
+const REASONS: [[u8; 49]; 22] = [
     *b"the month is not 1 to 12                         ",
     *b"the sunspot number is not 0 to 300               ",
     *b"the hour is not 0 to 24                          ",
@@ -22,6 +22,8 @@ const REASONS: [[u8; 49]; 20] = [
     *b"the F2 record of the month is not whole          ",
     *b"the month file ends too early                    ",
     *b"the month file has a wrong marker at this byte   ",
+    *b"the F2 record has no finite number at this byte  ",
+    *b"the month file has no finite number at this byte ",
     *b"the month file has a bad index table for this map",
     *b"the buffer has not 151 numbers                   ",
     *b"there is no such table                           ",
@@ -33,7 +35,7 @@ const REASONS: [[u8; 49]; 20] = [
     *b"the year file has a bad directory at this pair   ",
 ];
 
-const LETTERS: [usize; 20] = [
+const LETTERS: [usize; 22] = [
     24,
     34,
     23,
@@ -45,6 +47,8 @@ const LETTERS: [usize; 20] = [
     39,
     29,
     46,
+    47,
+    48,
     49,
     30,
     22,
@@ -59,7 +63,7 @@ const LETTERS: [usize; 20] = [
 // Which of the reasons is a refusal's.
 fn row_of(why: Refusal) -> usize
     ensures answer { λ r. ⌜ r ≡ reasonRow why ⌝ }
-    ensures bound { λ r. ⌜ r < 20 ⌝ }
+    ensures bound { λ r. ⌜ r < 22 ⌝ }
 {
     match why {
         Refusal::Month => 0,
@@ -73,15 +77,17 @@ fn row_of(why: Refusal) -> usize
         Refusal::Record => 8,
         Refusal::Ended(_) => 9,
         Refusal::Marker(_) => 10,
-        Refusal::Index(_) => 11,
-        Refusal::Figures => 12,
-        Refusal::Table => 13,
-        Refusal::Desk => 14,
-        Refusal::Drafted => 15,
-        Refusal::NoDraft => 16,
-        Refusal::Stale => 17,
-        Refusal::NothingEarlier => 18,
-        Refusal::Year(_) => 19,
+        Refusal::RecordWord(_) => 11,
+        Refusal::MonthWord(_) => 12,
+        Refusal::Index(_) => 13,
+        Refusal::Figures => 14,
+        Refusal::Table => 15,
+        Refusal::Desk => 16,
+        Refusal::Drafted => 17,
+        Refusal::NoDraft => 18,
+        Refusal::Stale => 19,
+        Refusal::NothingEarlier => 20,
+        Refusal::Year(_) => 21,
     }
 }
 

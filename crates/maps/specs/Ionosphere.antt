@@ -37,7 +37,7 @@ gammasAt ab index lat lon mag = gammasOf ab index (mag .gmdip .0) (lat .0) (east
 
 -- ---- `layer_parameters_at`: by the same steps as at a control point
 
--- 1 for a month that there is not, then 9, 10, 11
+-- 1 for a month that there is not, then 9, 10, 23, 11
 unfoldable pub layersCheck : ℕ → List ℕ → Verdict
 layersCheck month file = monthCheck month then fileCheck file
 

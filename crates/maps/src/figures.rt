@@ -29,6 +29,7 @@ ghost use Prim.Native.Nat.{ℕ, _+_, _*_, _<_, _≤_};
 ghost use lib.ListN.{length, getD};
 ghost use lib.Ieee.{nan};
 ghost use Rattle.base.specs.Fill.{fill};
+ghost use Rattle.base.specs.Finite.{FiniteMonth};
 ghost use Rattle.maps.specs.Virtim.{GoodTable};
 ghost use Rattle.maps.specs.Figures.{hour, hourFrom, headOf, numbersOf, figureRow, figuresTo, sheetPath, shownOf, figuresBuffer};
 
@@ -210,7 +211,7 @@ fn fill_in(
     fakmap: &LandMap,
     out: &mut [f32],
 ) -> u32
-    requires { ⌜ GoodTable (now index) × (length (now out) ≡ 151) ⌝ }
+    requires { ⌜ FiniteMonth (now file) × GoodTable (now index) × (length (now out) ≡ 151) ⌝ }
     ensures answer { λ r. ⌜ r ≡ sheetPath i .count ⌝ }
     ensures buffer { λ _. ⌜ (
         let m = now (file .entry) in
@@ -226,7 +227,7 @@ fn fill_in(
 }
 
 // The number of points of a sheet, with its 151 figures in the lent buffer; no field is judged.
-// Where the files are refused (8, 9, 10, 11) the buffer stays as it is.
+// Where the files are refused (8, 9, 10, 23, 11) the buffer stays as it is.
 pub fn figures(i: Inputs, f2: &[u8], file: &[u8], out: &mut [f32; FIGURES]) -> Shown
     ensures answer { λ r. ⌜ r ≡ shownOf (now (f2 .entry)) (now (file .entry)) i ⌝ }
     ensures buffer { λ _. ⌜ (

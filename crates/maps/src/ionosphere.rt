@@ -32,12 +32,12 @@ ghost use mathlib.Core.Path.{_≡_};
 ghost use Rattle.base.specs.Refusal.{writtenOver};
 ghost use Rattle.base.specs.Index.{indexOf};
 ghost use Rattle.base.specs.Blend.{hmymOf};
-ghost use Rattle.base.specs.Files.{filesCheck};
+ghost use Rattle.base.specs.Files.{fileCheck, filesCheck};
 ghost use Rattle.maps.specs.Virtim.{GoodTable};
 ghost use Rattle.maps.specs.Ionosphere.{hourMapsOf, gammasAt, pointAt, layersCheck, layersThere, noLayers, layersAtOf};
 
 // The coefficients of the six maps at a sunspot number and an hour into the lent array, and the
-// verdict on the files (8, 9, 10, 11). Refused, the array stays as it is.
+// verdict on the files (8, 9, 10, 23, 11). Refused, the array stays as it is.
 pub fn hour_maps(f2: &[u8], file: &[u8], ssn: f32, gmt: f32, ab: &mut TimeMaps) -> Verdict
     ensures answer { λ r. ⌜ r ≡ filesCheck (now (f2 .entry)) (now (file .entry)) ⌝ }
     ensures buffer { λ _. ⌜ (
@@ -101,7 +101,30 @@ fn point_at(pole: MagneticPole, lat: Radians, lon: Radians) -> ControlPoint
     }
 }
 
-// The tables that the layers take, from a good month file in a month that there is.
+// The tables that the layers take, from a good month file: the height map, for which all of it is
+// checked, and then the index table.
+fn month_tables(ssn: f32, file: &[u8], index: &mut IndexTable, hmym: &mut HeightMap) -> Verdict
+    ensures answer { λ r. ⌜ r ≡ fileCheck (now (file .entry)) ⌝ }
+    ensures index { λ _. ⌜ (
+        let m = now (file .entry) in
+        now (index .exit) ≡ writtenOver (fileCheck m) (indexOf m) (now (index .entry))
+        ) ⌝ }
+    ensures hmym { λ _. ⌜ (
+        let m = now (file .entry) in
+        now (hmym .exit) ≡ writtenOver (fileCheck m) (hmymOf m ssn) (now (hmym .entry))
+        ) ⌝ }
+{
+    let verdict = files::hmym(file, ssn, hmym);
+    match verdict {
+        Verdict::Accepted => {
+            files::index(file, index);
+            Verdict::Accepted
+        }
+        Verdict::Refused(why) => Verdict::Refused(why),
+    }
+}
+
+// The same in a month that there is.
 fn layer_tables(
     month: u32,
     ssn: f32,
@@ -121,10 +144,7 @@ fn layer_tables(
 {
     let verdict = month_check(month);
     match verdict {
-        Verdict::Accepted => {
-            files::index(file, index);
-            files::hmym(file, ssn, hmym)
-        }
+        Verdict::Accepted => month_tables(ssn, file, index, hmym),
         Verdict::Refused(why) => Verdict::Refused(why),
     }
 }
@@ -168,7 +188,7 @@ fn no_layers() -> LayerParams
 }
 
 // The layer parameters at one place, as at a control point, from the maps at the hour and a month
-// file. Refused, by 1 and then 9, 10, 11, every parameter is +0.0.
+// file. Refused, by 1 and then 9, 10, 23, 11, every parameter is +0.0.
 pub fn layer_parameters_at(
     inputs: LayerInputs,
     ab: &TimeMaps,

@@ -6,8 +6,7 @@ use mathlib.Core.List.{List, [], _∷_, _++_, map}
 use lib.Dec.{leb, ltb}
 use lib.ListN.{length, take, drop}
 use Rattle.base.specs.declared.refusal.Verdict.{Verdict}
-use Rattle.base.specs.Files.{fileCheck}
-use Rattle.base.specs.MonthFile.{monthRecordCheck}
+use Rattle.base.specs.Files.{fileCheck, dawCheck}
 use Rattle.base.specs.Words.{fourBytes}
 use Rattle.base.specs.Year.{directorySize}
 
@@ -25,9 +24,9 @@ unfoldable pub packed : List (List ℕ) → List ℕ
 packed parts = pairsOf directorySize (map length parts) ++ together parts
 
 -- what a file that is to be part k, counted from 0, is refused by: 'months 1 to 12, then CCIR, then
--- URSI'. A model's file that has the record of month 12 has those of all months
+-- URSI'. A model's file that has the record of month 12 has those of all months, whose words count
 unfoldable pub partCheck : ℕ → List ℕ → Verdict
-partCheck k part = cond (ltb k 12) (fileCheck part) (monthRecordCheck part 12)
+partCheck k part = cond (ltb k 12) (fileCheck part) (dawCheck part)
 
 -- ---- in a buffer
 

@@ -1,6 +1,6 @@
 // A year file packed from an installation's files.
+use base::files::daw_check;
 use base::files::file_check;
-use base::month_file::month_record_check;
 use base::refusal::Verdict;
 use base::year::DIRECTORY;
 use base::year::PARTS;
@@ -18,16 +18,16 @@ pub const YEAR_MOST: usize = 0x10_0000;
 // The sizes of the parts of a year file, in bytes.
 pub type Sizes = [u32; PARTS];
 
-// The verdict on a file that is to be part k of a year file, counted from 0: 9, 10 and 11 on the
+// The verdict on a file that is to be part k of a year file, counted from 0: 9, 10, 23 and 11 on the
 // twelve month files; 8 on a `.daw` file that does not reach to the end of month 12's record, and so
-// has not the records of all months.
+// has not the records of all months, and 23 by their words.
 pub fn part_check(k: usize, part: &[u8]) -> Verdict
     ensures { λ r. ⌜ r ≡ partCheck k (now (part .entry)) ⌝ }
 {
     if k < 12 {
         file_check(part)
     } else {
-        month_record_check(part, 12)
+        daw_check(part)
     }
 }
 

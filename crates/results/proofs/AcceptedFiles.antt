@@ -3,10 +3,11 @@ use mathlib.Core.Path.{_∙_}
 use native.Mathlib.Omega.{arith}
 use Rattle.base.proofs.ladder.Indexing
 use Rattle.base.proofs.layout.Parts
-use Rattle.results.specs.AcceptedFiles.{MonthFileGood, EndedRefused, MarkerRefused, FileAnswers, IndexGood, IndexRefused, VirtimInside, VersyInside, MonthFileAccepted, IndexAccepted, FilesAccepted, FileOfBytes, SheetShown, SheetWritten, TablesPacked, TwentyTables, PlanesFill, TableInside, MonthInside, ZeroThere, ThereZero, MonthAccepted, MonthZero, TableCheckLater, TableBytesLater, MonthCheckLater, MonthBytesLater, CutAnywhere, TablePartLater, MonthPartLater}
+use Rattle.results.specs.AcceptedFiles.{MonthFileGood, EndedRefused, MarkerRefused, FileAnswers, RecordWordsGood, MonthWordsGood, RecordWordRefused, MonthWordRefused, FilesGood, IndexGood, IndexRefused, VirtimInside, VersyInside, MonthFileAccepted, IndexAccepted, FilesAccepted, FileOfBytes, SheetShown, SheetWritten, TablesPacked, TwentyTables, PlanesFill, TableInside, MonthInside, ZeroThere, ThereZero, MonthAccepted, MonthZero, TableCheckLater, TableBytesLater, MonthCheckLater, MonthBytesLater, CutAnywhere, TablePartLater, MonthPartLater}
 use Rattle.results.proofs.files.Marks
 use Rattle.results.proofs.files.WalkAnswers
 use Rattle.results.proofs.files.IndexAnswers
+use Rattle.results.proofs.files.FirstOthers
 use Rattle.results.proofs.files.GoodFiles
 use Rattle.results.proofs.files.Places
 use Rattle.results.proofs.files.MonthRecords
@@ -29,6 +30,23 @@ file-answers = WalkAnswers.file-answers
 
 pub cut-anywhere : CutAnywhere
 cut-anywhere = WalkAnswers.cut-anywhere
+
+-- ---- the words of the tables
+
+pub record-words-good : RecordWordsGood
+record-words-good = FirstOthers.record-words-good
+
+pub month-words-good : MonthWordsGood
+month-words-good = FirstOthers.month-words-good
+
+pub record-word-refused : RecordWordRefused
+record-word-refused = FirstOthers.record-word-refused WalkAnswers.file-answers
+
+pub month-word-refused : MonthWordRefused
+month-word-refused = FirstOthers.month-word-refused WalkAnswers.file-answers
+
+pub files-good : FilesGood
+files-good = FirstOthers.files-good
 
 -- ---- the index check
 

@@ -27,6 +27,11 @@ use Rattle.results.proofs.finite.FiniteLayers.{
   hpf2-at-zero as hpf2-at-zero-proved,
 }
 use Rattle.results.proofs.finite.NoSun.{no-sun-layers as no-sun-layers-proved, no-sun-row as no-sun-row-proved}
+use Rattle.results.proofs.finite.FileWords.{
+  shown-finite as shown-finite-proved,
+  month-numbers,
+  blend-overflows as blend-overflows-proved,
+}
 use Rattle.results.proofs.finite.MagneticFinite.{nowhere-zero}
 use Rattle.results.proofs.field.FieldNotZero.{field-not-zero as field-not-zero-proved}
 use Rattle.results.specs.FiniteOrNot.{
@@ -55,6 +60,9 @@ use Rattle.results.specs.FiniteOrNot.{
   Hpf2AtZero,
   NoSunLayers,
   NoSunRow,
+  ShownFinite,
+  MonthNumbersSound,
+  BlendOverflows,
 }
 
 pub point-numbers : PointNumbers
@@ -131,3 +139,12 @@ no-sun-layers = no-sun-layers-proved
 
 pub no-sun-row : NoSunRow
 no-sun-row = no-sun-row-proved
+
+pub shown-finite : ShownFinite
+shown-finite = shown-finite-proved
+
+pub month-numbers-sound : MonthNumbersSound
+month-numbers-sound = month-numbers
+
+pub blend-overflows : BlendOverflows
+blend-overflows = blend-overflows-proved

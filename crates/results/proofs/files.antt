@@ -6,8 +6,11 @@ pub mod WalkAnswers
 pub mod MadeFiles
 pub mod FilePoints
 pub mod IndexAnswers
+pub mod ZeroFiles
 pub mod GoodFiles
+pub mod FirstOthers
 pub mod MonthRecords
+pub mod RecordWords
 pub mod Later
 pub mod LaterParts
 pub mod YearDirectory

@@ -10,3 +10,4 @@ pub mod AcceptedFields
 pub mod SoundFiles
 pub mod FiniteSheets
 pub mod NoSun
+pub mod FileWords

@@ -4,18 +4,21 @@
 use mathlib.Core.Path.{_≡_}
 use mathlib.Core.List.{List, [], _∷_}
 use Prim.Native.Nat.{ℕ, _+_, _-_, _*_, _/_, _≤_, _<_}
+use lib.Dec.{T}
 use lib.ListN.{length, getD, take, drop}
 use lib.Ieee.{Float}
+use lib.Ieee.Scale.{finite}
 use denote.Ref.{RefT, now}
-use Rattle.base.specs.declared.refusal.Refusal.the-variants.{Ended, Marker, Index}
+use Rattle.base.specs.declared.refusal.Refusal.the-variants.{Ended, Marker, RecordWord, MonthWord, Index}
 use Rattle.base.specs.declared.refusal.Verdict.{Verdict}
 use Rattle.base.specs.declared.refusal.Verdict.the-variants.{Accepted, Refused}
 use Rattle.base.specs.Refusal.{verdictReport}
-use Rattle.base.specs.Words.{wordAt}
+use Rattle.base.specs.Words.{wordAt, floatAt}
 use Rattle.base.specs.MonthFile.{recordSize, monthFileSize, monthRecordCheck, monthPart, sizes, monthFileCheck, WellMarked}
-use Rattle.base.specs.Tables.{tablesByRecord, tables, xf2cof, PackedRecords, partOf, tableCheck, tablePart, tableFile}
+use Rattle.base.specs.Tables.{tablesByRecord, tables, startOf, wordsOf, xf2cof, PackedRecords, partOf, tableCheck, tablePart, tableFile}
 use Rattle.base.specs.Index.{indexOf, mapWord, rows, harmonics, indexCheck, GoodIndex, Reaches}
 use Rattle.base.specs.Blend.{IA, IB, IC}
+use Rattle.base.specs.Finite.{recordsCheck, tablesCheck, FiniteRecord, FiniteMonth}
 use Rattle.base.specs.Files.{filesCheck}
 use Rattle.maps.specs.declared.inputs.Inputs.{Inputs}
 use Rattle.maps.specs.declared.figures.Shown.the-variants.{Points}
@@ -145,6 +148,85 @@ abbrev pub VersyInside : Type 0
 VersyInside =
     (month : List ℕ) → indexCheck month ≡ Accepted → (k : ℕ) → k < 6 →
     let w = mapWord (indexOf month) k in ((j : ℕ) → j ≤ 8 → Reaches w j → w j < 76) × (w 8 < 76)
+
+-- ---- request 10: the words of the tables
+
+-- The check of a record's words accepts exactly where each of its 1,976 words is a finite number,
+abbrev pub RecordWordsGood : Type 0
+RecordWordsGood =
+    (f2 : List ℕ) → (recordsCheck f2 1 ≡ Accepted → FiniteRecord f2) × (FiniteRecord f2 → recordsCheck f2 1 ≡ Accepted)
+
+-- and that of a month file's words exactly where each word of its tables but `ikim` is.
+abbrev pub MonthWordsGood : Type 0
+MonthWordsGood =
+    (month : List ℕ) →
+    (tablesCheck month ≡ Accepted → FiniteMonth month) × (FiniteMonth month → tablesCheck month ≡ Accepted)
+
+-- the first word of the record that is no finite number is at the byte p
+pub record FirstInRecord (f2 : List ℕ) (p : ℕ) : Type 0 where
+  pub word : ℕ
+  pub inside : word < wordsOf xf2cof
+  pub place : p ≡ 4 * word
+  pub bad : T (finite (floatAt f2 p)) → ⊥
+  pub before : (i : ℕ) → i < word → T (finite (floatAt f2 (4 * i)))
+
+-- the record is whole, the month file passes its walk, and p is the record's first such byte
+pub record RecordRefused (f2 month : List ℕ) (p : ℕ) : Type 0 where
+  pub whole : recordSize ≤ length f2
+  pub walked : monthFileCheck month ≡ Accepted
+  pub first : FirstInRecord f2 p
+
+-- '23, place the first such word's byte within record or month file, the record first, after 10 and
+-- before 11': of the record exactly there, whatever the index table,
+abbrev pub RecordWordRefused : Type 0
+RecordWordRefused =
+    (f2 month : List ℕ) (p : ℕ) →
+    (filesCheck f2 month ≡ Refused (RecordWord p) → RecordRefused f2 month p)
+    × (RecordRefused f2 month p → filesCheck f2 month ≡ Refused (RecordWord p))
+
+-- the first word of the month file's tables, `ikim` left out, that is no finite number is at the byte
+-- p, tables coming in the order of the file
+pub record FirstInMonth (month : List ℕ) (p : ℕ) : Type 0 where
+  pub table : ℕ
+  pub word : ℕ
+  pub low : 2 ≤ table
+  pub high : table ≤ 20
+  pub inside : word < wordsOf table
+  pub place : p ≡ startOf table + 4 * word
+  pub bad : T (finite (floatAt month p)) → ⊥
+  pub earlier :
+      (t i : ℕ) → 2 ≤ t → t < table → i < wordsOf t → T (finite (floatAt month (startOf t + 4 * i)))
+  pub before : (i : ℕ) → i < word → T (finite (floatAt month (startOf table + 4 * i)))
+
+-- the record is whole and of finite numbers, the month file passes its walk, and p is its first such
+-- byte
+pub record MonthRefused (f2 month : List ℕ) (p : ℕ) : Type 0 where
+  pub whole : recordSize ≤ length f2
+  pub walked : monthFileCheck month ≡ Accepted
+  pub record-finite : FiniteRecord f2
+  pub first : FirstInMonth month p
+
+-- and of the month file exactly where the record's words are all finite.
+abbrev pub MonthWordRefused : Type 0
+MonthWordRefused =
+    (f2 month : List ℕ) (p : ℕ) →
+    (filesCheck f2 month ≡ Refused (MonthWord p) → MonthRefused f2 month p)
+    × (MonthRefused f2 month p → filesCheck f2 month ≡ Refused (MonthWord p))
+
+-- the record is whole, the month file passes its walk, all words are finite and the index table is
+-- good
+pub record GoodFiles (f2 month : List ℕ) : Type 0 where
+  pub whole : recordSize ≤ length f2
+  pub walked : monthFileCheck month ≡ Accepted
+  pub record-finite : FiniteRecord f2
+  pub month-finite : FiniteMonth month
+  pub index : indexCheck month ≡ Accepted
+
+-- Both files are accepted exactly where all of this holds.
+abbrev pub FilesGood : Type 0
+FilesGood =
+    (f2 month : List ℕ) →
+    (filesCheck f2 month ≡ Accepted → GoodFiles f2 month) × (GoodFiles f2 month → filesCheck f2 month ≡ Accepted)
 
 -- ---- demand 1: 'refusing always is shut out': files that are accepted
 

@@ -8,7 +8,7 @@ use Prim.Native.Nat.{ℕ, _+_, _-_, _*_, _≤_, _<_}
 use lib.Dec.{T, eqb, leb}
 use lib.IntN.{ℤ, pos, negsuc}
 use lib.ListN.{getD}
-use lib.Ieee.{Float, nan, inf, fin, binary32, lt, le, isNan}
+use lib.Ieee.{Float, nan, inf, fin, binary32, ofBits, lt, le, isNan}
 use lib.Ieee.Scale.{finite}
 use Rattle.base.specs.declared.angle.Degrees.{Degrees}
 use Rattle.base.specs.declared.angle.Radians.{Radians}
@@ -22,6 +22,8 @@ use Rattle.base.specs.Ranges.{isTo, isMonth}
 use Rattle.base.specs.Words.{floatAt}
 use Rattle.base.specs.Tables.{startOf, wordsOf, xf2cof, xfm3cf, anew}
 use Rattle.base.specs.Index.{indexCheck}
+use Rattle.base.specs.Blend.{blendOf, f2Weights, fakmapOf}
+use Rattle.base.specs.Finite.{FiniteRecord, FiniteMonth}
 use Rattle.base.specs.Files.{filesCheck}
 use Rattle.maps.specs.declared.inputs.Inputs.{Inputs}
 use Rattle.maps.specs.declared.inputs.Factors.{Factors}
@@ -37,7 +39,11 @@ use Rattle.maps.specs.Magnetic.{HC, bvOf, bnOf, magfinOf, magvarOf}
 use Rattle.maps.specs.Layers.{sunOf, sspOf, sslOf, monthlyOf, layersOf, esindOf, groundOf}
 use Rattle.maps.specs.Ionosphere.{gammasAt}
 use Rattle.maps.specs.Figures.{hourOf, numbersOf, pointRow, sheetPath, figuresOf}
+use Rattle.maps.specs.declared.figures.Shown.the-variants.{Points}
+use Rattle.worksheet.specs.declared.desks.Worksheet.{Worksheet}
 use Rattle.worksheet.specs.Inputs.{inputsCheck}
+use Rattle.worksheet.specs.Showing.{Source, inputsShown}
+use Rattle.worksheet.specs.Journal.{show, shown, step}
 
 -- ---- of what it is said
 
@@ -413,6 +419,48 @@ NoSunRow =
     (f2 file : List ℕ) (i : Inputs) (pt : ControlPoint) → (i .month ≡ 0) ⊎ (12 < i .month) →
     let row = pointRow (hourOf f2 file i) i pt in
     (getD row 21 nan ≡ nan) × (getD row 18 nan ≡ nan) × (getD row 12 nan ≡ nan)
+
+-- ---- request 10: the words of the files
+
+-- every f32 word of the record and of the month file's tables, used or not, is a finite number
+pub record FiniteFiles (f2 file : List ℕ) : Type 0 where
+  pub in-record : FiniteRecord f2
+  pub in-month : FiniteMonth file
+
+-- Every accepted showing, of the worksheet or of a desk, on any worksheet and over any source of
+-- files, is from files of finite words only.
+abbrev pub ShownFinite : Type 0
+ShownFinite =
+    (source : Source) (w : Worksheet) (n : ℕ) (lent figures : List Float) (count : ℕ) →
+    step source (show n lent) w .answer ≡ shown (Points count) figures →
+    let i = inputsShown n w in FiniteFiles (source i .f2) (source i .file)
+
+-- of what a sheet takes of a month file beside the maps: the land map's 464 numbers and the four of
+-- `abmap` are finite, and the sums that `zenmax` and foF1 are made of are no NaN
+pub record MonthNumbers (file : List ℕ) (m : Monthly) : Type 0 where
+  pub land-map : (k : ℕ) → k < 464 → T (finite (getD (fakmapOf file) k nan))
+  pub land-alf : T (finite (m .«land_alf»))
+  pub land-bet : T (finite (m .«land_bet»))
+  pub ratio-alf : T (finite (m .«ratio_alf»))
+  pub ratio-bet : T (finite (m .«ratio_bet»))
+  pub chi0 : T (not (isNan (m .chi0)))
+  pub chi1 : T (not (isNan (m .chi1)))
+  pub new0 : T (not (isNan (m .new0)))
+  pub new1 : T (not (isNan (m .new1)))
+  pub new2 : T (not (isNan (m .new2)))
+
+-- So there no NaN is left of files that are accepted, with a sunspot number in range; the five sums
+-- may be infinite, by overflow.
+abbrev pub MonthNumbersSound : Type 0
+MonthNumbersSound =
+    (f2 file : List ℕ) (month : ℕ) (ssn : Float) → filesCheck f2 file ≡ Accepted →
+    T (isTo (decimal 0 1) (decimal 300 0) ssn) → MonthNumbers file (monthlyOf file month ssn)
+
+-- A blended coefficient can still be NaN: of the largest finite number in both planes of the F2 map,
+-- at sunspot number 300, the two products overflow to infinities of both signs.
+abbrev pub BlendOverflows : Type 0
+BlendOverflows =
+    let x = ofBits binary32 2139095039 in T (finite x) × (blendOf (f2Weights (decimal 300 0)) x x ≡ nan)
 
 -- ---- left open
 

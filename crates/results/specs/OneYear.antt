@@ -18,8 +18,10 @@ use Rattle.base.specs.declared.refusal.Verdict.{Verdict}
 use Rattle.base.specs.declared.refusal.Verdict.the-variants.{Accepted, Refused}
 use Rattle.base.specs.Refusal.{refuseUnless, _then_}
 use Rattle.base.specs.Ranges.{isMonth, isBit}
+use Rattle.base.specs.Finite.{recordsCheck, tablesCheck, FiniteRecord}
+use Rattle.base.specs.Index.{indexCheck}
 use Rattle.base.specs.Files.{fileCheck}
-use Rattle.base.specs.MonthFile.{recordSize, monthStart}
+use Rattle.base.specs.MonthFile.{recordSize, monthStart, monthFileCheck}
 use Rattle.base.specs.Year.{directorySize, offsetAt, lengthAt, endAt, floorAt, yearCheck, pairPart, partBytes}
 use Rattle.packing.specs.Pack.{partCheck, packed}
 use Rattle.maps.specs.declared.inputs.Inputs.{Inputs}
@@ -119,19 +121,31 @@ partAt s k = take (lengthAt s k) (drop (offsetAt s k) s)
 abbrev pub recordCheck : List ℕ → ℕ → ℕ → Verdict
 recordCheck s month model = refuseUnless (leb (month * recordSize) (length (partAt s (12 + model)))) Record
 
+-- the month's record in the part of the model
+abbrev pub recordAt : List ℕ → ℕ → ℕ → List ℕ
+recordAt s month model = take recordSize (drop (monthStart month) (partAt s (12 + model)))
+
+-- what is refused of the two, 'after 10 and before 11' by the words of the record and then of the part
+abbrev pub partsCheck : List ℕ → ℕ → ℕ → Verdict
+partsCheck s month model =
+    let part = partAt s (month - 1) in
+    monthFileCheck part then recordsCheck (recordAt s month model) 1 then tablesCheck part then indexCheck part
+
 -- Of a month from 1 to 12 and a model of 0 or 1 a year file refuses exactly this: by 19 where its
 -- directory is refused, else by 8 where the model's own part has under month × 7,904 bytes, else by
--- 9, 10 or 11 what is refused in the month's own part; so that no other part refuses anything.
+-- 9 or 10 what is refused in the month's own part, else by 23 a word of the month's record in the
+-- model's part, then one of the month's part, else by 11; so that no other part refuses anything.
 abbrev pub YearFilesExactly : Type 0
 YearFilesExactly =
     (s : List ℕ) (month model : ℕ) → T (isMonth month) → T (isBit model) →
     yearFilesCheck s month model
-    ≡ (yearCheck s then recordCheck s month model then fileCheck (partAt s (month - 1)))
+    ≡ (yearCheck s then recordCheck s month model then partsCheck s month model)
 
 -- A showing over a year file, of the worksheet or of a desk, on any worksheet, refuses exactly this,
 -- of which the first decides: 14 and 16, the 15 fields of the inputs shown, 12, 19, then 8 by the
--- part of the inputs' own model and 9, 10 and 11 by that of their own month, the places of 9 and 10
--- counting from that part's start.
+-- part of the inputs' own model, 9 and 10 by that of their own month, 23 by the month's record and by
+-- that part, and 11; the places of 9, 10 and the part's 23 count from the part's start, those of the
+-- record's 23 from the record's.
 abbrev pub YearShowingExactly : Type 0
 YearShowingExactly =
     (s : List ℕ) (n size : ℕ) (w : Worksheet) →
@@ -143,13 +157,9 @@ YearShowingExactly =
     then bufferCheck size
     then yearCheck s
     then recordCheck s (i .month) (i .model)
-    then fileCheck (partAt s (i .month - 1)))
+    then partsCheck s (i .month) (i .model))
 
 -- ---- request 01: 'Showing picks its parts by these two'
-
--- the month's record in the part of the model
-abbrev pub recordAt : List ℕ → ℕ → ℕ → List ℕ
-recordAt s month model = take recordSize (drop (monthStart month) (partAt s (12 + model)))
 
 -- the figures are those of one month, one model and their own two parts: of the inputs i, over the
 -- record of their month in the part of their model, and the part of their month
@@ -160,6 +170,7 @@ pub record OwnParts (s : List ℕ) (i : Inputs) (count : ℕ) (figures : List Fl
   pub model : (i .model ≡ 0) ⊎ (i .model ≡ 1)
   pub directory : GoodYear s
   pub room : i .month * recordSize ≤ length (partAt s (12 + i .model))
+  pub words : FiniteRecord (recordAt s (i .month) (i .model))
   pub file : fileCheck (partAt s (i .month - 1)) ≡ Accepted
   pub points : count ≡ sheetPath i .count
   pub whole : figures ≡ figuresOf (recordAt s (i .month) (i .model)) (partAt s (i .month - 1)) i

@@ -1,5 +1,5 @@
-// The files: damaged month files, month records, index tables, every word of two pairs of files and
-// every blended coefficient, in what `oracle files` writes.
+// The files: damaged month files, month records, index tables, every word of three pairs of files
+// and every blended coefficient of two, in what `oracle files` writes.
 use crate::row::is_float;
 use base::blend::COFION;
 use base::blend::PLANE;
@@ -13,8 +13,9 @@ use base::month_file::month_record;
 use base::month_file::month_record_check;
 use base::number;
 use base::refusal::Verdict;
-use base::words::float;
+use base::words::TableWord;
 use base::words::integer;
+use base::words::table_word;
 use base::words::word;
 use tally::Tally;
 use tally::counted;
@@ -152,14 +153,22 @@ fn indexes(fd: i32) -> Tally {
     t
 }
 
-// The n floats of a file from `at` on.
+// Whether a table's word is the Rust's: its number, or that it is none.
+fn is_word(w: TableWord, wanted: u32) -> bool {
+    match w {
+        TableWord::Finite(x) => is_float(x, wanted),
+        TableWord::NotFinite => wanted % 0x8000_0000 >= 0x7f80_0000,
+    }
+}
+
+// The n words of tables from `at` on.
 fn floats(fd: i32, s: &[u8], at: usize, n: usize, t: Tally) -> Tally {
     let mut t = t;
     let mut k: usize = 0;
     while k < n {
         let place = std::num::wrapping_add_usize(at, std::num::wrapping_add_usize(k, k));
         let place = std::num::wrapping_add_usize(place, std::num::wrapping_add_usize(k, k));
-        t = counted(t, is_float(float(s, place), next(fd)));
+        t = counted(t, is_word(table_word(s, place), next(fd)));
         k += 1;
     }
     t
@@ -242,8 +251,15 @@ fn replay_records(fd: i32) {
     }
 }
 
-// One pair of files against the next answers of words.bin and blends.bin.
-fn replay_pair(daw_path: &[u8], month_path: &[u8], words_fd: i32, blends_fd: i32) {
+// One pair of files against the next answers of words.bin and, where its words are all finite, of
+// blends.bin.
+fn replay_pair(
+    daw_path: &[u8],
+    month_path: &[u8],
+    words_fd: i32,
+    are_finite: bool,
+    blends_fd: i32,
+) {
     let mut daw = [0u8; 15808];
     let mut month = [0u8; MONTH_FILE];
     if !load(daw_path, &mut daw) {
@@ -254,12 +270,15 @@ fn replay_pair(daw_path: &[u8], month_path: &[u8], words_fd: i32, blends_fd: i32
     }
     let record = month_record(&daw, 2);
     print_line(b"words", words(words_fd, record, &month));
-    print_line(b"blends", blends(blends_fd, record, &month, none()));
+    if are_finite {
+        print_line(b"blends", blends(blends_fd, record, &month, none()));
+    }
 }
 
 fn replay_pairs(words_fd: i32, blends_fd: i32) {
-    replay_pair(b"calm.daw", b"calm.month", words_fd, blends_fd);
-    replay_pair(b"wild.daw", b"wild.month", words_fd, blends_fd);
+    replay_pair(b"calm.daw", b"calm.month", words_fd, true, blends_fd);
+    replay_pair(b"wild.daw", b"wild.month", words_fd, false, blends_fd);
+    replay_pair(b"huge.daw", b"huge.month", words_fd, true, blends_fd);
 }
 
 pub fn replay() {

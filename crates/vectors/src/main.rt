@@ -2,6 +2,7 @@
 // many differ.
 mod clocks;
 mod files;
+mod finite;
 mod hours;
 mod numbers;
 mod routes;
@@ -12,6 +13,7 @@ mod tables;
 fn main() {
     numbers::replay();
     files::replay();
+    finite::replay();
     routes::replay();
     hours::replay();
     sheets::replay();

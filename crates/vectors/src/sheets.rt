@@ -212,6 +212,8 @@ pub fn replay() {
     }
     let fd = files::opened(b"refused-sheets.bin");
     if fd >= 0 {
+        // One record that is good and one that is not.
+        replay_refused(fd);
         replay_refused(fd);
         libc::close(fd);
     }

@@ -83,7 +83,8 @@ askedCheck n w = cond (eqb n 0) Accepted (deskCheck n then draftCheck (draftAt n
 unfoldable pub bufferCheck : ℕ → Verdict
 bufferCheck size = refuseUnless (eqb size 151) Figures
 
--- the figures' part of a showing: '12 .., 8 .., 9, 10, 11', with what the source refuses after 12
+-- the figures' part of a showing: '12 .., 8 .., 9, 10, 11', with what the source refuses after 12,
+-- and 23 'after 10 and before 11'
 unfoldable pub drawnCheck : Files → ℕ → Verdict
 drawnCheck s size = bufferCheck size then s .verdict then filesCheck (s .f2) (s .file)
 
@@ -105,7 +106,7 @@ judgedCheck n w = askedCheck n w then inputsCheck (inputsShown n w)
 
 module _ (source : Source) where
   -- 'It refuses 14 .., 16 .., the 14 fields of the inputs shown, 12 .., 8 .., 9, 10, 11', what the
-  -- source refuses after 12
+  -- source refuses after 12, and 23 before 11
   unfoldable pub showCheck : ℕ → ℕ → Worksheet → Verdict
   showCheck n size w = judgedCheck n w then drawnCheck (source (inputsShown n w)) size
 

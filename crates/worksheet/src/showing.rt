@@ -106,7 +106,7 @@ pub fn drawn(i: Inputs, f2: &[u8], file: &[u8], out: &mut [f32]) -> Shown
 
 // What a showing of a month and a model over a year file is refused by, where its desk, its other
 // fields and its buffer pass: 1 and 7 by the two words, 19 by the directory, 8 where the model's part has not
-// the month's record, then 9, 10 and 11 of the month's part.
+// the month's record, then 9 and 10 of the month's part, 23 of the record and of that part, and 11.
 pub fn year_files_check(year: &[u8], month: u32, model: u32) -> Verdict
     ensures { λ r. ⌜ r ≡ yearFilesCheck (now (year .entry)) month model ⌝ }
 {
@@ -140,8 +140,8 @@ fn drawn_year(i: Inputs, year: &[u8], out: &mut [f32]) -> Shown
 }
 
 // The number of points, with the figures of a desk's draft, of the worksheet for desk 0, in the
-// buffer. Refuses 14, 16, the 15 fields of the inputs shown, 12, 8, 9, 10, 11; the buffer stays as it
-// was lent. The files are taken as lent, whatever month and model the inputs shown have.
+// buffer. Refuses 14, 16, the 15 fields of the inputs shown, 12, 8, 9, 10, 23, 11; the buffer stays as
+// it was lent. The files are taken as lent, whatever month and model the inputs shown have.
 pub fn show(w: Worksheet, desk: u32, f2: &[u8], file: &[u8], out: &mut [f32]) -> Shown
     ensures answer { λ r. ⌜ r ≡ showOf (pair (now (f2 .entry)) (now (file .entry))) desk (now (out .entry)) w ⌝ }
     ensures buffer { λ _. ⌜ (
@@ -157,7 +157,7 @@ pub fn show(w: Worksheet, desk: u32, f2: &[u8], file: &[u8], out: &mut [f32]) ->
 }
 
 // The same over a year file: of the month and model of the inputs shown. Refuses 14, 16, the 15
-// fields of the inputs shown, 12, 19, 8, 9, 10, 11; the buffer stays as it was lent.
+// fields of the inputs shown, 12, 19, 8, 9, 10, 23, 11; the buffer stays as it was lent.
 pub fn show_year(w: Worksheet, desk: u32, year: &[u8], out: &mut [f32]) -> Shown
     ensures answer { λ r. ⌜ r ≡ showOf (yearly (now (year .entry))) desk (now (out .entry)) w ⌝ }
     ensures buffer { λ _. ⌜ now (out .exit) ≡ showBuffer (yearly (now (year .entry))) desk (now (out .entry)) w ⌝ }

@@ -22,6 +22,9 @@ use lent::Files;
 
 /// Journals for each year file or pair of files.
 const JOURNALS: u64 = 10;
+/// In so many journals a showing must be refused by 23, of the record and of the month
+/// file.
+const RARE: u64 = 1000;
 
 pub fn run(count: &str, seed: &str, program: &str, folder: &str) -> Result<(), String> {
     let (count, seed) = (whole(count)?, whole(seed)?);
@@ -48,7 +51,8 @@ pub fn run(count: &str, seed: &str, program: &str, folder: &str) -> Result<(), S
         }
     }
     kinds.print();
-    beside.report()
+    beside.report()?;
+    kinds.refuse_rare(count / RARE)
 }
 
 /// Journals that are the same each time, with lines to be audited.

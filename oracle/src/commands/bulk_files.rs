@@ -4,53 +4,77 @@
 use crate::commands::compare::{filled, report, Tally};
 use crate::commands::whole;
 use crate::draw::damage::Damage;
-use crate::draw::data_files::{calm, ladders::near_good, wild, Pair};
+use crate::draw::data_files::{any, ladders::near_good, Pair};
 use crate::draw::generator::Generator;
 use crate::reference::files::{blends, put, walk};
-use crate::reference::sheets::{self, FIGURES};
+use crate::reference::sheets::{file_check, files_check, number_and_place};
 use crate::reference::voacap::coefficients::F2_RECORD_BYTES;
 use jutetrowel::raw::{self, Answer};
 
 pub fn run(count: &str, seed: &str) -> Result<(), String> {
     let count = whole(count)?;
     let seed = whole(seed)?;
-    let names = ["month_file_check", "file_check", "cofion", "hmym"];
-    let mut tallies = names.map(Tally::new);
+    let mut tallies = NAMES.map(Tally::new);
     for case in 0..count {
         let mut random = Generator::of_case(seed, case);
         compare(&mut random, &mut tallies, case);
     }
-    report(&tallies)
+    report(&tallies)?;
+    tallies
+        .iter()
+        .try_for_each(|tally| tally.refuse_rare(count / RARE))
 }
 
-fn compare(random: &mut Generator, tallies: &mut [Tally; 4], case: u64) {
+/// The functions, each but the first without and with a refusal by 23.
+const NAMES: [&str; 8] = [
+    "month_file_check",
+    "file_check",
+    "  by 23",
+    "cofion",
+    "  by 23, record",
+    "  by 23, month file",
+    "hmym",
+    "  by 23",
+];
+/// At least one pair in so many must have each answer.
+const RARE: u64 = 500;
+
+/// Places of the functions among the names.
+const FORM: usize = 0;
+const CHECK: usize = 1;
+const COFION: usize = 3;
+const HMYM: usize = 6;
+
+fn compare(random: &mut Generator, tallies: &mut [Tally; 8], case: u64) {
     let pair = files(random);
-    let [form, check, cofion, hmym] = tallies;
-    form.note(
-        case,
-        refusal(raw::month_file_check(&pair.month), walk(&pair.month)),
-    );
-    let file = usable(&WHOLE_RECORD, &pair.month);
-    check.note(case, refusal(raw::file_check(&pair.month), file));
+    let walked = refusal(raw::month_file_check(&pair.month), walk(&pair.month));
+    tallies[FORM].note(case, walked);
     let ssn = sunspots(random);
-    let both = usable(&pair.daw, &pair.month);
-    let at = |difference: Option<String>| difference.map(|text| format!("at {ssn:e}, {text}"));
-    let wanted = (both == (0, 0)).then(|| blended(&pair, ssn).0);
-    let difference = filled(both, wanted, |out| {
+    let both = files_check(&pair.daw, &pair.month);
+    let wanted = both.is_ok().then(|| blended(&pair, ssn).0);
+    let difference = filled(number_and_place(both), wanted, |out| {
         raw::cofion(&pair.daw, &pair.month, ssn, out)
     });
-    cofion.note(case, at(difference));
-    let wanted = (file == (0, 0)).then(|| blended(&pair, ssn).1);
-    let difference = filled(file, wanted, |out| raw::hmym(&pair.month, ssn, out));
-    hmym.note(case, at(difference));
+    let kind = match both {
+        Err(why) if why.number == 23 => 2 - usize::from(why.of_record),
+        _ => 0,
+    };
+    let at = |text| format!("at {ssn:e}, {text}");
+    tallies[COFION + kind].note(case, difference.map(at));
+    compare_month_file(tallies, case, &pair, ssn);
 }
 
-/// For a function that takes the month file alone.
-const WHOLE_RECORD: [u8; F2_RECORD_BYTES] = [0; F2_RECORD_BYTES];
-
-/// What a sheet refuses both files for, if its buffer has the right length.
-fn usable(record: &[u8], file: &[u8]) -> (u32, u32) {
-    sheets::refusal(record, file, FIGURES)
+/// What is asked of the month file alone.
+fn compare_month_file(tallies: &mut [Tally; 8], case: u64, pair: &Pair, ssn: f32) {
+    let alone = file_check(&pair.month);
+    let kind = usize::from(alone.is_err_and(|why| why.number == 23));
+    let answer = number_and_place(alone);
+    let checked = refusal(raw::file_check(&pair.month), answer);
+    tallies[CHECK + kind].note(case, checked);
+    let wanted = alone.is_ok().then(|| blended(pair, ssn).1);
+    let difference = filled(answer, wanted, |out| raw::hmym(&pair.month, ssn, out));
+    let at = |text| format!("at {ssn:e}, {text}");
+    tallies[HMYM + kind].note(case, difference.map(at));
 }
 
 /// The Rust reads no height map without a whole record.
@@ -61,16 +85,11 @@ fn blended(pair: &Pair, ssn: f32) -> (Vec<f32>, Vec<f32>) {
     blends(1, ssn)
 }
 
-/// Calm or wild, with a table that passes or nearly does; half of them
-/// damaged.
+/// Calm or wild, some with a word that is no finite number, with a table that passes
+/// or nearly does; half of them damaged.
 fn files(random: &mut Generator) -> Pair {
     let ikim = near_good(random);
-    let mut pair = match random.below(5) {
-        0 | 1 => calm(random, &ikim, 1),
-        2 => wild(random, &ikim, 1, 500),
-        3 => wild(random, &ikim, 1, 8),
-        _ => wild(random, &ikim, 1, 1),
-    };
+    let mut pair = any(random, &ikim, 1);
     if random.below(2) == 0 {
         pair.month = Damage::any(random).done_to(&pair.month);
     }

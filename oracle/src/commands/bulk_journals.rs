@@ -1,7 +1,7 @@
 //! `bulk-journals COUNT SEED PROGRAM`: the port's program `replay` beside the
 //! model over random journals, whole outputs byte by byte.
 
-use crate::commands::journals::counts::Counts;
+use crate::commands::journals::counts::{by_bad_words, Counts, SHOWINGS};
 use crate::commands::journals::drawn::long;
 use crate::commands::journals::{self, hold_to_demand_3};
 use crate::commands::program::Compared;
@@ -14,6 +14,9 @@ use crate::model::desks::programs::{replay_text, replay_with, CALLS};
 
 /// Journals for each pair of files.
 const JOURNALS: u64 = 10;
+/// In so many journals a showing must be refused by 23, of the record and of the month
+/// file.
+const RARE: u64 = 1000;
 
 pub fn run(count: &str, seed: &str, program: &str) -> Result<(), String> {
     let (count, seed) = (whole(count)?, whole(seed)?);
@@ -39,7 +42,8 @@ pub fn run(count: &str, seed: &str, program: &str) -> Result<(), String> {
         }
     }
     counts.print();
-    compared.report()
+    compared.report()?;
+    counts.refuse_rare(&by_bad_words(&SHOWINGS), count / RARE, 0)
 }
 
 /// Mostly 40 to 200 calls; some opens are refused, some journals end with what

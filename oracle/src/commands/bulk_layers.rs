@@ -7,10 +7,11 @@ use crate::commands::lent::{self, fields, Files};
 use crate::commands::whole;
 use crate::draw::generator::Generator;
 use crate::draw::sheet_kinds::one_of;
+use crate::model::desks::Refusal;
 use crate::port::{layers as port, ACCEPTED};
 use crate::reference::files::read;
 use crate::reference::layers::{hour_maps, layers_at, measured, HourMaps, Place};
-use crate::reference::sheets::{put_all_months, refusal, Sheet, FIGURES};
+use crate::reference::sheets::{file_check, files_check, put_all_months, Sheet};
 use crate::reference::voacap::coefficients::CoefficientSet;
 use jutetrowel::raw::Answer;
 use std::f64::consts::PI;
@@ -20,19 +21,27 @@ const SHEETS: u64 = 50;
 /// Places for each sheet beside its control points.
 const PLACES: usize = 3;
 /// Each part, and its refusals by their number.
-const NAMES: [&str; 11] = [
+const NAMES: [&str; 14] = [
     "paths",
     "hour maps",
     "  refused by 8",
     "  refused by 9",
     "  refused by 10",
     "  refused by 11",
+    "  by 23, record",
+    "  by 23, month file",
     "layers at points",
     "  elsewhere",
     "  refused by 9",
     "  refused by 10",
     "  refused by 11",
+    "  refused by 23",
 ];
+/// The names of the maps, and those of the layers.
+const MAPS: usize = 1;
+const LAYERS: usize = 8;
+/// At least one sheet in so many must have each answer.
+const RARE: u64 = 5000;
 const HOUR_MAPS: usize = 318;
 
 pub fn run(count: &str, seed: &str) -> Result<(), String> {
@@ -50,19 +59,28 @@ pub fn run(count: &str, seed: &str) -> Result<(), String> {
             let case = Case {
                 sheet: &sheet,
                 files: &files,
-                whole_record: &pair.daw,
                 number: (case, number),
             };
             case.compare(&mut random, &mut tallies);
         }
     }
-    report(&tallies)
+    report(&tallies)?;
+    tallies
+        .iter()
+        .try_for_each(|tally| tally.refuse_rare(count / RARE))
+}
+
+/// A refusal's name among those of the maps.
+fn kind_of(why: &Refusal) -> usize {
+    match why.number {
+        23 => 6 - usize::from(why.of_record),
+        number => number as usize - 7,
+    }
 }
 
 struct Case<'a> {
     sheet: &'a Sheet,
     files: &'a Files<'a>,
-    whole_record: &'a [u8],
     /// Of the pair of files, and of the sheet among its sheets.
     number: (u64, u64),
 }
@@ -78,20 +96,19 @@ impl Case<'_> {
         tally.note(case, difference.map(text));
     }
 
-    fn compare(&self, random: &mut Generator, tallies: &mut [Tally; 11]) {
-        let (maps, layers) = tallies[1..].split_at_mut(5);
-        let wanted = answer(refusal(self.files.record, &self.files.file, FIGURES));
-        let tally = match wanted {
-            ACCEPTED => &mut maps[0],
-            why => &mut maps[why.number as usize - 7],
-        };
-        self.note(tally, self.hour_maps(random, wanted));
+    fn compare(&self, random: &mut Generator, tallies: &mut [Tally; 14]) {
+        let check = files_check(self.files.record, &self.files.file);
+        let kind = check.as_ref().err().map_or(0, kind_of);
+        let wanted = check.err().map_or(ACCEPTED, Answer::from);
+        self.note(&mut tallies[MAPS + kind], self.hour_maps(random, wanted));
         // The layers need no record.
-        match answer(refusal(self.whole_record, &self.files.file, FIGURES)) {
-            ACCEPTED => self.layers(random, layers),
-            why => {
-                let tally = &mut layers[why.number as usize - 7];
-                self.refused_layers(random, tally, why);
+        let layers = &mut tallies[LAYERS..];
+        match file_check(&self.files.file) {
+            Ok(()) => self.layers(random, layers),
+            Err(why) => {
+                // Its 23 follows 11: no record is looked at.
+                let tally = &mut layers[kind_of(&why).min(5)];
+                self.refused_layers(random, tally, why.into());
             }
         }
         self.note(&mut tallies[0], self.path(random));
@@ -163,10 +180,6 @@ impl Case<'_> {
 }
 
 type Layers = (Answer, [f32; 16]);
-
-fn answer((number, place): (u32, u32)) -> Answer {
-    Answer { number, place }
-}
 
 /// Mostly those of the sheet's hour, some that no file gives.
 fn any_maps(random: &mut Generator, set: &CoefficientSet, gmt: f32) -> HourMaps {

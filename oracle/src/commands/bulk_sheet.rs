@@ -1,7 +1,7 @@
 //! `bulk-sheet COUNT SEED PROGRAM`: the port's program `sheet` beside the model
 //! over random inputs, whole outputs byte by byte.
 
-use crate::commands::journals::counts::Counts;
+use crate::commands::journals::counts::{by_bad_words, Counts};
 use crate::commands::program::Compared;
 use crate::commands::whole;
 use crate::draw::damage::Damage;
@@ -16,6 +16,8 @@ use crate::reference::voacap::coefficients::F2_RECORD_BYTES;
 
 /// Inputs for each pair of files.
 const INPUTS: u64 = 20;
+/// Of so many inputs one must be refused by 23, of the record and of the month file.
+const RARE: u64 = 2000;
 
 pub fn run(count: &str, seed: &str, program: &str) -> Result<(), String> {
     let (count, seed) = (whole(count)?, whole(seed)?);
@@ -33,7 +35,8 @@ pub fn run(count: &str, seed: &str, program: &str) -> Result<(), String> {
         }
     }
     counts.print();
-    compared.report()
+    compared.report()?;
+    counts.refuse_rare(&by_bad_words(&["sheet"]), count / RARE, 0)
 }
 
 /// Mostly good; otherwise with bad fields, a damaged month file, a record of

@@ -12,7 +12,7 @@ use crate::draw::sheet_kinds::one_of;
 use crate::model::desks::fields::{with_model, CCIR};
 use crate::model::desks::{Refusal, Worksheet};
 use crate::port::sheets::figures_by;
-use crate::reference::sheets::{put_all_months, refusal, showing, Sheet, FIGURES};
+use crate::reference::sheets::{put_all_months, showing, showing_check, Sheet, FIGURES};
 use jutetrowel::raw::{self, Showing};
 
 /// Sheets for each pair of files, which takes longer to make than a sheet.
@@ -21,23 +21,50 @@ const SHEETS: u64 = 50;
 pub fn run(count: &str, seed: &str) -> Result<(), String> {
     let count = whole(count)?;
     let seed = whole(seed)?;
-    let mut tallies = ["shown", "refused", "by words"].map(Tally::new);
+    let mut tallies = NAMES.map(Tally::new);
     for case in 0..count.div_ceil(SHEETS) {
         let mut random = Generator::of_case(seed, case);
         compare(&mut random, &mut tallies, case);
     }
-    report(&tallies)
+    report(&tallies)?;
+    tallies
+        .iter()
+        .try_for_each(|tally| tally.refuse_rare(count / RARE))
 }
 
-fn compare(random: &mut Generator, tallies: &mut [Tally; 3], case: u64) {
+/// How a showing by its fields must be answered, and then those by words.
+const NAMES: [&str; 5] = [
+    "shown",
+    "refused",
+    "  by 23, record",
+    "  by 23, month file",
+    "by words",
+];
+const BY_WORDS: usize = 4;
+/// At least one sheet in so many must have each answer.
+const RARE: u64 = 5000;
+
+fn kind_of(check: &Result<(), Refusal>) -> usize {
+    match check {
+        Ok(()) => 0,
+        Err(Refusal {
+            number: 23,
+            of_record,
+            ..
+        }) => 3 - usize::from(*of_record),
+        Err(_) => 1,
+    }
+}
+
+fn compare(random: &mut Generator, tallies: &mut [Tally; 5], case: u64) {
     let pair = lent::files(random);
     put_all_months(&pair.daw, &pair.month);
     for number in 0..SHEETS {
         let lent = Lent::of(random, &pair);
-        let (refused, difference) = lent.difference(random);
+        let (kind, difference) = lent.difference(random);
         let text = |text| format!("sheet {number}, {text}\n    {lent:?}");
-        tallies[usize::from(refused)].note(case, difference.map(text));
-        tallies[2].note(case, lent.difference_by_words(random).map(text));
+        tallies[kind].note(case, difference.map(text));
+        tallies[BY_WORDS].note(case, lent.difference_by_words(random).map(text));
         if lent.files.is_damaged() {
             put_all_months(&pair.daw, &pair.month);
         }
@@ -79,16 +106,18 @@ impl<'a> Lent<'a> {
         }
     }
 
-    /// Whether the showing must be refused, and how the port differs.
-    fn difference(&self, random: &mut Generator) -> (bool, Option<String>) {
+    /// How the showing must be answered, and how the port differs.
+    fn difference(&self, random: &mut Generator) -> (usize, Option<String>) {
         let Files { record, file } = &self.files;
         let mut buffer = lent::buffer(random, self.buffer);
         let flag = lent::flag(random, self.sheet.route.long);
         let answer = figures_by(flag, &self.sheet, record, file, buffer.lent());
-        match refusal(record, file, self.buffer) {
-            (0, 0) => (false, self.shown(answer, &buffer)),
-            why => (true, refused(why, answer, &buffer)),
-        }
+        let check = showing_check(record, file, self.buffer);
+        let difference = match check {
+            Ok(()) => self.shown(answer, &buffer),
+            Err(why) => refused(why, answer, &buffer),
+        };
+        (kind_of(&check), difference)
     }
 
     /// A bad field is refused before buffer and files; a 15th word is not read.
@@ -107,13 +136,10 @@ impl<'a> Lent<'a> {
         let bytes: Vec<u8> = all.flat_map(u32::to_le_bytes).collect();
         let mut buffer = lent::buffer(random, self.buffer);
         let answer = raw::sheet(&bytes, record, file, buffer.lent());
-        let why = match Worksheet::open(with_model(words, CCIR)) {
-            Ok(_) => refusal(record, file, self.buffer),
-            Err(Refusal { number, place }) => (number, place),
-        };
-        match why {
-            (0, 0) => self.shown(answer, &buffer),
-            _ => refused(why, answer, &buffer),
+        let opened = Worksheet::open(with_model(words, CCIR));
+        match opened.and_then(|_| showing_check(record, file, self.buffer)) {
+            Ok(()) => self.shown(answer, &buffer),
+            Err(why) => refused(why, answer, &buffer),
         }
     }
 
@@ -132,8 +158,8 @@ impl<'a> Lent<'a> {
 }
 
 /// A refusal leaves the buffer as it was.
-fn refused(why: (u32, u32), answer: Showing, buffer: &Buffer) -> Option<String> {
-    let (number, place) = why;
+fn refused(why: Refusal, answer: Showing, buffer: &Buffer) -> Option<String> {
+    let Refusal { number, place, .. } = why;
     let wanted = Showing {
         points: 0,
         number,

@@ -93,7 +93,7 @@ fn difference(
             number: 0,
             place: 0,
         },
-        Err(Refusal { number, place }) => Span {
+        Err(Refusal { number, place, .. }) => Span {
             start: 0,
             size: 0,
             number: *number,

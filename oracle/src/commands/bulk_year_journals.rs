@@ -2,7 +2,7 @@
 //! argument `year` beside the model over random journals, whole outputs byte by
 //! byte.
 
-use crate::commands::journals::counts::Counts;
+use crate::commands::journals::counts::{by_bad_words, Counts, SHOWINGS};
 use crate::commands::journals::drawn::long;
 use crate::commands::journals::hold_to_demand_3;
 use crate::commands::program::Compared;
@@ -18,6 +18,9 @@ use crate::model::desks::programs::{
 
 /// Journals for each year file.
 const JOURNALS: u64 = 10;
+/// In so many journals a showing must be refused by 23, of the record and of the month
+/// file.
+const RARE: u64 = 1000;
 
 /// Whether an input is such, by its bytes and what was made of it.
 type Kind = (&'static str, fn(&[u8], &Replayed) -> bool);
@@ -82,7 +85,8 @@ pub fn run(count: &str, seed: &str, program: &str) -> Result<(), String> {
     }
     counts.print();
     kinds.print();
-    compared.report()
+    compared.report()?;
+    counts.refuse_rare(&by_bad_words(&SHOWINGS), count / RARE, 0)
 }
 
 /// Mostly 40 to 200 calls; some opens are refused, some journals end with what is

@@ -86,7 +86,7 @@ fn one(years: &Years, random: &mut Generator, tallies: &mut [Tally], case: u64) 
     let file = file(random);
     let (check, kind) = match places(&file) {
         Ok(_) => (answer(0, 0), 0),
-        Err(Refusal { number, place }) => (answer(number, place), place as usize),
+        Err(Refusal { number, place, .. }) => (answer(number, place), place as usize),
     };
     tallies[kind].note(case, differing((years.check)(&file), check));
     let others = [random.any_word(), random.below(3) as u32];
@@ -123,7 +123,7 @@ fn answer(number: u32, place: u32) -> Answer {
 fn span(place: &Result<Range<usize>, Refusal>) -> Span {
     let (start, size, number, place) = match place {
         Ok(place) => (place.start, place.len(), 0, 0),
-        Err(Refusal { number, place }) => (0, 0, *number, *place),
+        Err(Refusal { number, place, .. }) => (0, 0, *number, *place),
     };
     Span {
         start,

@@ -64,7 +64,7 @@ fn told<const N: usize>(answer: Result<[f32; N], Refusal>) -> Vec<u32> {
                 *word = time.to_word() as u32;
             }
         }
-        Err(Refusal { number, place }) => words[..2].copy_from_slice(&[number, place]),
+        Err(Refusal { number, place, .. }) => words[..2].copy_from_slice(&[number, place]),
     }
     words
 }

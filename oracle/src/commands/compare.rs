@@ -46,7 +46,7 @@ impl Tally {
     /// Prints one line and gives the number of answers that differ.
     fn print(&self) -> u64 {
         println!(
-            "{:<18} {:>12} compared {:>12} differ",
+            "{:<20} {:>12} compared {:>12} differ",
             self.name, self.compared, self.differing
         );
         if let Some(first) = &self.first {

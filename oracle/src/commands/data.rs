@@ -3,10 +3,10 @@
 
 use super::write;
 use crate::draw::data_files::sizes::sizes;
-use crate::draw::data_files::{named, Pair};
+use crate::draw::data_files::{named, wild_1, Pair};
 
 pub fn run(folder: &str) -> Result<(), String> {
-    for (name, pair) in named() {
+    for (name, pair) in named().into_iter().chain([("wild-1", wild_1())]) {
         write(folder, &format!("{name}.daw"), &pair.daw)?;
         write(folder, &format!("{name}.month"), &pair.month)?;
         if name.starts_with("calm") {

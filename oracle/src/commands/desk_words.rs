@@ -153,7 +153,7 @@ mod tests {
         });
         assert_eq!(calls.collect::<HashSet<_>>(), (1..=12).collect());
         let refused = heard.heard.iter().filter_map(|heard| match heard.answer {
-            Answer::Refused(Refusal { number, place }) => Some((number, place)),
+            Answer::Refused(Refusal { number, place, .. }) => Some((number, place)),
             _ => None,
         });
         let fields = [
@@ -171,7 +171,14 @@ mod tests {
             (4, 13),
             (5, 14),
         ];
-        let files = [(8, 0), (9, 248), (10, 244), (11, 4)];
+        let files = [
+            (8, 0),
+            (9, 248),
+            (10, 244),
+            (11, 4),
+            (23, 4000),
+            (23, 23_532),
+        ];
         let desks = (14..=18).map(|number| (number, 0));
         let wanted = fields.into_iter().chain(files).chain(desks);
         assert_eq!(refused.collect::<HashSet<_>>(), wanted.collect());
@@ -220,7 +227,8 @@ mod tests {
                 answer,
                 Answer::Refused(Refusal {
                     number: 19,
-                    place: 14
+                    place: 14,
+                    ..
                 })
             )
         };
@@ -237,7 +245,7 @@ mod tests {
             panic!("{answers:?}");
         };
         let wanted = [(7, 8), (7, 8), (7, 15), (1, 1), (2, 2), (3, 3)];
-        let wanted = wanted.map(|(number, place)| Answer::Refused(Refusal { number, place }));
+        let wanted = wanted.map(|(number, place)| Answer::Refused(Refusal::at(number, place)));
         assert_eq!(given, wanted);
     }
 }

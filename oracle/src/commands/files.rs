@@ -8,7 +8,7 @@ mod walks;
 
 use super::write;
 use crate::bits::Answer;
-use crate::draw::data_files::{named, Pair};
+use crate::draw::data_files::{named, wild_1, Pair};
 use crate::month_file::push_words;
 use crate::reference::files::{blends, put, table_words};
 use crate::reference::voacap::coefficients::F2_RECORD_BYTES;
@@ -34,20 +34,30 @@ pub fn run(folder: &str) -> Result<(), String> {
 }
 
 fn all() -> Vec<(&'static str, Vec<u8>)> {
-    let [(_, calm), _, _, (_, wild), ..] = named().map(|(name, pair)| (name, shortened(pair)));
-    let pairs = [&calm, &wild];
+    let [(_, calm), _, _, (_, huge), ..] = named();
+    let [calm, wild, huge] = [calm, wild_1(), huge].map(shortened);
     vec![
-        ("words.bin", words(pairs)),
-        ("blends.bin", all_blends(pairs)),
+        ("words.bin", words([&calm, &wild, &huge])),
+        // No blend is made of words that are no finite numbers.
+        ("blends.bin", all_blends([&calm, &huge])),
         ("walks.bin", walks::rows(&calm.month)),
         ("records.bin", records::rows(&calm)),
         ("indexes.bin", indexes::rows()),
-        ("tables.bin", pairs.map(tables::rows).concat()),
+        ("tables.bin", [&calm, &wild].map(tables::rows).concat()),
         ("calm.daw", calm.daw),
         ("calm.month", calm.month),
         ("wild.daw", wild.daw),
         ("wild.month", wild.month),
+        ("huge.daw", huge.daw),
+        ("huge.month", huge.month),
     ]
+}
+
+/// The record that the vectors are about and the month file of `calm.month`.
+pub fn calm() -> [Vec<u8>; 2] {
+    let [(_, calm), ..] = named();
+    let Pair { daw, month } = shortened(calm);
+    [daw[daw.len() - F2_RECORD_BYTES..].to_vec(), month]
 }
 
 /// Two months are enough to be kept.
@@ -56,7 +66,7 @@ fn shortened(mut pair: Pair) -> Pair {
     pair
 }
 
-fn words(pairs: [&Pair; 2]) -> Vec<u8> {
+fn words(pairs: [&Pair; 3]) -> Vec<u8> {
     let mut bytes = Vec::new();
     for pair in pairs {
         push_words(&mut bytes, &table_words(&pair.daw, MONTH, &pair.month));
@@ -92,13 +102,37 @@ fn distinct<T: Copy + Eq + Hash>(mut cases: Vec<T>) -> Vec<T> {
 
 #[cfg(test)]
 mod tests {
-    use super::all;
+    use super::{all, all_blends, named, shortened, wild_1, MONTH};
+    use crate::reference::files::table_words;
 
     #[test]
     fn vectors_are_small_and_the_same_each_time() {
         let first = all();
         let total: usize = first.iter().map(|(_, bytes)| bytes.len()).sum();
-        assert!(total < 1_600_000, "{total} bytes");
+        assert!(total < 1_700_000, "{total} bytes");
         assert!(first == all());
+    }
+
+    /// The wild pair has words that are no finite numbers, the huge one only such
+    /// as blend to infinities and NaNs.
+    #[test]
+    fn huge_words_are_finite_and_their_blends_are_not() {
+        let [_, _, _, (_, huge), ..] = named();
+        let [huge, wild] = [huge, wild_1()].map(shortened);
+        let count = |words: &[u32], is_such: fn(f32) -> bool| {
+            let numbers = words.iter().map(|word| f32::from_bits(*word));
+            numbers.filter(|v| is_such(*v)).count()
+        };
+        let kinds: [fn(f32) -> bool; 3] = [f32::is_nan, f32::is_infinite, f32::is_subnormal];
+        let of = |words: &[u32]| kinds.map(|kind| count(words, kind));
+        let words = table_words(&wild.daw, MONTH, &wild.month);
+        assert!(of(&words).iter().all(|count| *count > 500));
+        let words = table_words(&huge.daw, MONTH, &huge.month);
+        let [nans, infinities, subnormals] = of(&words);
+        assert!([nans, infinities] == [0, 0] && subnormals > 500);
+        let blends = all_blends([&huge; 2]);
+        let word = |four: &[u8]| u32::from_le_bytes(four.try_into().expect("four bytes"));
+        let blends: Vec<u32> = blends.chunks(4).map(word).collect();
+        assert!(of(&blends).iter().all(|count| *count > 500));
     }
 }

@@ -5,7 +5,7 @@ use super::buffer::Buffer;
 use crate::bits::F32;
 use crate::draw::damage::Damage;
 use crate::draw::data_files::ladders::{good, near_good, LONG, SHORT, USUAL};
-use crate::draw::data_files::{calm, wild, Pair};
+use crate::draw::data_files::{any, Pair};
 use crate::draw::generator::Generator;
 use crate::draw::sheet_kinds::{any_bits, in_range, one_of, outside};
 use crate::model::index_check::IndexTable;
@@ -32,16 +32,10 @@ pub fn flag(random: &mut Generator, long: bool) -> u32 {
     }
 }
 
-/// Calm or wild in one word of up to 4096; most tables pass.
+/// Calm or wild, some with a word that is no finite number; most tables pass.
 pub fn files(random: &mut Generator) -> Pair {
     let ikim = table(random);
-    let mut pair = match random.below(3) {
-        0 => calm(random, &ikim, 1),
-        _ => {
-            let one_in = 1 << random.below(13);
-            wild(random, &ikim, 1, one_in)
-        }
-    };
+    let mut pair = any(random, &ikim, 1);
     // Bytes after the record are ignored.
     let further = random.below(8) as usize;
     pair.daw.resize(pair.daw.len() + further, 0xaa);

@@ -29,6 +29,7 @@ pub mod data;
 pub mod desk;
 pub mod desk_words;
 pub mod files;
+pub mod finite;
 pub mod hours;
 pub mod journals;
 pub mod lines;

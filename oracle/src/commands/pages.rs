@@ -17,7 +17,7 @@ use crate::reference::voacap::coefficients::F2_RECORD_BYTES;
 
 /// At most so much; the file is kept.
 const MOST: usize = 400_000;
-/// Random sheets of each number of points, on the calm pair and the wild one.
+/// Random sheets of each number of points, on the calm pair and the huge one.
 const RANDOM: [usize; 2] = [3, 2];
 /// Sheets for each kind that is searched for.
 const SEARCHED: usize = 2;
@@ -28,14 +28,14 @@ const FAR: usize = 20_000;
 
 const PAIRS: usize = 3;
 const CALM: usize = 0;
-const WILD: usize = 1;
+const HUGE: usize = 1;
 const DEEP: usize = 2;
 
-/// Each with one record. Some words of the wild pair are NaNs, infinities and
-/// huge numbers.
+/// Each with one record. Some words of the second are huge, and what is made of them
+/// is infinite or NaN.
 fn pairs() -> [Pair; PAIRS] {
-    let [(_, calm_1), .., (_, wild_3)] = named();
-    [calm_1, wild_3, far_below_zero()].map(|mut pair| {
+    let [(_, calm_1), .., (_, huge_3)] = named();
+    [calm_1, huge_3, far_below_zero()].map(|mut pair| {
         pair.daw.truncate(F2_RECORD_BYTES);
         pair
     })
@@ -51,7 +51,7 @@ const LARGE: f32 = 16_777_216.0;
 const SEARCHED_FOR: [(usize, Kind); 5] = [
     (CALM, ("large", |v| v.is_finite() && v >= LARGE)),
     (
-        WILD,
+        HUGE,
         ("large, below zero", |v| v.is_finite() && v <= -LARGE),
     ),
     (

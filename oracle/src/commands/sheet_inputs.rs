@@ -5,7 +5,7 @@ mod cases;
 
 use crate::commands::journals::counts::Counts;
 use crate::commands::{put, write_file};
-use crate::draw::data_files::{extreme, named, Pair};
+use crate::draw::data_files::{extreme, named, wild_1, Pair};
 use crate::draw::generator::Generator;
 use crate::draw::journal_kinds::with_a_nan;
 use crate::draw::sheet_kinds::in_range;
@@ -18,7 +18,7 @@ use cases::{cases, Case};
 /// Sheets of each further pair of files.
 const FURTHER: usize = 2;
 /// At most so many bytes in all inputs.
-const MOST: usize = 6_000_000;
+const MOST: usize = 9_000_000;
 
 /// One figure of each point is NaN, and all nine words of each ladder count.
 fn pair() -> Pair {
@@ -51,12 +51,17 @@ pub fn compact(file: &str) -> Result<(), String> {
     write_file(file, &bytes)
 }
 
-/// Those of the compact form, then good ones of every pair of files.
+/// Those of the compact form, then good ones of every pair of files, and of one that
+/// is refused for its words.
 fn inputs() -> Vec<Vec<u8>> {
     let pair = pair();
     let mut inputs: Vec<Vec<u8>> = cases(&pair).iter().map(|case| case.input(&pair)).collect();
     let mut random = Generator::new(701);
-    for (_, pair) in named().iter().chain(&extreme()) {
+    for (_, pair) in named()
+        .iter()
+        .chain(&extreme())
+        .chain(&[("wild-1", wild_1())])
+    {
         for _ in 0..FURTHER {
             let mut input = Vec::with_capacity(CALLS);
             push_words(&mut input, &in_range(&mut random).words());
@@ -100,7 +105,11 @@ fn vectors() -> (Vec<u8>, Counts) {
 #[cfg(test)]
 mod tests {
     use super::{inputs, pair, vectors, MOST};
+    use crate::commands::journals::counts::NO_FINITE_NUMBER;
     use crate::model::desks::programs::{sheet, sheet_text};
+
+    /// No case changes a byte of the record.
+    const OF_MONTH_FILE: &str = NO_FINITE_NUMBER[1];
 
     #[test]
     fn every_refusal_is_there_and_the_bytes_are_the_same_each_time() {
@@ -109,6 +118,7 @@ mod tests {
         let mut keys = vec![String::from("refused 8 0")];
         keys.extend([1, 3, 5].map(|points| format!("points {points}")));
         keys.extend([9, 10].map(|number| format!("refused {number} at a byte")));
+        keys.push(String::from(OF_MONTH_FILE));
         keys.extend((1..=6).map(|map| format!("refused 11 {map}")));
         let fields = [1, 2, 3, 4, 5, 4, 5, 7, 6, 6, 6, 6, 4, 5];
         keys.extend(

@@ -32,7 +32,7 @@ const LEAST: Least = Least {
 };
 
 /// What showings over years are refused with, and changes of the month.
-const BY_YEARS: [u32; 6] = [1, 8, 9, 10, 11, 19];
+const BY_YEARS: [u32; 7] = [1, 8, 9, 10, 11, 19, 23];
 
 struct Section {
     year: Vec<u8>,
@@ -85,6 +85,7 @@ fn good(random: &mut Generator) -> Section {
 
 fn worn(random: &mut Generator) -> Section {
     let mut journals = lists_by_hand("worn, by hand", &by_hand::over_worn_parts());
+    journals.extend(lists_by_hand("bad words", &by_hand::over_bad_words()));
     let lists = (0..OVER_WORN_PARTS).map(|_| random_list(random, KIND, "worn, lists"));
     journals.extend(lists);
     Section {

@@ -1,7 +1,7 @@
 //! One damage of a month file: a cut, a changed byte or both.
 
 use crate::draw::generator::Generator;
-use crate::month_file::{markers, BYTES};
+use crate::month_file::{markers, tables_at, BYTES};
 
 /// Stands in a row for a byte that is not changed.
 pub const NOWHERE: u32 = u32::MAX;
@@ -66,6 +66,20 @@ pub fn set_byte(file: &mut [u8], place: u32, value: u32) {
     }
 }
 
+/// The bytes of a month file that make a word of a table no finite number, if all but
+/// the sign is set in them: those of the first and of the last word of each table whose
+/// exponent has its lowest bit set, which stands in the byte before.
+pub fn to_be_set(month: &[u8]) -> Vec<usize> {
+    let mut bytes = Vec::new();
+    for table in &tables_at()[1..] {
+        let last_bytes = table.clone().skip(3).step_by(4);
+        let mut odd = last_bytes.filter(|at| month[at - 1] & 0x80 != 0);
+        bytes.extend(odd.next());
+        bytes.extend(odd.next_back());
+    }
+    bytes
+}
+
 fn anywhere(random: &mut Generator) -> usize {
     random.below(LONGEST as u64 + 1) as usize
 }
@@ -73,4 +87,27 @@ fn anywhere(random: &mut Generator) -> usize {
 fn marker(random: &mut Generator) -> usize {
     let markers = markers();
     markers[random.below(markers.len() as u64) as usize]
+}
+
+#[cfg(test)]
+mod tests {
+    use super::to_be_set;
+    use crate::draw::data_files::named;
+    use crate::month_file::tables_at;
+    use crate::reference::sheets::{file_check, number_and_place};
+
+    /// In nearly every table there is such a byte; the small ones may have none.
+    #[test]
+    fn one_byte_makes_a_word_no_finite_number() {
+        let [_, (_, pair), ..] = named();
+        let bytes = to_be_set(&pair.month);
+        for at in &bytes {
+            let mut month = pair.month.clone();
+            month[*at] |= 0x7f;
+            assert_eq!(number_and_place(file_check(&month)), (23, *at as u32 - 3));
+        }
+        let has_one = |table: &std::ops::Range<usize>| bytes.iter().any(|at| table.contains(at));
+        let found = tables_at().iter().filter(|table| has_one(table)).count();
+        assert!(found >= 17, "{found} tables");
+    }
 }

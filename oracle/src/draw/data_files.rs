@@ -1,5 +1,6 @@
-//! Data files from a seed: plausible ones and wild ones. Each pair is an F2
-//! file and a month file whose index table passes.
+//! Data files from a seed: plausible ones and wild ones, these with finite words
+//! only or with any. Each pair is an F2 file and a month file whose index table
+//! passes.
 
 mod calm;
 pub mod ladders;
@@ -10,6 +11,7 @@ use crate::draw::generator::Generator;
 use crate::model::index_check::IndexTable;
 use crate::month_file::{push_words, tables, to_bytes, words, Tables};
 use ladders::{AT_ONCE, BEYOND, LEAST, LONG, LONGEST, SHORT, USUAL};
+use wild::{bad_word, finite_word, roughen, wild_word};
 
 pub const YEAR: usize = 12;
 
@@ -22,11 +24,12 @@ pub struct Pair {
 
 /// Places among the 20 tables.
 const XFM3CF: usize = 6;
-const ANEW: usize = 9;
-const ACHI: usize = 11;
+const BNEW: usize = 10;
+const BCHI: usize = 12;
 const FAKMAP: usize = 13;
 const ABMAP: usize = 14;
 const XESMCF: usize = 15;
+const XPMAP: usize = 16;
 const XESLCF: usize = 17;
 const XESUCF: usize = 18;
 const XERCOF: usize = 19;
@@ -62,32 +65,95 @@ pub fn calm(random: &mut Generator, ikim: &IndexTable, months: usize) -> Pair {
     calm_parts(random, ikim, months).pair()
 }
 
-/// Any bits in one word in `one_in`, the index table left alone.
+/// Any bits in one word in `one_in`, the index table left alone. Nearly every such
+/// pair is refused for a word that is no finite number.
 pub fn wild(random: &mut Generator, ikim: &IndexTable, months: usize, one_in: u64) -> Pair {
+    rough_parts(random, ikim, months, one_in, wild_word).pair()
+}
+
+/// Any finite number in one word in `one_in`.
+pub fn huge(random: &mut Generator, ikim: &IndexTable, months: usize, one_in: u64) -> Pair {
+    huge_parts(random, ikim, months, one_in).pair()
+}
+
+fn huge_parts(random: &mut Generator, ikim: &IndexTable, months: usize, one_in: u64) -> Parts {
+    rough_parts(random, ikim, months, one_in, finite_word)
+}
+
+fn rough_parts(
+    random: &mut Generator,
+    ikim: &IndexTable,
+    months: usize,
+    one_in: u64,
+    draw: wild::Draw,
+) -> Parts {
     let mut parts = calm_parts(random, ikim, months);
     for words in parts.records.iter_mut().chain(&mut parts.tables[1..]) {
-        wild::roughen(random, words, one_in);
+        roughen(random, words, one_in, draw);
+    }
+    parts
+}
+
+/// For what compares in bulk: calm, wild in one word of up to 4096, and of these a
+/// quarter with what is no finite number.
+pub fn any(random: &mut Generator, ikim: &IndexTable, months: usize) -> Pair {
+    let one_in = 1 << random.below(13);
+    match random.below(6) {
+        0 | 1 => calm(random, ikim, months),
+        2..=4 => huge(random, ikim, months, one_in),
+        _ => bad(random, ikim, months, one_in),
+    }
+}
+
+/// With one word that is no finite number in a record or in the month file, with some
+/// in the month file alone, since a record's comes before them, or with some anywhere.
+fn bad(random: &mut Generator, ikim: &IndexTable, months: usize, one_in: u64) -> Pair {
+    let mut parts = huge_parts(random, ikim, months, one_in);
+    match random.below(4) {
+        0 => prick(random, &mut parts.records),
+        1 => prick(random, &mut parts.tables[1..]),
+        2 => {
+            for words in &mut parts.tables[1..] {
+                roughen(random, words, one_in, wild_word);
+            }
+        }
+        _ => return wild(random, ikim, months, one_in),
     }
     parts.pair()
 }
 
-/// Of the wild ones the first has hardly a figure that is no NaN; the third
-/// has only a few such words.
+/// One word of all these becomes one that is no finite number.
+fn prick(random: &mut Generator, tables: &mut [Vec<u32>]) {
+    let count: usize = tables.iter().map(Vec::len).sum();
+    let at = random.below(count as u64) as usize;
+    let word = tables.iter_mut().flatten().nth(at);
+    *word.expect("a word") = bad_word(random);
+}
+
+/// Of the huge ones the first has hardly a figure that is a number; the third has
+/// only a few such words.
 pub fn named() -> [(&'static str, Pair); 6] {
     let calm = |seed, ikim| calm(&mut Generator::new(seed), ikim, YEAR);
-    let wild = |seed, one_in| {
+    let huge = |seed, one_in| {
         let mut random = Generator::new(seed);
         let ikim = ladders::good(&mut random);
-        wild(&mut random, &ikim, YEAR, one_in)
+        huge(&mut random, &ikim, YEAR, one_in)
     };
     [
         ("calm-1", calm(101, &USUAL)),
         ("calm-2", calm(102, &LONG)),
         ("calm-3", calm(103, &SHORT)),
-        ("wild-1", wild(201, 1)),
-        ("wild-2", wild(202, 8)),
-        ("wild-3", wild(203, 500)),
+        ("huge-1", huge(201, 1)),
+        ("huge-2", huge(202, 8)),
+        ("huge-3", huge(203, 500)),
     ]
+}
+
+/// Every word of any sort, NaN and infinite ones too: no sheet can be made of it.
+pub fn wild_1() -> Pair {
+    let mut random = Generator::new(201);
+    let ikim = ladders::good(&mut random);
+    wild(&mut random, &ikim, YEAR, 1)
 }
 
 /// Pairs of one month whose ladders are as short and as long as they can be,
@@ -99,11 +165,8 @@ pub fn extreme() -> [(&'static str, Pair); 6] {
         ("longest", parts(302, &LONGEST).pair()),
         ("beyond", infinite_beyond(parts(303, &BEYOND)).pair()),
         ("least", no_ground(parts(304, &LEAST)).pair()),
-        ("pricked-1", pricked(parts(305, &USUAL), f32::NAN).pair()),
-        (
-            "pricked-2",
-            pricked(parts(306, &LONG), f32::INFINITY).pair(),
-        ),
+        ("pricked-1", no_numbers(parts(305, &USUAL)).pair()),
+        ("pricked-2", infinities(parts(306, &LONG)).pair()),
     ]
 }
 
@@ -157,12 +220,21 @@ fn set_m3000(parts: &mut Parts, v: f32) {
     }
 }
 
-/// Row 40 of a map whose ladder ends at 16: what is read there meets a zero.
+/// Row 40 of a map whose ladder ends at 16: what is read there meets a zero, and
+/// between the ends of the weights it is infinite.
 fn infinite_beyond(mut parts: Parts) -> Parts {
-    for plane in parts.tables[XESMCF].chunks_mut(7 * 61) {
-        plane[7 * 40] = f32::INFINITY.to_bits();
-    }
+    set_planes(&mut parts.tables[XESMCF], 7 * 40, [f32::MAX; 2]);
     parts
+}
+
+/// The word of this place in both planes. Two of the largest blend to an infinity
+/// between the ends of the weights and to a NaN outside, one of them with the other
+/// sign to a NaN between the ends.
+fn set_planes(table: &mut [u32], place: usize, words: [f32; 2]) {
+    let width = table.len() / 2;
+    for (plane, word) in table.chunks_mut(width).zip(words) {
+        plane[place] = word.to_bits();
+    }
 }
 
 /// The land-mass map is 0 everywhere, which is land.
@@ -172,16 +244,65 @@ fn no_ground(mut parts: Parts) -> Parts {
     parts
 }
 
-/// One word that is no number where a figure stands or falls with it, and
-/// none where it would make NaNs of all the others.
-fn pricked(mut parts: Parts, word: f32) -> Parts {
-    let places: &[(usize, usize)] = if word.is_nan() {
-        &[(ANEW, 1), (ABMAP, 0), (ABMAP, 2)]
-    } else {
-        &[(ACHI, 0), (XFM3CF, 0), (XFM3CF, 441)]
-    };
-    for (table, place) in places {
-        parts.tables[*table][*place] = word.to_bits();
+/// F1, the ground and the height ratio come out as NaN at most places and sunspot
+/// numbers, where one infinity is taken from another; the other figures do not.
+fn no_numbers(mut parts: Parts) -> Parts {
+    let largest = [f32::MAX, -f32::MAX];
+    parts.tables[BNEW][..2].copy_from_slice(&largest.map(f32::to_bits));
+    // The first longitude series is infinite, and what is added to the map is so
+    // with the other sign.
+    for series in [0, 15] {
+        parts.tables[FAKMAP][29 * series] = f32::MAX.to_bits();
     }
+    parts.tables[ABMAP][1] = (-f32::MAX).to_bits();
+    set_planes(&mut parts.tables[XPMAP], 29 * 15, largest);
     parts
+}
+
+/// The largest zenith angle and M(3000) come out as infinite at most sunspot
+/// numbers.
+fn infinities(mut parts: Parts) -> Parts {
+    parts.tables[BCHI][0] = f32::MAX.to_bits();
+    set_planes(&mut parts.tables[XFM3CF], 0, [f32::MAX; 2]);
+    parts
+}
+
+#[cfg(test)]
+mod tests {
+    use super::{any, extreme, named, wild_1, USUAL};
+    use crate::draw::generator::Generator;
+    use crate::reference::sheets::{file_check, files_check};
+
+    #[test]
+    fn pairs_with_names_can_be_shown_but_for_the_wild_one() {
+        for (name, pair) in named().iter().chain(&extreme()) {
+            let records = pair.daw.chunks(7904);
+            for record in records {
+                assert_eq!(files_check(record, &pair.month), Ok(()), "{name}");
+            }
+        }
+        let wild = wild_1();
+        assert!(files_check(&wild.daw, &wild.month).is_err_and(|why| why.of_record));
+        assert!(file_check(&wild.month).is_err_and(|why| why.number == 23));
+    }
+
+    /// Most pairs are finite, and both files of the others are named.
+    #[test]
+    fn pairs_of_all_kinds_come() {
+        let mut random = Generator::new(5);
+        let [mut shown, mut of_record, mut of_month] = [0; 3];
+        for _ in 0..600 {
+            let pair = any(&mut random, &USUAL, 1);
+            match files_check(&pair.daw, &pair.month) {
+                Ok(()) => shown += 1,
+                Err(why) if why.of_record => of_record += 1,
+                Err(_) => of_month += 1,
+            }
+        }
+        assert!((450..570).contains(&shown), "{shown} shown");
+        assert!(
+            of_record >= 25 && of_month >= 25,
+            "{of_record} and {of_month}"
+        );
+    }
 }

@@ -3,13 +3,13 @@
 
 use crate::draw::damage::{set_byte, Damage};
 use crate::draw::data_files::ladders::{good, near_good, LONG, SHORT, USUAL};
-use crate::draw::data_files::{calm, wild, Pair};
+use crate::draw::data_files::{self, Pair};
 use crate::draw::generator::Generator;
 use crate::draw::sheet_kinds::{inputs, one_of, year_inputs};
 use crate::model::desks::fields::{check, range, Inputs, Range, FIELDS, SHEET_FIELDS};
 use crate::model::desks::programs::words;
 use crate::model::desks::{Call, Draft, Edit, Worksheet, DESKS};
-use crate::month_file::{push_words, tables, to_bytes};
+use crate::month_file::{push_words, tables, to_bytes, LENGTHS};
 use crate::reference::sheets::FIGURES;
 use crate::reference::voacap::coefficients::{parse_month_file, F2_RECORD_BYTES};
 
@@ -542,8 +542,8 @@ fn cut_short(random: &mut Generator, call: &Call) -> Vec<u8> {
     bytes
 }
 
-/// An F2 record and a month file: calm or wild in one word of up to 4096; most
-/// index tables pass.
+/// An F2 record and a month file: calm or wild, some of them refused for a word that
+/// is no finite number; most index tables pass.
 pub fn files(random: &mut Generator) -> Pair {
     files_with(random, 1)
 }
@@ -555,21 +555,14 @@ pub fn files_with(random: &mut Generator, records: usize) -> Pair {
         1 => one_of(random, &[USUAL, LONG, SHORT]),
         _ => good(random),
     };
-    match random.below(3) {
-        0 => calm(random, &ikim, records),
-        _ => {
-            let one_in = 1 << random.below(13);
-            wild(random, &ikim, records, one_in)
-        }
-    }
+    data_files::any(random, &ikim, records)
 }
 
-/// A word of `xesucf`, which only one figure of each point depends on.
+/// On `xesucf` only one figure of each point depends. It has two planes.
 const XESUCF: usize = 18;
-/// No definition decides what becomes of these bits.
-const ODD_NAN: u32 = 0xffc1_2345;
+const XESUCF_PLANE: usize = LENGTHS[XESUCF] / 2;
 
-/// The pair's first record and its month file, with a word in it that makes one
+/// The pair's first record and its month file, with words in it that make one
 /// figure of each point a NaN.
 pub fn with_a_nan(pair: &Pair) -> Pair {
     Pair {
@@ -578,10 +571,13 @@ pub fn with_a_nan(pair: &Pair) -> Pair {
     }
 }
 
+/// Both words are finite. Where the sunspot number is from 11 to 149 their blend
+/// takes one infinity from another; below and above it is infinite.
 pub fn month_with_a_nan(month: &[u8]) -> Vec<u8> {
     let raw = parse_month_file(month, "month").expect("a good file");
     let mut tables = tables(&raw);
-    tables[XESUCF][0] = ODD_NAN;
+    tables[XESUCF][0] = f32::MAX.to_bits();
+    tables[XESUCF][XESUCF_PLANE] = (-f32::MAX).to_bits();
     to_bytes(&tables)
 }
 

@@ -196,6 +196,6 @@ mod tests {
             }
         }
         assert!(shown > 200, "{shown} shown");
-        assert_eq!(numbers, HashSet::from([8, 9, 10, 11, 19]));
+        assert_eq!(numbers, HashSet::from([8, 9, 10, 11, 19, 23]));
     }
 }

@@ -1,5 +1,5 @@
 //! Document 01's worksheet, written from its part 'At the desks' alone, with
-//! document 02's request 01: the Rust has none and gives only the figures.
+//! document 02's requests 01 and 10: the Rust has none and gives only the figures.
 
 pub mod fields;
 pub mod lent;
@@ -22,11 +22,31 @@ use std::rc::Rc;
 pub struct Refusal {
     pub number: u32,
     pub place: u32,
+    /// Whether a 23 is the F2 record's, which is said in words: number and place
+    /// do not tell it from one of the month file.
+    pub of_record: bool,
+}
+
+impl Refusal {
+    pub const fn at(number: u32, place: u32) -> Self {
+        Self {
+            number,
+            place,
+            of_record: false,
+        }
+    }
+
+    pub const fn about_record(self) -> Self {
+        Self {
+            of_record: true,
+            ..self
+        }
+    }
 }
 
 /// Refusals other than those of fields and files have place 0.
 pub const fn at_no_place(number: u32) -> Refusal {
-    Refusal { number, place: 0 }
+    Refusal::at(number, 0)
 }
 
 const NO_SUCH_DESK: Refusal = at_no_place(14);

@@ -43,10 +43,7 @@ fn pair(file: &[u8], number: usize) -> Option<[u64; 2]> {
 }
 
 fn broken(number: usize) -> Refusal {
-    Refusal {
-        number: 19,
-        place: number as u32,
-    }
+    Refusal::at(19, number as u32)
 }
 
 /// The number of a month's part among the 14, counted from 0.
@@ -80,7 +77,7 @@ mod tests {
     use crate::month_file::push_words;
 
     fn refused<T>(number: u32, place: u32) -> Result<T, Refusal> {
-        Err(Refusal { number, place })
+        Err(Refusal::at(number, place))
     }
 
     /// Parts of 0, 1, .. 13 bytes, one after the other.

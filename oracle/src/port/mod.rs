@@ -16,7 +16,7 @@ pub const ACCEPTED: Answer = Answer {
 };
 
 impl From<Refusal> for Answer {
-    fn from(Refusal { number, place }: Refusal) -> Self {
+    fn from(Refusal { number, place, .. }: Refusal) -> Self {
         Self { number, place }
     }
 }

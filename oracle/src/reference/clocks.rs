@@ -63,7 +63,7 @@ macro_rules! variant {
         ) -> Result<[f32; 3], Refusal> {
             if hour > LAST_HOUR {
                 let place = HOUR as u32;
-                return Err(Refusal { number: 3, place });
+                return Err(Refusal::at(3, place));
             }
             held(TX_LONGITUDE, tlong)?;
             held(RX_LONGITUDE, rlong)?;
@@ -95,7 +95,7 @@ mod tests {
     use Direction::{ToLocal, ToUniversal};
 
     fn refused<T>(number: u32, place: u32) -> Result<T, Refusal> {
-        Err(Refusal { number, place })
+        Err(Refusal::at(number, place))
     }
 
     #[test]

@@ -3,7 +3,8 @@
 pub mod branches;
 pub mod clocks;
 pub mod files;
-#[cfg(linked)]
+// Without the port only the hour step's vectors take a part of it.
+#[cfg_attr(not(linked), allow(dead_code))]
 pub mod layers;
 pub mod numbers;
 pub mod routes;

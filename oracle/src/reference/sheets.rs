@@ -3,7 +3,9 @@
 //! refusals in their order.
 
 use crate::bits::words;
-use crate::model::index_check;
+use crate::model::desks::{at_no_place, Refusal};
+use crate::model::index_check::IndexTable;
+use crate::model::{finite_words, index_check};
 use crate::reference::files::{read, walk};
 use crate::reference::routes::Route;
 use crate::reference::voacap::coefficients::{parse_month_file, CoefficientSet, F2_RECORD_BYTES};
@@ -91,19 +93,57 @@ pub fn put_all_months(record: &[u8], file: &[u8]) {
     }
 }
 
-/// The refusal of a showing whose fields are in range and its place, both 0
-/// for none. The Rust leaves buffer, record length and index table unchecked:
-/// the order is document 01's.
-pub fn refusal(record: &[u8], file: &[u8], figures: usize) -> (u32, u32) {
+/// What a showing whose fields are in range is refused by. The Rust leaves the
+/// buffer unchecked.
+pub fn showing_check(record: &[u8], file: &[u8], figures: usize) -> Result<(), Refusal> {
     if figures != FIGURES {
-        return (12, 0);
+        return Err(at_no_place(12));
     }
+    files_check(record, file)
+}
+
+/// Both 0 for what is not refused.
+pub fn number_and_place(check: Result<(), Refusal>) -> (u32, u32) {
+    match check {
+        Ok(()) => (0, 0),
+        Err(Refusal { number, place, .. }) => (number, place),
+    }
+}
+
+/// What a record and a month file are refused by. The Rust leaves the record's
+/// length, words that are no finite numbers and the index table unchecked: the
+/// order is that of documents 01 and 02.
+pub fn files_check(record: &[u8], file: &[u8]) -> Result<(), Refusal> {
     if record.len() < F2_RECORD_BYTES {
-        return (8, 0);
+        return Err(at_no_place(8));
     }
+    let ikim = walked(file)?;
+    finite_words::of_record(record)?;
+    tables_check(file, &ikim)
+}
+
+/// What a month file alone is refused by.
+pub fn file_check(file: &[u8]) -> Result<(), Refusal> {
+    let ikim = walked(file)?;
+    tables_check(file, &ikim)
+}
+
+/// The index table of a month file that can be walked.
+fn walked(file: &[u8]) -> Result<IndexTable, Refusal> {
     match parse_month_file(file, "month") {
-        Ok(raw) => index_check::answer(&raw.ikim),
-        Err(_) => walk(file),
+        Ok(raw) => Ok(raw.ikim),
+        Err(_) => {
+            let (number, place) = walk(file);
+            Err(Refusal::at(number, place))
+        }
+    }
+}
+
+fn tables_check(file: &[u8], ikim: &IndexTable) -> Result<(), Refusal> {
+    finite_words::of_month_file(file)?;
+    match index_check::answer(ikim) {
+        (0, 0) => Ok(()),
+        (number, place) => Err(Refusal::at(number, place)),
     }
 }
 
@@ -200,7 +240,10 @@ fn place(row: &mut [f32], point: &ControlPoint, mag: &MagneticVars) {
 
 #[cfg(test)]
 mod tests {
-    use super::{put_all_months, refusal, showing, Figures, Sheet, FIGURES, ROW};
+    use super::{
+        file_check, number_and_place, put_all_months, showing, showing_check, Figures, Sheet,
+        FIGURES, ROW,
+    };
     use crate::draw::data_files::named;
     use crate::draw::generator::Generator;
     use crate::draw::sheet_kinds::in_range;
@@ -218,6 +261,9 @@ mod tests {
         let bad_map = changed(4 + 40, 76);
         let bad_marker = changed(244, 0);
         let short = &pair.month[..38_551];
+        let refusal = |record: &[u8], file: &[u8], figures| {
+            number_and_place(showing_check(record, file, figures))
+        };
         assert_eq!(refusal(&[], &[], 150), (12, 0));
         assert_eq!(refusal(&record[..7903], &[], FIGURES), (8, 0));
         assert_eq!(refusal(record, short, FIGURES), (9, 38_548));
@@ -225,6 +271,25 @@ mod tests {
         assert_eq!(refusal(record, &bad_map[..38_551], FIGURES), (9, 38_548));
         assert_eq!(refusal(record, &bad_map, FIGURES), (11, 2));
         assert_eq!(refusal(&pair.daw, &pair.month, FIGURES), (0, 0));
+        // Words that are no finite numbers, after 10 and before 11, the record's
+        // first; a month file alone has no record.
+        let with = |bytes: &[u8], place: usize| {
+            let mut bytes = bytes.to_vec();
+            bytes[place..place + 4].copy_from_slice(&f32::NAN.to_le_bytes());
+            bytes
+        };
+        let bad_record = with(record, 7900);
+        let both = with(&bad_map, 252);
+        assert_eq!(refusal(&bad_record[..7903], &[], FIGURES), (8, 0));
+        assert_eq!(refusal(&bad_record, short, FIGURES), (9, 38_548));
+        let marker = with(&bad_marker, 252);
+        assert_eq!(refusal(&bad_record, &marker, FIGURES), (10, 244));
+        assert_eq!(refusal(&bad_record, &both, FIGURES), (23, 7900));
+        assert_eq!(refusal(record, &both, FIGURES), (23, 252));
+        assert_eq!(number_and_place(file_check(&both)), (23, 252));
+        assert_eq!(number_and_place(file_check(&bad_map)), (11, 2));
+        assert_eq!(number_and_place(file_check(&marker)), (10, 244));
+        assert_eq!(file_check(&pair.month), Ok(()));
     }
 
     /// The seven numbers of a point that depend on the path only, and those

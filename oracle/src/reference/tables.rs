@@ -60,7 +60,7 @@ impl Starts {
                 start: self.0[number as usize],
                 words: read(number, record, month),
             }),
-            (number, place) => Err(Refusal { number, place }),
+            (number, place) => Err(Refusal::at(number, place)),
         }
     }
 }
@@ -121,7 +121,7 @@ mod tests {
     fn refusals_come_in_their_order() {
         let [(_, pair), ..] = named();
         let starts = Starts::of(&pair.month);
-        let refused = |number, place| Err(Refusal { number, place });
+        let refused = |number, place| Err(Refusal::at(number, place));
         let mut wrong = pair.month.clone();
         wrong[244] = 0;
         assert_eq!(starts.table(21, &[], &[]), refused(13, 0));

@@ -6,7 +6,7 @@ use mathlib.Core.Logic.{_⊎_, inl, inr}
 use mathlib.Core.List.{List, [], _∷_, _++_}
 use Prim.Native.Nat.{ℕ, zero, suc, _+_, _-_, _*_, _/_, _%_, _≤_, _<_}
 use native.Mathlib.Omega.{arith}
-use native.Mathlib.Decide.{decLe}
+use native.Mathlib.Decide.{decLe, ℕ-discrete}
 use lib.Dec.{T, leb, ltb, eqb, leb→le, eqb→eq}
 use lib.ListN.{length, replicate, getD, drop}
 use lib.Seq.{drop-cons}
@@ -17,7 +17,7 @@ use Rattle.base.specs.Words.{wordAt}
 use Rattle.base.specs.declared.refusal.Refusal.the-variants.{Ended, Marker}
 use Rattle.base.specs.declared.refusal.Verdict.{Verdict}
 use Rattle.base.specs.declared.refusal.Verdict.the-variants.{Accepted, Refused}
-use Rattle.base.specs.MonthFile.{monthFileSize, sizes, Four, marker, anything, layout, isRight, walk, monthFileCheck, RecordSize}
+use Rattle.base.specs.MonthFile.{monthFileSize, sizes, Four, marker, anything, layout, isRight, walk, monthFileCheck, Marked, RecordSize}
 use Rattle.base.proofs.lists.Entries.{at as entry}
 use Rattle.base.proofs.verdicts.Refusals.{refused-not-accepted}
 
@@ -161,3 +161,34 @@ all-fours = refl
 pub accepted-length : (s : List ℕ) → monthFileCheck s ≡ Accepted → monthFileSize ≤ length s
 unfolding monthFileCheck
 accepted-length s e = omega (arith, walked s 0 (layout sizes) (omega arith) e, all-fours)
+
+-- ---- and the markers
+
+-- each size is a whole number of words
+abbrev pub Fours : List ℕ → Type 0
+Fours [] = Unit
+Fours (n ∷ ns) = (n % 4 ≡ 0) × Fours ns
+
+pub fours : Fours sizes
+fours = (refl, (refl, (refl, (refl, (refl, (refl, (refl, (refl, (refl, tt)))))))))
+
+-- a walk that accepts has met no other
+pub marks-met : (s : List ℕ) (at : ℕ) (ns : List ℕ) → Fours ns → at % 4 ≡ 0 → at ≤ length s → walk s at (layout ns) ≡ Accepted → Marked s at ns
+marks-met s at [] f m h e = tt
+marks-met s at (n ∷ ns) f m h e = let w = f .0 in elim (decLe (at + 4) (length s)) [
+  | no q ↦ refused-not-accepted (sym (no-open s at n ns m w h (omega arith)) ∙ e)
+  | yes q ↦ elim (ℕ-discrete (wordAt s at) n) [
+    | no d ↦ refused-not-accepted (sym (bad-open s at n ns m w h q d) ∙ e)
+    | yes o ↦ elim (decLe (at + n + 8) (length s)) [
+      | no l ↦ refused-not-accepted (sym (no-close s at n ns m w h q o (omega arith)) ∙ e)
+      | yes l ↦ elim (ℕ-discrete (wordAt s (at + n + 4)) n) [
+        | no d ↦ refused-not-accepted (sym (bad-close s at n ns m w h q o l d) ∙ e)
+        | yes c ↦ (o, c, marks-met s (at + n + 8) ns (f .1) (omega arith) l (sym (passed s at n ns m w h q o l c) ∙ e))
+      ]
+    ]
+  ]
+]
+
+pub accepted-marks : (s : List ℕ) → monthFileCheck s ≡ Accepted → Marked s 0 sizes
+unfolding monthFileCheck
+accepted-marks s e = marks-met s 0 sizes fours refl (omega arith) e

@@ -7,7 +7,7 @@ use Prim.Native.Nat.{_≤_}
 use native.Mathlib.Omega.{arith}
 use lib.Dec.{lit≤}
 use Rattle.base.specs.declared.refusal.Refusal.{Refusal}
-use Rattle.base.specs.declared.refusal.Refusal.the-variants.{Month, Sunspot, Hour, Latitude, Longitude, Factor, Flag, Record, Ended, Marker, Index, Figures, Table, Desk, Drafted, NoDraft, Stale, NothingEarlier, Model, Year}
+use Rattle.base.specs.declared.refusal.Refusal.the-variants.{Month, Sunspot, Hour, Latitude, Longitude, Factor, Flag, Record, Ended, Marker, RecordWord, MonthWord, Index, Figures, Table, Desk, Drafted, NoDraft, Stale, NothingEarlier, Model, Year}
 use Rattle.base.specs.declared.refusal.Verdict.{Verdict}
 use Rattle.base.specs.declared.refusal.Verdict.the-variants.{Accepted, Refused}
 use Rattle.base.specs.Refusal.{reportOf, verdictReport, isAccepted, refuseUnless, _then_}
@@ -37,6 +37,8 @@ numbered Flag = lit≤ tt
 numbered Record = lit≤ tt
 numbered (Ended at) = lit≤ tt
 numbered (Marker at) = lit≤ tt
+numbered (RecordWord at) = lit≤ tt
+numbered (MonthWord at) = lit≤ tt
 numbered (Index map) = lit≤ tt
 numbered Figures = lit≤ tt
 numbered Table = lit≤ tt

@@ -11,7 +11,7 @@ use lib.ListN.{length, getD, take, replicate, length-append, List·getD-map}
 use lib.Seq.{length-take-le}
 use Rattle.base.proofs.lists.Entries.{at as entry}
 use Rattle.base.specs.declared.refusal.Refusal.{Refusal}
-use Rattle.base.specs.declared.refusal.Refusal.the-variants.{Month, Sunspot, Hour, Latitude, Longitude, Factor, Flag, Model, Record, Ended, Marker, Index, Figures, Table, Desk, Drafted, NoDraft, Stale, NothingEarlier, Year}
+use Rattle.base.specs.declared.refusal.Refusal.the-variants.{Month, Sunspot, Hour, Latitude, Longitude, Factor, Flag, Model, Record, Ended, Marker, RecordWord, MonthWord, Index, Figures, Table, Desk, Drafted, NoDraft, Stale, NothingEarlier, Year}
 use Rattle.base.specs.declared.refusal.Verdict.{Verdict}
 use Rattle.base.specs.declared.refusal.Verdict.the-variants.{Accepted, Refused}
 use Rattle.base.specs.Refusal.{reportOf}
@@ -37,11 +37,11 @@ cut s = take (letters s) (padded s)
 same-letters : map cut reasons ≡ map ascii reasons
 same-letters = refl
 
--- of a refusal: its reason is the one of its row, and its row and its number are below 20
+-- of a refusal: its reason is the one of its row, and its row is below 22 and its number below 24
 record Rowed (why : Refusal) : Type 0 where
   words : getD reasons (reasonRow why) "" ≡ reasonOf why
-  row : reasonRow why < 20
-  number : reportOf why .0 < 20
+  row : reasonRow why < 22
+  number : reportOf why .0 < 24
 
 rowed : (why : Refusal) → Rowed why
 rowed Month = record { words = refl; row = omega arith; number = omega arith }
@@ -55,6 +55,8 @@ rowed Model = record { words = refl; row = omega arith; number = omega arith }
 rowed Record = record { words = refl; row = omega arith; number = omega arith }
 rowed (Ended at) = record { words = refl; row = omega arith; number = omega arith }
 rowed (Marker at) = record { words = refl; row = omega arith; number = omega arith }
+rowed (RecordWord at) = record { words = refl; row = omega arith; number = omega arith }
+rowed (MonthWord at) = record { words = refl; row = omega arith; number = omega arith }
 rowed (Index map) = record { words = refl; row = omega arith; number = omega arith }
 rowed Figures = record { words = refl; row = omega arith; number = omega arith }
 rowed Table = record { words = refl; row = omega arith; number = omega arith }
@@ -67,7 +69,7 @@ rowed (Year pair) = record { words = refl; row = omega arith; number = omega ari
 
 -- the letters that the source puts are the reason's
 pub reason-at :
-    (why : Refusal) {k : ℕ} → k ≡ reasonRow why → k < 20 →
+    (why : Refusal) {k : ℕ} → k ≡ reasonRow why → k < 22 →
     take (getD (map letters reasons) k 0) (getD (map padded reasons) k []) ≡ ascii (reasonOf why)
 reason-at why {k} e h =
     ap (λ (n : ℕ). take n (getD (map padded reasons) k [])) (List·getD-map letters reasons k "")
@@ -89,12 +91,12 @@ letters-at why {k} e =
 is-most : ℕ → ℕ → Bool
 is-most k n = leb n 49
 
-pub letters-most : (k : ℕ) → k < 20 → getD (map letters reasons) k 0 ≤ 49
+pub letters-most : (k : ℕ) → k < 22 → getD (map letters reasons) k 0 ≤ 49
 unfolding is-most
 letters-most k h = leb→le (getD (map letters reasons) k 0) 49 (entry is-most (map letters reasons) tt k h)
 
 -- the row has them
-pub letters-fit : (k : ℕ) → k < 20 → getD (map letters reasons) k 0 ≤ length (getD (map padded reasons) k [])
+pub letters-fit : (k : ℕ) → k < 22 → getD (map letters reasons) k 0 ≤ length (getD (map padded reasons) k [])
 letters-fit k h =
     let s = getD reasons k "" in
     let l = ascii s ++ replicate 49 32 in

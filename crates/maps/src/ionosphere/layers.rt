@@ -23,10 +23,14 @@ use base::tables::ACHI;
 use base::tables::ANEW;
 use base::tables::BCHI;
 use base::tables::BNEW;
-use base::words::float;
+use base::words::TableWord;
+use base::words::table_word;
 ghost use mathlib.Core.Path.{_≡_};
+ghost use lib.Dec.{T};
+ghost use lib.Ieee.Scale.{finite};
 ghost use Rattle.base.specs.Single.{_⊕_, _⊗_};
 ghost use Rattle.base.specs.Words.{floatAt};
+ghost use Rattle.base.specs.Finite.{FiniteMonth};
 ghost use Rattle.maps.specs.Layers.{sunOf, monthlyOf, clockOf, sspOf, sslOf, zenithOf, timvarOf, gamma6Of, eLayer, f1Layer, ef1Of, ratOf, abiyOf, retardOf, atLeastXf1, halfOver, twilightOf, mergedOf, eRetardation, belowF2, retardedOf, layersOf, esindOf, groundAt, groundOf};
 
 // The sun's two latitudes in each month, `SUN(2,12)`.
@@ -149,16 +153,31 @@ fn sun_of(month: u32) -> Sun
     Sun(Degrees(row[0]), Degrees(row[1]))
 }
 
-// A month file's word at `a` and, by the sunspot number, its word at `b`.
-fn term(file: &[u8], a: usize, b: usize, ssn: f32) -> f32
-    ensures { λ r. ⌜ r ≡ floatAt (now (file .entry)) a ⊕ floatAt (now (file .entry)) b ⊗ ssn ⌝ }
+// A number of a month file whose words were found finite.
+fn number(file: &[u8], at: usize) -> f32
+    requires { ⌜ T (finite (floatAt (now file) at)) ⌝ }
+    ensures { λ r. ⌜ r ≡ floatAt (now (file .entry)) at ⌝ }
 {
-    float(file, a) + float(file, b) * ssn
+    let w = table_word(file, at);
+    match w {
+        TableWord::Finite(x) => x,
+        // There is no such word.
+        TableWord::NotFinite => 0.0,
+    }
 }
 
-// What `layer_parameters` and `ground_constants` take of a month file at a sunspot number, with the
-// month's row of the sun's table.
-pub fn monthly_of(file: &[u8], month: u32, ssn: f32) -> Monthly
+// A month file's number at `a` and, by the sunspot number, its number at `b`.
+fn term(file: &[u8], a: usize, b: usize, ssn: f32) -> f32
+    requires { ⌜ T (finite (floatAt (now file) a)) × T (finite (floatAt (now file) b)) ⌝ }
+    ensures { λ r. ⌜ r ≡ floatAt (now (file .entry)) a ⊕ floatAt (now (file .entry)) b ⊗ ssn ⌝ }
+{
+    number(file, a) + number(file, b) * ssn
+}
+
+// What `layer_parameters` and `ground_constants` take of a month file, whose words were found finite,
+// at a sunspot number, with the month's row of the sun's table.
+pub(crate) fn monthly_of(file: &[u8], month: u32, ssn: f32) -> Monthly
+    requires { ⌜ FiniteMonth (now file) ⌝ }
     ensures { λ r. ⌜ r ≡ monthlyOf (now (file .entry)) month ssn ⌝ }
 {
     Monthly {
@@ -168,10 +187,10 @@ pub fn monthly_of(file: &[u8], month: u32, ssn: f32) -> Monthly
         new0: term(file, ANEW, BNEW, ssn),
         new1: term(file, ANEW + 4, BNEW + 4, ssn),
         new2: term(file, ANEW + 8, BNEW + 8, ssn),
-        land_alf: float(file, ABMAP),
-        land_bet: float(file, ABMAP + 4),
-        ratio_alf: float(file, ABMAP + 8),
-        ratio_bet: float(file, ABMAP + 12),
+        land_alf: number(file, ABMAP),
+        land_bet: number(file, ABMAP + 4),
+        ratio_alf: number(file, ABMAP + 8),
+        ratio_bet: number(file, ABMAP + 12),
     }
 }
 

@@ -13,7 +13,7 @@ returns c = c .file-check .ensures ∙ sym (cond-true _ _ (lt-ltb _ 12 (c .befor
 
 returns-2 : tie.Need-returns-2
 unfolding partCheck
-returns-2 c = c .month-record-check .ensures ∙ sym (cond-false _ _ (le-ltb _ 12 (c .before .if1 .left)))
+returns-2 c = c .daw-check .ensures ∙ sym (cond-false _ _ (le-ltb _ 12 (c .before .if1 .left)))
 
 pub part-check-spec : {M : Type 1} → statement M
 part-check-spec = tie.close (tie.spec (λ c κs. search needs) (λ c κs. search needs) returns returns-2)

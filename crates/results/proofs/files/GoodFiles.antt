@@ -8,31 +8,29 @@ use mathlib.Core.List.{List, [], _∷_, _++_, append-assoc, append-nil}
 use Prim.Native.Nat.{ℕ, zero, suc, _+_, _*_, _^_, _≤_, _<_}
 use native.Mathlib.Omega.{arith}
 use lib.ListN.{length, getD, drop, replicate, length-append, length-replicate}
-use lib.Dec.{T, ltb, ltb→lt, lit<}
+use lib.Dec.{T, ltb, ltb→lt, lit≤, lit<}
 use lib.Ieee.Fits.{and-l, and-r}
 use borrow.Author.Tests.{le-leb}
-use Rattle.base.specs.declared.refusal.Verdict.{Verdict}
 use Rattle.base.specs.declared.refusal.Verdict.the-variants.{Accepted}
 use Rattle.base.specs.Refusal.{_then_}
 use Rattle.base.specs.Number.{signedOf}
 use Rattle.base.specs.Words.{wordAt, fourBytes}
 use Rattle.base.specs.MonthFile.{recordSize, monthFileSize, sizes, monthFileCheck, Marked}
 use Rattle.base.specs.Index.{indexOf, mapWord, rows, harmonics, climbs, goodMap, indexCheck, GoodIndex}
-use Rattle.base.specs.Files.{fileCheck, filesCheck}
+use Rattle.base.specs.Finite.{tablesCheck, FiniteRecord}
+use Rattle.base.specs.Files.{filesCheck}
 use Rattle.results.specs.ExhibitedFiles.{fileOf, Below}
 unfoldable pub use Rattle.results.specs.ExhibitedFiles.{wordBytes, fileWith, goodIndexTable, goodMonthFile, goodRecord}
 use Rattle.base.proofs.verdicts.Picks.{cond-true}
 use Rattle.base.proofs.ladder.Ladders.{six, limits, good-known}
 use Rattle.base.proofs.ladder.Indexing.{index-word}
 use Rattle.results.proofs.files.Marks.{month-file-good}
+use Rattle.base.proofs.layout.FirstWords.{finite-record, finite-tables}
 use Rattle.results.proofs.files.MadeFiles.{word-in, length-file, marked}
+use Rattle.results.proofs.files.ZeroFiles.{zeros-finite, length-words, month-finite}
 use Rattle.results.proofs.files.IndexAnswers.{index-good, words-read}
 
 -- ---- a file with a table of 60 words
-
-length-words : (ws : List ℕ) → length (wordBytes ws) ≡ 4 * length ws
-length-words [] = refl
-length-words (w ∷ ws) = let h = length-words ws in omega arith
 
 words-in :
     (s pre : List ℕ) (at : ℕ) (ws rest : List ℕ) → s ≡ pre ++ (wordBytes ws ++ rest) → at ≡ length pre →
@@ -84,13 +82,14 @@ module _ (table : List ℕ) (n : length table ≡ 60) where
         index-good (fileWith table) .1
         (λ k h. words-read (mapWord table k) (mapWord (indexOf (fileWith table)) k) (λ j q. table-read k j h (omega arith)) _ _ (good k h))
 
-    -- a good table, in any file made of it, with any record that is long enough
-    pub made-accepted : (f2 : List ℕ) → recordSize ≤ length f2 → filesCheck f2 (fileWith table) ≡ Accepted
-    unfolding filesCheck fileCheck
-    made-accepted f2 h =
+    -- a good table, in any file made of it, with any record that is long enough and of finite numbers
+    pub made-accepted : (f2 : List ℕ) → recordSize ≤ length f2 → FiniteRecord f2 → filesCheck f2 (fileWith table) ≡ Accepted
+    unfolding filesCheck
+    made-accepted f2 h f =
+        let words = finite-record f2 f in
+        let tables = finite-tables (fileWith table) (month-finite table n) in
         cond-true _ _ (le-leb recordSize (length f2) h)
-        ∙ ap (λ (v : Verdict). v then indexCheck (fileWith table)) made-walks
-        ∙ made-index
+        ∙ (λ i. made-walks i then words i then tables i then made-index i)
 
 -- ---- it is made of bytes, where the table is of words
 
@@ -149,12 +148,13 @@ month-file-accepted = made-walks goodIndexTable refl
 pub index-accepted : indexCheck goodMonthFile ≡ Accepted
 index-accepted = made-index goodIndexTable refl table-good
 
--- with any record that is long enough
-pub accepted-with : (f2 : List ℕ) → recordSize ≤ length f2 → filesCheck f2 goodMonthFile ≡ Accepted
-accepted-with = made-accepted goodIndexTable refl table-good
+pub tables-accepted : tablesCheck goodMonthFile ≡ Accepted
+tables-accepted = finite-tables goodMonthFile (month-finite goodIndexTable refl)
 
 pub files-accepted : filesCheck goodRecord goodMonthFile ≡ Accepted
-files-accepted = accepted-with goodRecord (omega (arith, length-replicate {A = ℕ} recordSize 0))
+files-accepted =
+    made-accepted goodIndexTable refl table-good goodRecord (omega (arith, length-replicate {A = ℕ} recordSize 0))
+    (record { words = zeros-finite recordSize 1976 (lit≤ tt) })
 
 pub file-of-bytes : Below 256 goodMonthFile
 unfolding all-below

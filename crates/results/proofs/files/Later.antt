@@ -5,20 +5,25 @@ use mathlib.Core.Bool.{Bool, true, false, cond, _&&_}
 use mathlib.Core.List.{List, [], _∷_, _++_}
 use Prim.Native.Nat.{ℕ, zero, suc, _+_, _-_, _*_, _/_, _≤_, _<_}
 use native.Mathlib.Omega.{arith}
-use lib.Dec.{leb, eqb, lit≤}
+use lib.Dec.{T, leb, eqb, leb→le, lit≤}
 use lib.IntN.{ℤ}
 use lib.ListN.{length, getD, replicate, length-append, length-replicate}
 use lib.Ieee.{Float, binary32, ofBits}
+use lib.Ieee.Fits.{and-l, and-r}
+use lib.Ieee.Scale.{finite}
 use borrow.Author.Tests.{le-leb}
-use Rattle.base.specs.declared.refusal.Refusal.the-variants.{Index, Marker, Ended}
+use Rattle.base.specs.declared.refusal.Refusal.{Refusal}
+use Rattle.base.specs.declared.refusal.Refusal.the-variants.{Index, Marker, Ended, RecordWord, MonthWord}
 use Rattle.base.specs.declared.refusal.Verdict.{Verdict}
 use Rattle.base.specs.declared.refusal.Verdict.the-variants.{Accepted, Refused}
 use Rattle.base.specs.declared.blend.Weights.{Weights}
+use Rattle.base.specs.Refusal.{_then_}
 use Rattle.base.specs.Number.{signedOf}
 use Rattle.base.specs.Fill.{tabulate}
 use Rattle.base.specs.Words.{wordOf, wordAt, integerAt, floatAt}
 use Rattle.base.specs.MonthFile.{recordSize, monthFileSize, sizes, Four, marker, anything, layout, isRight, walk, monthFileCheck}
-use Rattle.base.specs.Tables.{startOf, planeOf, wordsOf, xf2cof, ikim, fakmap, xfm3cf, xesmcf, xpmap, xeslcf, xesucf, xercof}
+use Rattle.base.specs.Finite.{wordsCheck, recordsCheck, floatTables, eachCheck, tablesCheck}
+use Rattle.base.specs.Tables.{Table, wordsIn, tableEnd, startOf, planeOf, wordsOf, xf2cof, ikim, fakmap, xfm3cf, xesmcf, xpmap, xeslcf, xesucf, xercof}
 use Rattle.base.specs.Index.{rows, harmonics, isWholeTo, equals, exceeds, climbs, goodMap, ikimPlace, ikimAt, lowestBad, indexCheck, indexOf}
 use Rattle.base.specs.Blend.{blendOf, blendAt, blendTable, f2Weights, eWeights, heightWeights, eslcofOf, esmcofOf, esucofOf, f2cofOf, fm3cofOf, ercofOf, hmymOf, fakmapOf, appended, cofionOf}
 use Rattle.results.specs.LaterBytes.{Alike}
@@ -32,6 +37,11 @@ run-alike f g (suc n) h =
     let e = run-alike f g n (λ k q. h k (omega arith)) in
     let last = h n (omega arith) in
     λ i. e i ++ (last i ∷ [])
+
+-- whether tables end by the byte n
+unfoldable endsBy : ℕ → List Table → Bool
+endsBy n [] = true
+endsBy n (t ∷ ts) = leb (tableEnd t) n && endsBy n ts
 
 module _ (n : ℕ) (s t : List ℕ) (a : Alike n s t) where
   pub word-alike : (at : ℕ) → at + 4 ≤ n → wordAt s at ≡ wordAt t at
@@ -105,6 +115,25 @@ module _ (n : ℕ) (s t : List ℕ) (a : Alike n s t) where
     unfolding indexOf
     index-alike = run-alike _ _ 60 (λ k q. word-alike (startOf ikim + k * 4) (omega arith))
 
+  -- ---- the words of the tables
+
+  pub words-alike : (why : ℕ → Refusal) (at m : ℕ) → at + 4 * m ≤ n → wordsCheck why s at m ≡ wordsCheck why t at m
+  unfolding wordsCheck
+  words-alike why at zero h = refl
+  words-alike why at (suc m) h =
+      let f = ap finite (float-alike at (omega arith)) in
+      let e = words-alike why (at + 4) m (omega arith) in
+      λ i. cond (f i) (e i) (Refused (why at))
+
+  each-alike : (ts : List Table) → T (endsBy n ts) → eachCheck s ts ≡ eachCheck t ts
+  unfolding eachCheck endsBy
+  each-alike [] h = refl
+  each-alike (x ∷ ts) h =
+      let l = leb→le (tableEnd x) n (and-l (leb (tableEnd x) n) (endsBy n ts) h) in
+      let e = words-alike MonthWord (x .from) (wordsIn x) l in
+      let more = each-alike ts (and-r (leb (tableEnd x) n) (endsBy n ts) h) in
+      λ i. e i then more i
+
   -- ---- the maps
 
   blend-alike : (at width : ℕ) (w : Weights) → at + 8 * width ≤ n → tabulate (blendAt s at width w) width ≡ tabulate (blendAt t at width w) width
@@ -136,6 +165,10 @@ module _ (s t : List ℕ) (a : Alike monthFileSize s t) where
   unfolding monthFileCheck fours
   file-alike = let e = length-layout sizes in walk-alike monthFileSize s t a 0 (layout sizes) (omega arith)
 
+  pub tables-alike : tablesCheck s ≡ tablesCheck t
+  unfolding tablesCheck endsBy
+  tables-alike = each-alike monthFileSize s t a floatTables tt
+
   table-alike : (number : ℕ) (w : Weights) → startOf number + 8 * planeOf number ≤ monthFileSize → blendTable number w s ≡ blendTable number w t
   table-alike number w h = blend-alike monthFileSize s t a (startOf number) (planeOf number) w h
 
@@ -161,6 +194,10 @@ module _ (s t : List ℕ) (a : Alike monthFileSize s t) where
 -- ---- a record, whole in both, beside any month file
 
 module _ (f g : List ℕ) (b : Alike recordSize f g) where
+  pub records-alike : recordsCheck f 1 ≡ recordsCheck g 1
+  unfolding recordsCheck
+  records-alike = words-alike recordSize f g b RecordWord (startOf xf2cof) (wordsOf xf2cof) (lit≤ tt)
+
   f2-alike : (x : Float) → f2cofOf f x ≡ f2cofOf g x
   unfolding f2cofOf
   f2-alike x = blend-alike recordSize f g b (startOf xf2cof) (planeOf xf2cof) (f2Weights x) (lit≤ tt)

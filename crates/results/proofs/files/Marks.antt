@@ -6,23 +6,13 @@ use mathlib.Core.List.{List, [], _∷_, _++_}
 use Prim.Native.Nat.{ℕ, _+_, _*_, _/_, _%_, _≤_}
 use native.Mathlib.Nat.{add-zero}
 use native.Mathlib.Omega.{arith}
-use native.Mathlib.Decide.{decLe, ℕ-discrete}
 use lib.ListN.{length, take}
 use Rattle.base.specs.declared.refusal.Refusal.the-variants.{Ended, Marker}
 use Rattle.base.specs.declared.refusal.Verdict.the-variants.{Accepted, Refused}
 use Rattle.base.specs.Words.{wordAt}
 use Rattle.base.specs.MonthFile.{monthFileSize, sizes, layout, walk, monthFileCheck, Marked, WellMarked, MarkedToLast}
 use Rattle.results.specs.AcceptedFiles.{withMarkers}
-use Rattle.base.proofs.verdicts.Refusals.{refused-not-accepted}
-use Rattle.base.proofs.layout.Walks.{no-open, bad-open, no-close, bad-close, passed, accepted-length}
-
--- each size is a whole number of words
-abbrev pub Fours : List ℕ → Type 0
-Fours [] = Unit
-Fours (n ∷ ns) = (n % 4 ≡ 0) × Fours ns
-
-pub fours : Fours sizes
-fours = (refl, (refl, (refl, (refl, (refl, (refl, (refl, (refl, (refl, tt)))))))))
+use Rattle.base.proofs.layout.Walks.{Fours, fours, no-close, bad-close, passed, accepted-length, accepted-marks}
 
 fours-eight : Fours (take 8 sizes)
 fours-eight = (refl, (refl, (refl, (refl, (refl, (refl, (refl, (refl, tt))))))))
@@ -38,23 +28,6 @@ through s at (n ∷ ns) rest f m k h =
     ∙ through s (at + n + 8) ns rest (f .1) (omega arith) (k .2) (omega arith)
     ∙ ap (λ (x : ℕ). walk s x (layout rest)) (omega arith)
 
--- ---- and a walk that accepts has met no other
-marks-met : (s : List ℕ) (at : ℕ) (ns : List ℕ) → Fours ns → at % 4 ≡ 0 → at ≤ length s → walk s at (layout ns) ≡ Accepted → Marked s at ns
-marks-met s at [] f m h e = tt
-marks-met s at (n ∷ ns) f m h e = let w = f .0 in elim (decLe (at + 4) (length s)) [
-  | no q ↦ refused-not-accepted (sym (no-open s at n ns m w h (omega arith)) ∙ e)
-  | yes q ↦ elim (ℕ-discrete (wordAt s at) n) [
-    | no d ↦ refused-not-accepted (sym (bad-open s at n ns m w h q d) ∙ e)
-    | yes o ↦ elim (decLe (at + n + 8) (length s)) [
-      | no l ↦ refused-not-accepted (sym (no-close s at n ns m w h q o (omega arith)) ∙ e)
-      | yes l ↦ elim (ℕ-discrete (wordAt s (at + n + 4)) n) [
-        | no d ↦ refused-not-accepted (sym (bad-close s at n ns m w h q o l d) ∙ e)
-        | yes c ↦ (o, c, marks-met s (at + n + 8) ns (f .1) (omega arith) l (sym (passed s at n ns m w h q o l c) ∙ e))
-      ]
-    ]
-  ]
-]
-
 -- ---- 'nine records, each between two u32 markers of its size, in all 38,552 bytes; later bytes
 -- are ignored'
 
@@ -65,7 +38,7 @@ done s at = refl
 pub month-file-good : (s : List ℕ) → (monthFileCheck s ≡ Accepted → WellMarked s) × (WellMarked s → monthFileCheck s ≡ Accepted)
 unfolding monthFileCheck
 month-file-good s = (
-  λ e. record { whole = accepted-length s e; marks = marks-met s 0 sizes fours refl (omega arith) e },
+  λ e. record { whole = accepted-length s e; marks = accepted-marks s e },
   λ w. through s 0 sizes [] fours refl (w .marks) (w .whole) ∙ done s monthFileSize,
 )
 

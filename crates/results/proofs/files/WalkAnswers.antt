@@ -17,9 +17,9 @@ use Rattle.base.specs.Refusal.{verdictReport}
 use Rattle.base.specs.Words.{wordOf, wordAt}
 use Rattle.base.specs.MonthFile.{monthFileSize, sizes, Four, layout, isRight, walk, monthFileCheck, Marked, WellMarked}
 use Rattle.base.proofs.verdicts.Refusals.{refused-not-accepted}
-use Rattle.base.proofs.layout.Walks.{no-open, bad-open, no-close, bad-close, passed}
+use Rattle.base.proofs.layout.Walks.{Fours, fours, no-open, bad-open, no-close, bad-close, passed}
 use Rattle.results.specs.AcceptedFiles.{withMarkers, RightSoFar, EndsAt, FirstWrong, opening, closing, beyond, WrongMarker, FileAnswer, taken, ended, wrong}
-use Rattle.results.proofs.files.Marks.{Fours, fours, done}
+use Rattle.results.proofs.files.Marks.{done}
 
 -- refusals that are the same have the same place, and 9 is not 10
 place : {v w : Verdict} → v ≡ w → verdictReport v .1 ≡ verdictReport w .1

@@ -27,7 +27,7 @@ use Rattle.results.proofs.numbers.Sizes.{Sized}
 rounds-number : (f : Format) (z : Float) (p n c : ℕ) → 0 < c → Rounds f z p n c → T (not (isNan z))
 rounds-number f z p n c C r = le-left z z (rounds-mono f z z p n c p n c C C r r (omega arith))
 
-mul-number : (f : Format) (x y : Float) → T (finite x) → T (finite y) → T (not (isNan (mul f x y)))
+pub mul-number : (f : Format) (x y : Float) → T (finite x) → T (finite y) → T (not (isNan (mul f x y)))
 mul-number f x y p q = rounds-number f (mul f x y) (plus x * plus y + less x * less y) (plus x * less y + less x * plus y) (den x * den y) (mul-pos (den-pos x) (den-pos y)) (mul-rounds f x y p q)
 
 -- of a finite number and a number

@@ -97,7 +97,7 @@ fields-in i h = record {
 up-to-finite : (n : ℕ) (x : Float) → UpToPower n x → T (finite x)
 up-to-finite n x h = abs-finite x (fin false 1 (pos n)) tt h
 
-ranged-finite : (lo hi x : Float) → T (finite lo) → T (finite hi) → T (isTo lo hi x) → T (finite x)
+pub ranged-finite : (lo hi x : Float) → T (finite lo) → T (finite hi) → T (isTo lo hi x) → T (finite x)
 ranged-finite lo hi x a b t = finite-between lo x hi a b (and-l (le lo x) (le x hi) t) (and-r (le lo x) (le x hi) t)
 
 -- ---- lists of finite numbers

@@ -8,19 +8,23 @@ use native.Mathlib.Decide.{decLt}
 use lib.Dec.{lit≤}
 use lib.ListN.{length, getD, drop, replicate, length-append, length-map, length-replicate}
 use borrow.Author.Tests.{le-ltb, lt-ltb}
+use Rattle.base.specs.declared.refusal.Refusal.the-variants.{RecordWord}
 use Rattle.base.specs.declared.refusal.Verdict.the-variants.{Accepted}
 use Rattle.base.specs.Refusal.{_then_}
 use Rattle.base.specs.Words.{fourBytes}
 use Rattle.base.specs.MonthFile.{recordSize, sizes, monthRecordCheck}
-use Rattle.base.specs.Files.{fileCheck}
+use Rattle.base.specs.Finite.{recordsCheck}
+use Rattle.base.specs.Files.{fileCheck, dawCheck}
 use Rattle.base.specs.Year.{directorySize}
 use Rattle.packing.specs.Pack.{partCheck, pairsOf, together, packed, startIn}
 use Rattle.packing.proofs.pairs.Starts.{start-end, start-least}
 use Rattle.base.proofs.verdicts.Picks.{cond-true, cond-false}
+use Rattle.base.proofs.layout.FirstWords.{finite-run}
 use Rattle.results.specs.ExhibitedFiles.{wordBytes, fileOf, fileWith, goodIndexTable, goodMonthFile, Below}
 use Rattle.results.specs.OneYear.{AllShown, goodYear}
 use Rattle.results.proofs.files.MadeFiles.{length-file}
-use Rattle.results.proofs.files.GoodFiles.{month-file-accepted, index-accepted, file-of-bytes, below-append, four-bytes, zero-bytes}
+use Rattle.results.proofs.files.GoodFiles.{month-file-accepted, tables-accepted, index-accepted, file-of-bytes, below-append, four-bytes, zero-bytes}
+use Rattle.results.proofs.files.ZeroFiles.{zeros-finite}
 use Rattle.results.proofs.files.MonthRecords.{month-there}
 use Rattle.results.proofs.sheet.PackedShown.{all-shown}
 
@@ -57,12 +61,18 @@ of-each P p q k h = elim (decLt k 12) [
 
 month-good : fileCheck goodMonthFile ≡ Accepted
 unfolding fileCheck
-month-good = λ i. month-file-accepted i then index-accepted i
+month-good = λ i. month-file-accepted i then tables-accepted i then index-accepted i
 
-daws-good : monthRecordCheck daws 12 ≡ Accepted
-daws-good =
+daws-there : monthRecordCheck daws 12 ≡ Accepted
+daws-there =
     month-there daws 12
     (record { low = lit≤ tt; high = lit≤ tt; room = omega (arith, length-replicate {A = ℕ} (12 * recordSize) 0) })
+
+daws-good : dawCheck daws ≡ Accepted
+unfolding dawCheck recordsCheck
+daws-good =
+    let words = finite-run daws RecordWord 0 23712 (zeros-finite (12 * recordSize) 23712 (lit≤ tt)) in
+    λ i. daws-there i then words i
 
 each-good : (k : ℕ) → k < 14 → partCheck k (getD parts k []) ≡ Accepted
 unfolding partCheck
@@ -70,7 +80,7 @@ each-good k h = elim (decLt k 12) [
   | yes l ↦ cond-true _ _ (lt-ltb k 12 l) ∙ ap fileCheck (month-at k l) ∙ month-good
   | no g ↦
       let l : 12 ≤ k = omega (arith, g) in
-      cond-false _ _ (le-ltb k 12 l) ∙ ap (λ (d : List ℕ). monthRecordCheck d 12) (model-at k l h) ∙ daws-good
+      cond-false _ _ (le-ltb k 12 l) ∙ ap dawCheck (model-at k l h) ∙ daws-good
 ]
 
 pub good-year-shown : AllShown goodYear

@@ -16,13 +16,15 @@ use Rattle.base.specs.declared.refusal.Verdict.{Verdict}
 use Rattle.base.specs.declared.refusal.Verdict.the-variants.{Accepted, Refused}
 use Rattle.base.specs.Single.{_⊕_, _⊗_}
 use Rattle.base.specs.Refusal.{_then_, writtenOver}
-use Rattle.base.specs.Files.{fileCheck, filesCheck}
+use Rattle.base.specs.MonthFile.{monthFileCheck}
+use Rattle.base.specs.Finite.{recordsCheck, tablesCheck}
+use Rattle.base.specs.Files.{filesCheck}
 use Rattle.base.specs.Tables.{startOf, achi, bchi, anew, bnew, abmap}
 use Rattle.base.specs.Words.{floatAt}
-use Rattle.base.specs.Index.{indexOf}
+use Rattle.base.specs.Index.{indexOf, indexCheck}
 use Rattle.base.specs.Blend.{hmymOf, fakmapOf}
 use Rattle.results.specs.LaterBytes.{Alike}
-use Rattle.results.proofs.files.Later.{float-alike, file-alike, check-alike, index-alike, cofion-month, cofion-record, hmym-alike, fakmap-alike}
+use Rattle.results.proofs.files.Later.{float-alike, file-alike, tables-alike, records-alike, check-alike, index-alike, cofion-month, cofion-record, hmym-alike, fakmap-alike}
 use Rattle.maps.specs.declared.inputs.Inputs.{Inputs}
 use Rattle.maps.specs.declared.ionosphere.layers.Monthly.{Monthly}
 use Rattle.maps.specs.Virtim.{virtimOf}
@@ -70,11 +72,12 @@ module _ (s t : List ℕ) (a : Alike 38552 s t) where
       }
 
   month-files : (f : List ℕ) → filesCheck f s ≡ filesCheck f t
-  unfolding filesCheck fileCheck
+  unfolding filesCheck
   month-files f =
       let walked = file-alike s t a in
+      let words = tables-alike s t a in
       let index = check-alike 38552 s t a (lit≤ tt) in
-      λ i. cond (leb 7904 (length f)) (walked i then index i) (Refused Record)
+      λ i. cond (leb 7904 (length f)) (walked i then recordsCheck f 1 then words i then index i) (Refused Record)
 
   module _ (f : List ℕ) (x : Inputs) where
     month-hour : hourOf f s x ≡ hourOf f t x
@@ -108,7 +111,8 @@ module _ (f g : List ℕ) (b : Alike 7904 f g) (s : List ℕ) where
       let p = b .here in
       let q = b .there in
       let l : leb 7904 (length f) ≡ leb 7904 (length g) = le-leb 7904 (length f) p ∙ sym (le-leb 7904 (length g) q) in
-      λ i. cond (l i) (fileCheck s) (Refused Record)
+      let words = records-alike f g b in
+      λ i. cond (l i) (monthFileCheck s then words i then tablesCheck s then indexCheck s) (Refused Record)
 
   module _ (x : Inputs) where
     record-hour : hourOf f s x ≡ hourOf g s x

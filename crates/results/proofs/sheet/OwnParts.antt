@@ -3,24 +3,24 @@
 -- model's part reaches to the end of its record; no other word than 0 and 1 has a part. Assumes
 -- nothing.
 use mathlib.Core.Path.{_≡_, refl, sym, ap, subst, _∙_}
-use mathlib.Core.Bool.{Bool, true, false, cond}
+use mathlib.Core.Bool.{Bool, true, false}
 use mathlib.Core.List.{List}
 use mathlib.Core.Logic.{_⊎_, inl, inr}
 use Prim.Native.Nat.{ℕ, _+_, _-_, _*_, _≤_, _<_}
 use native.Mathlib.Decide.{decLt}
 use native.Mathlib.Omega.{arith}
-use lib.Dec.{leb}
 use lib.ListN.{length, take, drop}
 use lib.Ieee.{Float}
 use borrow.Author.Tests.{le-leb}
-use Rattle.base.specs.declared.refusal.Refusal.the-variants.{Record}
-use Rattle.base.specs.declared.refusal.Verdict.the-variants.{Accepted, Refused}
+use Rattle.base.specs.declared.refusal.Verdict.the-variants.{Accepted}
 use Rattle.base.specs.Ranges.{isMonth, isBit}
 use Rattle.base.specs.MonthFile.{Part, recordSize, monthStart, monthRecordCheck, monthPart}
-use Rattle.base.specs.Files.{fileCheck, filesCheck}
+use Rattle.base.specs.Finite.{FiniteRecord}
+use Rattle.base.specs.Files.{fileCheck}
 use Rattle.base.specs.Year.{yearCheck, pairPart, yearMonth, yearModel, partBytes}
 use Rattle.base.proofs.ladder.Ladders.{and-true}
-use Rattle.base.proofs.verdicts.Refusals.{refused-not-accepted, then-both}
+use Rattle.base.proofs.layout.Readers.{files-record-finite, files-file}
+use Rattle.base.proofs.verdicts.Refusals.{then-both}
 use Rattle.base.proofs.layout.Records.{month-known as record-known, month-part}
 use Rattle.base.proofs.layout.Directories.{month-known, bit-known, month-part-is, model-part-is, no-model}
 use Rattle.maps.specs.declared.inputs.Inputs.{Inputs}
@@ -69,7 +69,7 @@ is-model m e = elim (decLt m 1) [
 
 module _ (s : List ℕ) (i : Inputs) (count : ℕ) (figures : List Float) where
   pub figures-own-parts : FiguresOf (yearly s) i count figures → OwnParts s i count figures
-  unfolding yearFiles filesCheck
+  unfolding yearFiles
   figures-own-parts f =
       let daw = partBytes s (yearModel s (i .model)) in
       let both = then-both (yearCheck s) (monthRecordCheck daw (i .month)) (f .lent) in
@@ -87,7 +87,11 @@ module _ (s : List ℕ) (i : Inputs) (count : ℕ) (figures : List Float) where
         model = is-model (i .model) bit;
         directory = year-good s .0 (both .0);
         room = subst (λ (d : List ℕ). i .month * recordSize ≤ length d) daw-is room;
-        file = sym (ap fileCheck file-is) ∙ file-good (partBytes s (yearMonth s (i .month))) (leb recordSize (length (partBytes daw (monthPart daw (i .month))))) (f .checked);
+        words =
+            subst FiniteRecord
+            (record-is ∙ ap (λ (d : List ℕ). take recordSize (drop (monthStart (i .month)) d)) daw-is)
+            (files-record-finite _ _ (f .checked));
+        file = sym (ap fileCheck file-is) ∙ files-file _ _ (f .checked);
         points = f .points;
         whole =
             f .whole
@@ -95,10 +99,6 @@ module _ (s : List ℕ) (i : Inputs) (count : ℕ) (figures : List Float) where
             ∙ ap (λ (d : List ℕ). figuresOf (take recordSize (drop (monthStart (i .month)) d)) (partAt s (i .month - 1)) i) daw-is;
       }
     where
-      file-good : (file : List ℕ) (long : Bool) → cond long (fileCheck file) (Refused Record) ≡ Accepted → fileCheck file ≡ Accepted
-      file-good file true e = e
-      file-good file false e = refused-not-accepted e
-
       is-bit : (length (partBytes s (yearModel s (i .model))) ≡ 0) ⊎ (isBit (i .model) ≡ true) → 1 ≤ i .month
           → i .month * recordSize ≤ length (partBytes s (yearModel s (i .model))) → isBit (i .model) ≡ true
       is-bit (inl e) l r = absurd (omega (arith, e, l, r))

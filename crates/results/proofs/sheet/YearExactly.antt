@@ -6,7 +6,7 @@ use mathlib.Core.Path.{_≡_, refl, ap, _∙_}
 use Prim.Native.Nat.{ℕ, _-_, _*_, _≤_}
 use native.Mathlib.Omega.{arith}
 use lib.Dec.{T, leb}
-use lib.ListN.{length, drop, length-drop}
+use lib.ListN.{length, take, drop, length-drop}
 use lib.Seq.{length-take-le}
 use borrow.Author.Tests.{le-leb}
 use Rattle.base.specs.declared.refusal.Refusal.the-variants.{Month, Record, Model}
@@ -14,14 +14,16 @@ use Rattle.base.specs.declared.refusal.Verdict.{Verdict}
 use Rattle.base.specs.declared.refusal.Verdict.the-variants.{Accepted, Refused}
 use Rattle.base.specs.Refusal.{refuseUnless, _then_}
 use Rattle.base.specs.Ranges.{isMonth, isBit, monthCheck, modelCheck}
-use Rattle.base.specs.MonthFile.{Part, recordSize, monthStart, monthRecordCheck, monthPart}
-use Rattle.base.specs.Files.{fileCheck, filesCheck}
+use Rattle.base.specs.MonthFile.{Part, recordSize, monthStart, monthRecordCheck, monthPart, monthFileCheck}
+use Rattle.base.specs.Finite.{recordsCheck, tablesCheck}
+use Rattle.base.specs.Index.{indexCheck}
+use Rattle.base.specs.Files.{filesCheck}
 use Rattle.base.specs.Year.{yearCheck, yearMonth, yearModel, partBytes}
 use Rattle.base.proofs.verdicts.Picks.{cond-true}
 use Rattle.base.proofs.layout.Records.{month-known, month-part}
 use Rattle.worksheet.specs.Inputs.{inputsCheck}
 use Rattle.worksheet.specs.Showing.{yearFiles, yearFilesCheck, inputsShown, askedCheck, bufferCheck, drawnCheck, judgedCheck, showCheck}
-use Rattle.results.specs.OneYear.{partAt, recordCheck, YearFilesExactly, YearShowingExactly}
+use Rattle.results.specs.OneYear.{partAt, recordAt, recordCheck, partsCheck, YearFilesExactly, YearShowingExactly}
 use Rattle.results.proofs.sheet.AlwaysShown.{month-and-model}
 use Rattle.results.proofs.sheet.OwnParts.{month-bytes, model-bytes}
 
@@ -48,9 +50,13 @@ record-length daw m e =
     let p = ap (λ (p : Part). length (partBytes daw p)) (month-part daw m refl e) in
     omega (arith, p, n)
 
+-- what is refused of a record that is long enough and a month file
+abbrev restCheck : List ℕ → List ℕ → Verdict
+restCheck f2 file = monthFileCheck file then recordsCheck f2 1 then tablesCheck file then indexCheck file
+
 -- a record that is there is long enough
 record-there : (daw file : List ℕ) (m : ℕ) → monthRecordCheck daw m ≡ Accepted →
-    filesCheck (partBytes daw (monthPart daw m)) file ≡ fileCheck file
+    filesCheck (partBytes daw (monthPart daw m)) file ≡ restCheck (partBytes daw (monthPart daw m)) file
 unfolding filesCheck
 record-there daw file m e =
     cond-true _ _ (le-leb recordSize (length (partBytes daw (monthPart daw m))) (record-length daw m e))
@@ -72,8 +78,14 @@ module _ (s : List ℕ) (month model : ℕ) (m : isMonth month ≡ true) (b : is
   file-is : yearCheck s ≡ Accepted → partBytes s (yearMonth s month) ≡ partAt s (month - 1)
   file-is good = month-bytes s good month m
 
+  record-bytes : yearCheck s ≡ Accepted → monthRecordCheck daw month ≡ Accepted →
+      partBytes daw (monthPart daw month) ≡ recordAt s month model
+  record-bytes good e =
+      ap (partBytes daw) (month-part daw month refl e)
+      ∙ ap (λ (d : List ℕ). take recordSize (drop (monthStart month) d)) (model-bytes s good model b)
+
   abbrev rest : Verdict
-  rest = recordCheck s month model then fileCheck (partAt s (month - 1))
+  rest = recordCheck s month model then partsCheck s month model
 
   pub files-exactly :
       let files = yearFiles s month model in
@@ -83,8 +95,8 @@ module _ (s : List ℕ) (month model : ℕ) (m : isMonth month ≡ true) (b : is
       let there = monthRecordCheck daw month in
       then-assoc (yearCheck s) there _
       ∙ then-where (yearCheck s) (λ good.
-      then-where there (λ e. record-there daw _ month e ∙ ap fileCheck (file-is good))
-      ∙ ap (λ (v : Verdict). v then fileCheck (partAt s (month - 1))) (record-is good))
+      then-where there (λ e. record-there daw _ month e ∙ (λ i. restCheck (record-bytes good e i) (file-is good i)))
+      ∙ ap (λ (v : Verdict). v then partsCheck s month model) (record-is good))
 
   pub in-range-exactly : yearFilesCheck s month model ≡ (yearCheck s then rest)
   unfolding yearFilesCheck monthCheck modelCheck

@@ -25,6 +25,9 @@ pub const OF_AUDITS: [(&str, &[&str]); 8] = [
     ),
 ];
 
+/// Refusals by 23, by the file that they are about.
+const OF_WORDS: [&str; 2] = ["refused 23, record", "refused 23, month file"];
+
 #[derive(Default)]
 pub struct Kinds {
     counts: BTreeMap<String, u64>,
@@ -35,6 +38,9 @@ impl Kinds {
         for heard in &journal.heard {
             self.add(match &heard.answer {
                 Answer::Accepted => String::from("accepted"),
+                Answer::Refused(refusal) if refusal.number == 23 => {
+                    String::from(OF_WORDS[usize::from(!refusal.of_record)])
+                }
                 Answer::Refused(refusal) => format!("refused {:>2}", refusal.number),
                 Answer::Points(shown) => format!("shown, {} points", shown.points),
             });
@@ -67,7 +73,14 @@ impl Kinds {
         *self.counts.entry(kind).or_insert(0) += 1;
     }
 
-    #[cfg(test)]
+    /// An error if refusals by 23 of either file came fewer than so many times.
+    pub fn refuse_rare(&self, least: u64) -> Result<(), String> {
+        match OF_WORDS.into_iter().find(|kind| self.of(kind) < least) {
+            Some(kind) => Err(format!("{kind} is too rare")),
+            None => Ok(()),
+        }
+    }
+
     pub fn of(&self, kind: &str) -> u64 {
         self.counts.get(kind).copied().unwrap_or(0)
     }

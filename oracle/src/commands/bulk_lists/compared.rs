@@ -2,7 +2,7 @@
 
 use super::beside;
 use super::drawn::{self, Draw, List, Start};
-use crate::commands::journals::counts::Counts;
+use crate::commands::journals::counts::{by_bad_words, Counts, SHOWINGS};
 use crate::draw::generator::Generator;
 use crate::model::desks::lent::Lent;
 use crate::model::desks::library::{Desks, Files};
@@ -10,6 +10,9 @@ use crate::model::desks::shorter::check;
 
 /// Lists over the same files, which take longer to make than a list.
 const LISTS: u64 = 20;
+/// In so many lists a showing must be refused by 23, of the record and of the month
+/// file.
+const RARE: u64 = 2000;
 
 pub fn run(desks: &impl Desks, draw: Draw, count: u64, seed: u64) -> Result<(), String> {
     let mut compared = Compared::default();
@@ -81,7 +84,7 @@ impl Compared {
         }
     }
 
-    /// An error if a list differed.
+    /// An error if a list differed, or if none was refused by 23.
     fn report(&self) -> Result<(), String> {
         self.counts.print();
         println!(
@@ -89,7 +92,10 @@ impl Compared {
             self.lists, self.shorter, self.calls, self.differing
         );
         match &self.first {
-            None => Ok(()),
+            None => {
+                let rare = by_bad_words(&SHOWINGS);
+                self.counts.refuse_rare(&rare, self.lists / RARE, 0)
+            }
             Some(first) => Err(format!("{} lists differ, first {first}", self.differing)),
         }
     }

@@ -32,7 +32,7 @@ pub fn rows(pair: &Pair) -> Vec<u8> {
         for number in numbers() {
             let answer = match starts.table(number, &record[..length], &month) {
                 Ok(part) => [0, 0, part.start, part.length(), first(number, part.start)],
-                Err(Refusal { number, place }) => [number as usize, place as usize, 0, 0, 0],
+                Err(Refusal { number, place, .. }) => [number as usize, place as usize, 0, 0, 0],
             };
             let Damage {
                 length: cut,

@@ -36,7 +36,7 @@ pub fn factors(desk: u32, values: [f32; 4]) -> Call {
     Call::Change(desk, Edit::Factors(values.map(f32::to_bits)))
 }
 
-fn pole(desk: u32, lat: f32, lon: f32) -> Call {
+pub fn pole(desk: u32, lat: f32, lon: f32) -> Call {
     Call::Change(desk, Edit::Pole([lat, lon].map(f32::to_bits)))
 }
 

@@ -37,6 +37,12 @@ const BY_CHANGES: [(&str, u32, u32); 13] = [
 pub const BY_DESKS: [u32; 6] = [7, 14, 15, 16, 17, 18];
 const BY_OPEN: [u32; 14] = [1, 2, 3, 4, 5, 4, 5, 7, 6, 6, 6, 6, 4, 5];
 
+/// What a 23 is written as, by the file that it is about.
+pub const NO_FINITE_NUMBER: [&str; 2] =
+    ["refused 23 in the record", "refused 23 in the month file"];
+/// The calls that can be refused so.
+pub const SHOWINGS: [&str; 2] = ["show the worksheet", "show a draft"];
+
 /// A call's name and an answer.
 pub type Key = (&'static str, String);
 
@@ -152,24 +158,36 @@ fn points(shown: &Shown) -> String {
     format!("points {}", shown.points)
 }
 
-/// The places of 9 and 10 are many and stand as one.
+/// The places of 9, 10 and 23 are many and stand as one, those of 23 as one for
+/// each of both files.
 fn text_of(refusal: Option<&Refusal>) -> String {
     match refusal {
         Some(Refusal {
             number: number @ (9 | 10),
             ..
         }) => format!("refused {number} at a byte"),
-        Some(Refusal { number, place }) => format!("refused {number} {place}"),
+        Some(Refusal {
+            number: 23,
+            of_record,
+            ..
+        }) => String::from(NO_FINITE_NUMBER[usize::from(!of_record)]),
+        Some(Refusal { number, place, .. }) => format!("refused {number} {place}"),
         None => String::from("accepted"),
     }
 }
 
 fn refused(number: u32, place: u32) -> String {
-    text_of(Some(&Refusal { number, place }))
+    text_of(Some(&Refusal::at(number, place)))
 }
 
 fn accepted() -> String {
     text_of(None)
+}
+
+/// Refusals by 23 of either file, which bulk comparisons must not leave out.
+pub fn by_bad_words(calls: &[&'static str]) -> Vec<Key> {
+    let of_call = |name: &&'static str| NO_FINITE_NUMBER.map(|answer| (*name, answer.to_owned()));
+    calls.iter().flat_map(of_call).collect()
 }
 
 /// What each call over a year file can answer: over a good one, and what its
@@ -182,10 +200,11 @@ pub fn possible_over_a_year() -> Vec<Key> {
         all.extend(refusals.map(|(number, place)| (name, refused(number, place))));
         all.push((name, accepted()));
     }
-    for name in ["show the worksheet", "show a draft"] {
+    for name in SHOWINGS {
         all.extend((1..=14).map(|pair| (name, refused(19, pair))));
         all.extend([8, 9, 10].map(|number| (name, refused(number, 0))));
     }
+    all.extend(by_bad_words(&SHOWINGS));
     all
 }
 
@@ -204,7 +223,7 @@ pub fn possible() -> Vec<Key> {
     all.extend(DRAFTS.map(|name| (name, refused(14, 0))));
     all.extend(DRAFTS.map(|name| (name, refused(16, 0))));
     all.extend(DRAFTS[..7].iter().map(|name| (*name, accepted())));
-    for name in ["show the worksheet", "show a draft"] {
+    for name in SHOWINGS {
         all.extend([1, 3, 5].map(|points| (name, format!("points {points}"))));
     }
     all.extend(BY_CHANGES.map(|(name, number, place)| (name, refused(number, place))));

@@ -1,7 +1,7 @@
 //! What the program `sheet` is given: fields, and how much of both files, with
 //! one byte of the month file changed, all of it cut.
 
-use crate::draw::damage::set_byte;
+use crate::draw::damage::{set_byte, to_be_set};
 use crate::draw::data_files::Pair;
 use crate::draw::generator::Generator;
 use crate::draw::sheet_kinds::inputs;
@@ -86,6 +86,7 @@ pub fn cases(pair: &Pair) -> Vec<Case> {
     cases.extend(bad_fields());
     cases.extend(several_bad());
     cases.extend(bad_files(&pair.month));
+    cases.extend(bad_words(&pair.month));
     cases
 }
 
@@ -244,5 +245,22 @@ fn bad_files(month: &[u8]) -> Vec<Case> {
     }
     // A word of a table changed: still good.
     cases.push(usual.changed(20_000, month[20_000] ^ 1));
+    cases
+}
+
+/// Words that are no finite numbers, their signs by turns. A cut file or a bad field
+/// comes first.
+fn bad_words(month: &[u8]) -> Vec<Case> {
+    let bytes = to_be_set(month)
+        .into_iter()
+        .zip([0x7f, 0xff].into_iter().cycle());
+    let mut cases: Vec<Case> = bytes
+        .map(|(at, value)| Case::whole(usual()).changed(at, value))
+        .collect();
+    let [first, last] = [cases[0], cases[cases.len() - 1]];
+    cases.push(first.cut(CALLS - 1));
+    cases.push(last.cut(CALLS - 4));
+    let fields = with(14, NANS[0]);
+    cases.push(Case { fields, ..first });
     cases
 }

@@ -23,7 +23,7 @@ enum Deed {
 
 type Tally = HashMap<Deed, usize>;
 
-/// Wild sections are left out: their NaNs decide alike.
+/// Huge sections are left out: their NaNs decide alike.
 pub fn fill_up(sections: &mut [Section]) {
     let mut tally = Tally::new();
     for section in sections.iter() {
@@ -33,7 +33,7 @@ pub fn fill_up(sections: &mut [Section]) {
         }
     }
     let mut random = Generator::new(SEED);
-    for section in sections.iter_mut().filter(|s| !s.name.starts_with("wild")) {
+    for section in sections.iter_mut().filter(|s| !s.name.starts_with("huge")) {
         section.put();
         let mut sheets: Vec<Sheet> = (0..DRAWS).map(|_| in_range(&mut random)).collect();
         sheets.retain(|sheet| helps(&mut tally, sheet));

@@ -25,6 +25,10 @@ pub fn year() -> Vec<u8> {
         month
     };
     let records = calm_1.daw[..RECORDS].repeat(MONTHS / 2);
+    let mut of_ccir = records[..records.len() - 1].to_vec();
+    set_infinity(&mut of_ccir[9 * F2_RECORD_BYTES..]);
+    let mut bad_word = good.clone();
+    set_infinity(&mut bad_word[LAST - 4..]);
     let parts: Parts = [
         good.clone(),
         Vec::new(),
@@ -37,15 +41,21 @@ pub fn year() -> Vec<u8> {
         // A first word of 0 for map 1, and a last row of 22 for map 6.
         with(TABLE, 0),
         with(TABLE + 40 * 5 + 4 * 8, 22),
-        // Bytes after the last marker are ignored.
+        // Bytes after the last marker are ignored. The first word of the CCIR record is
+        // no finite number.
         [&good[..], b"more"].concat(),
-        good.clone(),
+        // Nor is the last word of this file.
+        bad_word,
         // Its records are not there, which is said first.
         vec![0; 8],
-        records[..records.len() - 1].to_vec(),
+        of_ccir,
         records[..10 * F2_RECORD_BYTES].to_vec(),
     ];
     packed(&parts, &NO_GAPS)
+}
+
+fn set_infinity(bytes: &mut [u8]) {
+    bytes[..4].copy_from_slice(&f32::INFINITY.to_le_bytes());
 }
 
 #[cfg(test)]
@@ -65,8 +75,8 @@ mod tests {
         ["10 38548"; 2],
         ["11 1"; 2],
         ["11 6"; 2],
-        [""; 2],
-        ["", "8 0"],
+        ["23 0", ""],
+        ["23 38544", "8 0"],
         ["8 0"; 2],
     ];
 

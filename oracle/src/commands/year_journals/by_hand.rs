@@ -1,7 +1,7 @@
 //! Lists that tell one rule each about months and models.
 
 use crate::commands::journals::by_hand::{
-    hour, model, month, path, show, sunspots, FAR, LONG, SHOW,
+    factors, hour, model, month, path, pole, show, sunspots, FAR, LONG, SHORT, SHOW,
 };
 use crate::model::desks::fields::{CCIR, URSI};
 use crate::model::desks::Call;
@@ -194,4 +194,30 @@ pub fn over_worn_parts() -> Vec<Vec<Call>> {
     };
     let months = (1..=12).flat_map(|word| [CCIR, URSI].map(|family| asked([word, family])));
     months.collect()
+}
+
+/// September and October, whose files have words that are no finite numbers: whatever
+/// else a draft or the worksheet has, the same word is named.
+pub fn over_bad_words() -> Vec<Vec<Call>> {
+    let asked = |word: u32, desk: u32| {
+        let edits = [
+            model(desk, CCIR),
+            path(desk, FAR, LONG),
+            path(desk, FAR, SHORT),
+            sunspots(desk, 0.0),
+            sunspots(desk, 300.0),
+            hour(desk, 4.5),
+            factors(desk, [8.0, 0.125, 1.0, 1.0]),
+            pole(desk, -90.0, 180.0),
+        ];
+        let mut calls = vec![Begin(desk), month(desk, word), Commit(desk)];
+        for edit in edits {
+            calls.extend([Begin(desk), edit, show(desk), Commit(desk), SHOW]);
+        }
+        calls
+    };
+    let months = [9, 10].into_iter();
+    months
+        .flat_map(|word| (1..=4).map(move |desk| asked(word, desk)))
+        .collect()
 }

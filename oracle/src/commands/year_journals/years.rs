@@ -35,16 +35,32 @@ pub fn worn() -> Vec<u8> {
     parts[3][4 + 40 * 2 + 4 * 9] = 3;
     // Bytes after the last marker are ignored.
     parts[5].extend([0; 5]);
-    for month in [4, 8, 9, 10, 11] {
+    // Words that are no finite numbers: two in September's month file, of which the
+    // first is named; in October's too, whose record's word is named before them.
+    for place in [IN_XPMAP, IN_XERCOF] {
+        set_word(&mut parts[8], place, f32::NAN);
+        set_word(&mut parts[9], place, f32::INFINITY);
+    }
+    set_word(&mut parts[12], 9 * F2_RECORD_BYTES + IN_RECORD, f32::NAN);
+    for month in [4, 10, 11] {
         parts[month].clear();
     }
-    parts[12].truncate(8 * F2_RECORD_BYTES);
+    parts[12].truncate(10 * F2_RECORD_BYTES);
     parts[13].truncate(7 * F2_RECORD_BYTES);
     let mut file = packed(&parts, &NO_GAPS);
     // What these lack stands right after their end.
     shorten(&mut file, 7, 4);
     shorten(&mut file, 14, 1);
     file
+}
+
+/// Words of a month file and of a record.
+const IN_XPMAP: usize = 30_000;
+const IN_XERCOF: usize = 38_544;
+const IN_RECORD: usize = 5_000;
+
+fn set_word(part: &mut [u8], place: usize, word: f32) {
+    part[place..place + 4].copy_from_slice(&word.to_le_bytes());
 }
 
 /// The pair, counted from 1, leaves the last so many bytes of its part to a gap.
@@ -169,8 +185,8 @@ mod tests {
             None,
             Some((9, 38_548)),
             None,
-            Some((8, 0)),
-            Some((8, 0)),
+            Some((23, 30_000)),
+            Some((23, 5_000)),
             Some((8, 0)),
             Some((8, 0)),
         ];

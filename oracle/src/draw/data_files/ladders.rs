@@ -90,6 +90,7 @@ pub fn flat() -> IndexTable {
 }
 
 /// The usual ladders with one term of each map and no harmonic.
+#[cfg(any(linked, test))]
 pub fn single() -> IndexTable {
     flat().map(|mut words| {
         words[8] = 0;

@@ -69,7 +69,7 @@ pub fn check(first: usize, words: &[u32]) -> Result<(), Refusal> {
         let (number, range) = ALL[field - 1];
         if !range.holds(*word) {
             let place = field as u32;
-            return Err(Refusal { number, place });
+            return Err(Refusal::at(number, place));
         }
     }
     Ok(())

@@ -5,7 +5,7 @@ use super::fields::{self, sheet, Inputs, CCIR};
 use super::{at_no_place, Refusal};
 use crate::model::year::{of_model, of_month, places, PARTS};
 use crate::reference::files::{put, put_year, read_of};
-use crate::reference::sheets::{plain, refusal, FIGURES};
+use crate::reference::sheets::{files_check, plain, FIGURES};
 use crate::reference::voacap::coefficients::{CoefficientSet, FoF2Model, F2_RECORD_BYTES};
 use std::cell::RefCell;
 use std::collections::HashMap;
@@ -43,11 +43,11 @@ impl Source {
 
     fn check(&self, (month, model): Choice) -> Result<(), Refusal> {
         match self {
-            Source::Pair { record, month } => of_files(record, month),
+            Source::Pair { record, month } => files_check(record, month),
             Source::Year(Err(refusal)) => Err(*refusal),
             Source::Year(Ok(parts)) => {
                 let record = record_in(&parts[of_model(model)], month)?;
-                of_files(record, &parts[of_month(month)])
+                files_check(record, &parts[of_month(month)])
             }
         }
     }
@@ -69,15 +69,6 @@ fn record_in(part: &[u8], month: u32) -> Result<&[u8], Refusal> {
         return Err(NO_RECORD);
     }
     Ok(&part[end - F2_RECORD_BYTES..end])
-}
-
-/// What is refused of a record and a month file; places count from the start of
-/// each.
-fn of_files(record: &[u8], month: &[u8]) -> Result<(), Refusal> {
-    match refusal(record, month, FIGURES) {
-        (0, 0) => Ok(()),
-        (number, place) => Err(Refusal { number, place }),
-    }
 }
 
 pub struct Lent {

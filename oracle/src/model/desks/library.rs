@@ -26,7 +26,7 @@ impl Told {
     }
 
     pub fn refused(refusal: Refusal) -> Self {
-        let Refusal { number, place } = refusal;
+        let Refusal { number, place, .. } = refusal;
         Self {
             points: 0,
             number,

@@ -32,7 +32,7 @@ pub fn survey_text(year: &[u8]) -> String {
 }
 
 fn refused(refusal: Refusal) -> String {
-    let Refusal { number, place } = refusal;
+    let Refusal { number, place, .. } = refusal;
     format!("refused {number} {place}: {}", reason(refusal))
 }
 

@@ -30,7 +30,7 @@ fn lent() -> Lent {
 }
 
 fn refused<T>(number: u32, place: u32) -> Result<T, Refusal> {
-    Err(Refusal { number, place })
+    Err(Refusal::at(number, place))
 }
 
 fn number(v: f32) -> u32 {
@@ -360,6 +360,36 @@ fn show_refuses_in_this_order() {
     assert_eq!(show(&no_marker), refused(10, 38_548));
     assert_eq!(show(&no_ladder), refused(11, 4));
     assert_eq!(show(&pair.month), Ok(1));
+}
+
+/// A word that is no finite number comes after 10 and before 11, the record's before
+/// the month file's; bytes after the record do not count.
+#[test]
+fn show_refuses_words_that_are_no_finite_numbers() {
+    let [(_, pair), ..] = named();
+    let with = |bytes: &[u8], place: usize| {
+        let mut bytes = bytes.to_vec();
+        bytes[place..place + 4].copy_from_slice(&NAN.to_le_bytes());
+        bytes
+    };
+    let show = |record: &[u8], month: &[u8]| {
+        let lent = Lent::pair(record, month);
+        busy().show(0, 151, &lent).map(|shown| shown.points)
+    };
+    let no_ladder = with(&pair.month, 4 + 3 * 40);
+    let record = with(&pair.daw, 7900);
+    let of_record = refused::<u32>(23, 7900).map_err(|why| why.about_record());
+    let month = with(&no_ladder, 38_544);
+    assert_eq!(show(&record, &month), of_record);
+    assert_eq!(show(&record, &pair.month), of_record);
+    assert_eq!(show(&pair.daw, &month), refused(23, 38_544));
+    assert_eq!(show(&pair.daw, &no_ladder), refused(11, 4));
+    assert_eq!(show(&record, &with(&month, BYTES - 4)), refused(10, 38_548));
+    assert_eq!(show(&record, &month[..BYTES - 1]), refused(9, 38_548));
+    assert_eq!(show(&record[..7903], &month), refused(8, 0));
+    let lent = Lent::pair(&record, &month);
+    assert_eq!(busy().show(0, 150, &lent), refused(12, 0));
+    assert_eq!(show(&with(&pair.daw, 7904), &pair.month), Ok(1));
 }
 
 /// A month and a model that would be good if only a part of the word were read.

@@ -6,7 +6,6 @@ use mathlib.Core.Path.{_≡_, refl, sym}
 use native.Mathlib.Omega.{arith}
 use lib.ListN.{length}
 use Rattle.base.specs.Fill.{fill}
-use Rattle.base.specs.Words.{floatAt}
 use Rattle.base.specs.Blend.{blendAt}
 use Rattle.base.proofs.lists.Fills.{fill-next}
 use Rattle.base.proofs.blend.blend.Statement.{statement}
@@ -23,11 +22,17 @@ unfolding fill
 loop-holds c = (search needs, refl, refl)
 
 loop-again : tie.Need-loop-again Inv-loop μ-loop
-unfolding blendAt floatAt
+unfolding blendAt
 loop-again c =
     let x1 = c .before in
     let x0 = x1 .before in
-    (search needs, search needs, rw (c .blended-words .ensures, x1 .whole-word2 .ensures, x0 .whole-word .ensures, x0 .before .before .loop .inv .2) (sym (fill-next _ _ _ _)))
+    (search needs, search needs, rw (c .blended .ensures, x1 .finite-word2 .ensures, x0 .finite-word .ensures, x0 .before .before .loop .inv .2) (sym (fill-next _ _ _ _)))
+
+finite-word-requires : tie.Need-finite-word-requires Inv-loop μ-loop
+finite-word-requires c κs = (search needs, c .before .before .before .before .pre .4 _ (omega arith))
+
+finite-word-requires-2 : tie.Need-finite-word-requires-2 Inv-loop μ-loop
+finite-word-requires-2 c κs = (search needs, c .before .before .before .before .before .pre .4 _ (omega arith))
 
 returns : tie.Need-returns Inv-loop μ-loop
 returns c = let l = c .before .loop in let e : l .i ≡ c .before .before .before .before .args .width = omega arith in rw e at (l .inv .2)
@@ -41,11 +46,11 @@ blend-spec =
     loop-holds
     (λ c. search needs)
     (λ c. search needs)
-    (λ c κs. search needs)
+    finite-word-requires
     (λ c. search needs)
     (λ c. search needs)
     (λ c. search needs)
-    (λ c κs. search needs)
+    finite-word-requires-2
     (λ c κs. search needs)
     (λ c. search needs)
     (λ c. search needs)

@@ -2,16 +2,47 @@
 -- before ended.
 use borrow.Author.Needs.{needs}
 use native.Mathlib.Omega.{arith}
+use lib.Dec.{lit≤}
+use Rattle.base.specs.Tables.{xfm3cf, xesmcf, xeslcf, xesucf, xercof}
 use Rattle.base.proofs.lists.Maps.{six-maps}
 use Rattle.base.proofs.blend.cofion_of.Statement.{statement}
 use Rattle.base.proofs.blend.cofion_of.Tie as tie
 
+blend-requires : tie.Need-blend-requires
+blend-requires c κs =
+    let p = c .before .before .before .before .before .pre in
+    let l = c .blend-arg .given in
+    (omega arith, omega arith, omega (arith, p .1), omega (arith, l), p .3 .words xeslcf (lit≤ tt) (lit≤ tt))
+
+blend-requires-2 : tie.Need-blend-requires-2
+blend-requires-2 c κs =
+    let p = c .before .before .before .before .before .before .before .pre in
+    let l = c .blend-arg2 .given in
+    (omega arith, omega arith, omega (arith, p .1), omega (arith, l), p .3 .words xesmcf (lit≤ tt) (lit≤ tt))
+
+blend-requires-3 : tie.Need-blend-requires-3
+blend-requires-3 c κs =
+    let p = c .before .before .before .before .before .before .before .before .before .pre in
+    let l = c .blend-arg3 .given in
+    (omega arith, omega arith, omega (arith, p .1), omega (arith, l), p .3 .words xesucf (lit≤ tt) (lit≤ tt))
+
+blend-requires-4 : tie.Need-blend-requires-4
+blend-requires-4 c κs =
+    let p = c .before .before .before .before .before .before .before .before .before .before .before .pre in
+    let l = c .blend-arg4 .given in
+    (omega arith, omega arith, omega (arith, p .0), omega (arith, l), p .2 .words)
+
+blend-requires-5 : tie.Need-blend-requires-5
+blend-requires-5 c κs =
+    let p = c .before .before .before .before .before .before .before .before .before .before .before .before .before .pre in
+    let l = c .blend-arg5 .given in
+    (omega arith, omega arith, omega (arith, p .1), omega (arith, l), p .3 .words xfm3cf (lit≤ tt) (lit≤ tt))
+
 blend-requires-6 : tie.Need-blend-requires-6
 blend-requires-6 c κs =
-    let first = c .before .before .before .before .before .before .before .before .before .before in
-    let month = first .before .before .before .before .before .pre .1 in
+    let p = c .before .before .before .before .before .before .before .before .before .before .before .before .before .before .before .pre in
     let l = c .blend-arg6 .given in
-    (omega arith, omega arith, omega arith, omega arith)
+    (omega arith, omega arith, omega (arith, p .1), omega (arith, l), p .3 .words xercof (lit≤ tt) (lit≤ tt))
 
 returns : tie.Need-returns
 returns c =
@@ -36,10 +67,10 @@ cofion-of-spec =
     (tie.spec
     (λ c κs. search needs)
     (λ c κs. search needs)
-    (λ c κs. search needs)
-    (λ c κs. search needs)
-    (λ c κs. search needs)
-    (λ c κs. search needs)
-    (λ c κs. search needs)
+    blend-requires
+    blend-requires-2
+    blend-requires-3
+    blend-requires-4
+    blend-requires-5
     blend-requires-6
     returns)

@@ -1,14 +1,15 @@
 -- `fakmap` answers `fileCheck`, and fills the array with `fakmapOf` or leaves it, by the verdict.
 use borrow.Author.Needs.{needs}
 use mathlib.Core.Path.{sym, _∙_}
-use Rattle.base.proofs.layout.Readers.{file-length, written, left}
+use Rattle.base.proofs.layout.Readers.{file-length, file-finite, written, left}
 use Rattle.base.proofs.files.fakmap.Statement.{statement}
 use Rattle.base.proofs.files.fakmap.Tie as tie
 
 fakmap-of-requires : tie.Need-fakmap-of-requires
 fakmap-of-requires c κs =
     let e = c .before .before .before .file-check .ensures in
-    file-length _ (sym e ∙ c .before .enum-told .given .1)
+    let good = sym e ∙ c .before .enum-told .given .1 in
+    (file-length _ good, file-finite _ good)
 
 returns : tie.Need-returns
 returns c =

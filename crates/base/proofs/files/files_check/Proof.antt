@@ -1,10 +1,15 @@
--- `files_check` is `filesCheck`, by the record's length: a short record is refused first, and
--- otherwise the answer is the month file's own.
+-- `files_check` is `filesCheck`, by the record's length and the walk's verdict: a short record is
+-- refused first, then what the walk meets; else the words and the index table are judged.
 use borrow.Author.Needs.{needs}
 use borrow.Author.Tests.{lt-leb, le-leb}
-use mathlib.Core.Path.{sym, _∙_}
-use Rattle.base.proofs.verdicts.Picks.{cond-true, cond-false}
+use mathlib.Core.Path.{_≡_, sym, ap, _∙_}
+use native.Mathlib.Omega.{arith}
+use Rattle.base.specs.declared.refusal.Verdict.{Verdict}
+use Rattle.base.specs.Refusal.{_then_}
+use Rattle.base.specs.Finite.{recordsCheck, tablesCheck}
+use Rattle.base.specs.Index.{indexCheck}
 use Rattle.base.specs.Files.{filesCheck}
+use Rattle.base.proofs.verdicts.Picks.{cond-true, cond-false}
 use Rattle.base.proofs.files.files_check.Statement.{statement}
 use Rattle.base.proofs.files.files_check.Tie as tie
 
@@ -12,9 +17,50 @@ returns : tie.Need-returns
 unfolding filesCheck
 returns c = sym (cond-false _ _ (lt-leb _ _ (c .if1 .taken)))
 
+tables-check-requires : tie.Need-tables-check-requires
+tables-check-requires c κs = sym (c .before .before .month-file-check .ensures) ∙ c .enum-told .given .1
+
 returns-2 : tie.Need-returns-2
 unfolding filesCheck
-returns-2 c = c .file-check .ensures ∙ sym (cond-true _ _ (le-leb _ _ (c .before .if1 .left)))
+returns-2 c =
+    let r = c .before in
+    let n = r .before in
+    let x = n .before in
+    let t = x .before in
+    let b = t .before .before .before in
+    let a = b .before .before .before .before .args in
+    let f2 = a .f2 .now in
+    let month = a .month .now in
+    let walked = sym (b .month-file-check .ensures) ∙ t .before .enum-told .given .1 in
+    c .then2 .ensures
+    ∙ (λ i. r .records-check .ensures i then n .then .ensures i)
+    ∙ (λ i. recordsCheck f2 1 then t .tables-check .ensures i then x .index-check .ensures i)
+    ∙ sym (ap (λ (v : Verdict). v then recordsCheck f2 1 then tablesCheck month then indexCheck month) walked)
+    ∙ sym (cond-true _ _ (le-leb _ _ (b .before .if1 .left)))
+
+returns-3 : tie.Need-returns-3
+unfolding filesCheck
+returns-3 c =
+    let b = c .before .before .before in
+    let a = b .before .before .before .before .args in
+    let f2 = a .f2 .now in
+    let month = a .month .now in
+    let walked = sym (b .month-file-check .ensures) ∙ c .before .walked .given .1 in
+    sym (ap (λ (v : Verdict). v then recordsCheck f2 1 then tablesCheck month then indexCheck month) walked)
+    ∙ sym (cond-true _ _ (le-leb _ _ (b .before .if1 .left)))
 
 pub files-check-spec : {M : Type 1} → statement M
-files-check-spec = tie.close (tie.spec returns (λ c κs. search needs) returns-2)
+files-check-spec =
+    tie.close
+    (tie.spec
+    returns
+    (λ c κs. search needs)
+    (λ c. search needs)
+    tables-check-requires
+    (λ c κs. search needs)
+    (λ c κs. search needs)
+    (λ c κs. search needs)
+    (λ c κs. search needs)
+    (λ c. search needs)
+    returns-2
+    returns-3)

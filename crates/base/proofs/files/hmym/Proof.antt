@@ -1,14 +1,15 @@
 -- `hmym` answers `fileCheck`, and fills the array with `hmymOf` or leaves it, by the verdict.
 use borrow.Author.Needs.{needs}
 use mathlib.Core.Path.{sym, _∙_}
-use Rattle.base.proofs.layout.Readers.{file-length, written, left}
+use Rattle.base.proofs.layout.Readers.{file-length, file-finite, written, left}
 use Rattle.base.proofs.files.hmym.Statement.{statement}
 use Rattle.base.proofs.files.hmym.Tie as tie
 
 hmym-of-requires : tie.Need-hmym-of-requires
 hmym-of-requires c κs =
     let e = c .before .before .before .file-check .ensures in
-    file-length _ (sym e ∙ c .before .enum-told .given .1)
+    let good = sym e ∙ c .before .enum-told .given .1 in
+    (file-length _ good, file-finite _ good)
 
 returns : tie.Need-returns
 returns c =

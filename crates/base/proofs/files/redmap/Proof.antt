@@ -3,7 +3,7 @@ use borrow.Author.Needs.{needs}
 use mathlib.Core.Path.{_≡_, sym, _∙_}
 use Rattle.base.specs.declared.refusal.Verdict.the-variants.{Accepted}
 use Rattle.base.specs.Files.{filesCheck}
-use Rattle.base.proofs.layout.Readers.{files-record, files-length, written, left}
+use Rattle.base.proofs.layout.Readers.{files-record, files-length, files-record-finite, files-finite, written, left}
 use Rattle.base.proofs.files.redmap.Statement.{statement}
 use Rattle.base.proofs.files.redmap.Tie as tie
 
@@ -17,13 +17,17 @@ index-of-requires : tie.Need-index-of-requires
 index-of-requires c κs = files-length _ _ (good (c .before))
 
 cofion-of-requires : tie.Need-cofion-of-requires
-cofion-of-requires c κs = let e = good (c .before .before .before) in (files-record _ _ e, files-length _ _ e)
+cofion-of-requires c κs =
+    let e = good (c .before .before .before) in
+    (files-record _ _ e, files-length _ _ e, files-record-finite _ _ e, files-finite _ _ e)
 
 hmym-of-requires : tie.Need-hmym-of-requires
-hmym-of-requires c κs = files-length _ _ (good (c .before .before .before .before .before))
+hmym-of-requires c κs =
+    let e = good (c .before .before .before .before .before) in (files-length _ _ e, files-finite _ _ e)
 
 fakmap-of-requires : tie.Need-fakmap-of-requires
-fakmap-of-requires c κs = files-length _ _ (good (c .before .before .before .before .before .before .before))
+fakmap-of-requires c κs =
+    let e = good (c .before .before .before .before .before .before .before) in (files-length _ _ e, files-finite _ _ e)
 
 returns : tie.Need-returns
 returns c =

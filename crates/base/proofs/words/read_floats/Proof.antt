@@ -22,11 +22,12 @@ unfolding fill
 loop-holds c = (search needs, refl, refl)
 
 loop-again : tie.Need-loop-again Inv-loop μ-loop
-unfolding floatAt
 loop-again c =
-    let w = c .before in
-    let so-far = w .before .before .loop .inv .2 in
-    (search needs, search needs, rw (c .float32 .ensures, w .whole-word .ensures, so-far) (sym (fill-first _ _ _)))
+    let so-far = c .before .before .loop .inv .2 in
+    (search needs, search needs, rw (c .finite-word .ensures, so-far) (sym (fill-first _ _ _)))
+
+finite-word-requires : tie.Need-finite-word-requires Inv-loop μ-loop
+finite-word-requires c κs = (search needs, c .before .before .before .before .pre .1 _ (omega arith))
 
 returns : tie.Need-returns Inv-loop μ-loop
 returns c = filled _ _ (c .before .loop .inv .2) (omega arith)
@@ -40,8 +41,7 @@ read-floats-spec =
     loop-holds
     (λ c. search needs)
     (λ c. search needs)
-    (λ c κs. search needs)
-    (λ c κs. search needs)
+    finite-word-requires
     (λ c. search needs)
     (λ c. search needs)
     (λ c. search needs)

@@ -7,7 +7,7 @@ use Rattle.base.specs.declared.refusal.Verdict.{Verdict}
 use Rattle.base.specs.Refusal.{writtenOver}
 use Rattle.base.specs.Index.{indexOf}
 use Rattle.base.specs.Blend.{cofionOf, hmymOf, fakmapOf}
-use Rattle.base.proofs.layout.Readers.{files-index}
+use Rattle.base.proofs.layout.Readers.{files-index, files-finite}
 use Rattle.maps.specs.declared.figures.Shown.{Shown}
 use Rattle.maps.specs.declared.figures.Shown.the-variants.{Points}
 use Rattle.maps.specs.Figures.{hourFrom, hourOf, figuresTo, sheetPath, figuresOf, pointsOr, shownOf, figuresBuffer}
@@ -21,8 +21,11 @@ fill-in-requires c κs =
     let b = d .before .before in
     let a = b .before .before .before .before .before .before .before .args in
     let file = a .file .now in
-    let e = sym (b .redmap .ensures .0) ∙ d .enum-told .given .1 in
-    (good-same file (files-index (a .f2 .now) file e) (written-is (indexOf file) _ e (b .redmap .ensures .1 .0)), search needs)
+    let e = sym (b .redmap .ensures .0) ∙ d .enum-told .given .1 in (
+      files-finite (a .f2 .now) file e,
+      good-same file (files-index (a .f2 .now) file e) (written-is (indexOf file) _ e (b .redmap .ensures .1 .0)),
+      search needs,
+    )
 
 returns : tie.Need-returns
 unfolding shownOf figuresBuffer figuresOf hourOf

@@ -6,7 +6,7 @@ use Rattle.base.specs.declared.refusal.Verdict.{Verdict}
 use Rattle.base.specs.Refusal.{writtenOver}
 use Rattle.base.specs.Index.{indexOf}
 use Rattle.base.specs.Blend.{cofionOf}
-use Rattle.base.proofs.layout.Readers.{files-file, files-index}
+use Rattle.base.proofs.layout.Readers.{file-indexed, files-file, files-index}
 use Rattle.maps.specs.Virtim.{virtimOf}
 use Rattle.maps.specs.Ionosphere.{hourMapsOf}
 use Rattle.maps.proofs.sheet.Checks.{written-is, good-same}
@@ -20,7 +20,7 @@ virtim-requires c κs =
     let file = a .file .now in
     let e = sym (b .cofion .ensures .0) ∙ c .before .before .enum-told .given .1 in
     good-same file (files-index (a .f2 .now) file e)
-    (written-is (indexOf file) _ (files-file (a .f2 .now) file e) (b .before .before .index2 .ensures .1))
+    (written-is (indexOf file) _ (file-indexed file (files-file (a .f2 .now) file e)) (b .before .before .index2 .ensures .1))
 
 returns : tie.Need-returns
 unfolding hourMapsOf
@@ -30,7 +30,7 @@ returns c =
     let f2 = a .f2 .now in
     let file = a .file .now in
     let e = sym (b .cofion .ensures .0) ∙ c .before .before .before .enum-told .given .1 in
-    let index = written-is (indexOf file) _ (files-file f2 file e) (b .before .before .index2 .ensures .1) in
+    let index = written-is (indexOf file) _ (file-indexed file (files-file f2 file e)) (b .before .before .index2 .ensures .1) in
     let cofion = written-is (cofionOf f2 file (a .ssn)) _ e (b .cofion .ensures .1) in (
       sym e,
       c .virtim .ensures

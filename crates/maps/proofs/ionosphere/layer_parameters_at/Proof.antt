@@ -10,9 +10,15 @@ use Rattle.maps.specs.declared.ionosphere.LayersAt.{LayersAt}
 use Rattle.maps.specs.declared.ionosphere.layers.LayerParams.{LayerParams}
 use Rattle.maps.specs.Layers.{monthlyOf}
 use Rattle.maps.specs.Ionosphere.{layersThere, layersIf, layersAtOf}
-use Rattle.maps.proofs.sheet.Checks.{written-is, good-same, layers-index}
+use Rattle.maps.proofs.sheet.Checks.{written-is, good-same, layers-index, layers-finite}
 use Rattle.maps.proofs.ionosphere.layer_parameters_at.Statement.{statement}
 use Rattle.maps.proofs.ionosphere.layer_parameters_at.Tie as tie
+
+monthly-of-requires : tie.Need-monthly-of-requires
+monthly-of-requires c κs =
+    let b = c .before .before in
+    let a = b .before .before .before .before .args in
+    layers-finite (a .inputs .month) (a .file .now) (sym (b .layer-tables .ensures .0) ∙ c .enum-told .given .1)
 
 layers-there-requires : tie.Need-layers-there-requires
 layers-there-requires c κs =
@@ -56,7 +62,7 @@ layer-parameters-at-spec =
     (tie.spec
     (λ c κs. search needs)
     (λ c. search needs)
-    (λ c κs. search needs)
+    monthly-of-requires
     layers-there-requires
     (λ c. search needs)
     (λ c κs. search needs)

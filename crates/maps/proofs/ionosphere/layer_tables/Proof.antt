@@ -14,14 +14,14 @@ use Rattle.maps.proofs.ionosphere.layer_tables.Tie as tie
 returns : tie.Need-returns
 unfolding layersCheck
 returns c =
-    let b = c .before .before .before .before .before .before in
+    let b = c .before .before .before .before .before in
     let a = b .before .before .args in
     let file = a .file .now in
-    let told = sym (b .month-check .ensures) ∙ c .before .before .before .before .enum-told .given .1 in
+    let told = sym (b .month-check .ensures) ∙ c .before .before .before .enum-told .given .1 in
     let e = sym (ap (λ (v : Verdict). v then fileCheck file) told) in
-    let index = c .before .before .index .ensures .1 in
-    let hmym = c .hmym .ensures .1 in (
-      c .hmym .ensures .0 ∙ e,
+    let index = c .month-tables .ensures .1 .0 in
+    let hmym = c .month-tables .ensures .1 .1 in (
+      c .month-tables .ensures .0 ∙ e,
       (
         index ∙ ap (λ (v : Verdict). writtenOver v (indexOf file) (a .index .now)) e,
         hmym ∙ ap (λ (v : Verdict). writtenOver v (hmymOf file (a .ssn)) (a .hmym .now)) e,
@@ -49,7 +49,6 @@ layer-tables-spec =
     (tie.spec
     (λ c κs. search needs)
     (λ c. search needs)
-    (λ c κs. search needs)
     (λ c κs. search needs)
     (λ c. search needs)
     returns

@@ -2,8 +2,9 @@ use super::{
     inputs, replay, replay_text, replay_year, sheet, sheet_inputs, sheet_text, words, CALLS, HEAD,
     LONGEST_YEAR, MONTH, YEAR, YEAR_HEAD,
 };
-use crate::draw::data_files::{extreme, named, Pair};
+use crate::draw::data_files::{named, Pair};
 use crate::draw::generator::Generator;
+use crate::draw::journal_kinds::with_a_nan;
 use crate::draw::sheet_kinds::{in_range, inputs as inputs_of_a_sheet};
 use crate::draw::year_files::{first_months, packed, NO_GAPS};
 use crate::model::desks::fields::{moved_to, FIELDS, URSI};
@@ -90,8 +91,9 @@ fn a_sheet_has_no_model() {
 
 #[test]
 fn every_nan_is_printed_alike() {
-    let [.., (_, pair), _] = extreme();
-    let text = printed(&start(&pair));
+    let mut input = start(&with_a_nan(&pair()));
+    input[4..8].copy_from_slice(&70f32.to_le_bytes());
+    let text = printed(&input);
     assert!(text.lines().any(|line| line == "7fc00000"));
     let nan =
         |line: &str| u32::from_str_radix(line, 16).is_ok_and(|word| f32::from_bits(word).is_nan());

@@ -5,7 +5,7 @@ use crate::draw::generator::Generator;
 use crate::draw::year_files::{calm_year, packed, Parts, NO_GAPS};
 use crate::model::desks::fields::{moved_to, sheet, CCIR, URSI};
 use crate::model::desks::lent::Lent;
-use crate::model::desks::{Call, Draft, Worksheet};
+use crate::model::desks::{Call, Draft, Refusal, Worksheet};
 use crate::month_file::BYTES;
 use crate::reference::files::{put_year, read_of};
 use crate::reference::sheets::{put_all_months, showing};
@@ -82,6 +82,12 @@ fn show_refuses_in_this_order() {
     let mut parts = parts();
     parts[5][4 + 40] = 76;
     let odd_map = lent(&parts);
+    let bad_word = NAN.to_le_bytes();
+    parts[5][30_000..30_004].copy_from_slice(&bad_word);
+    let bad_month = lent(&parts);
+    // Places in the record count from its own start.
+    parts[12][5 * 7904 + 8..][..4].copy_from_slice(&bad_word);
+    let bad_record = lent(&parts);
     parts[5][BYTES - 4] ^= 1;
     let no_marker = lent(&parts);
     parts[5].truncate(BYTES - 4);
@@ -106,6 +112,9 @@ fn show_refuses_in_this_order() {
     assert_eq!(busy().show(0, 151, &short), refused(8, 0));
     assert_eq!(busy().show(0, 151, &cut), refused(9, 38_548));
     assert_eq!(busy().show(0, 151, &no_marker), refused(10, 38_548));
+    let of_record = Refusal::at(23, 8).about_record();
+    assert_eq!(busy().show(0, 151, &bad_record), Err(of_record));
+    assert_eq!(busy().show(0, 151, &bad_month), refused(23, 30_000));
     assert_eq!(busy().show(0, 151, &odd_map), refused(11, 2));
 }
 

@@ -162,7 +162,7 @@ pub fn answer_text(heard: &Heard) -> String {
 }
 
 fn refused_text(line: usize, refusal: Refusal) -> String {
-    let Refusal { number, place } = refusal;
+    let Refusal { number, place, .. } = refusal;
     let reason = unsaid::reason(refusal);
     format!("line {line}: refused {number} {place}: {reason}\n")
 }

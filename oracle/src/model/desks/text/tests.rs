@@ -225,6 +225,27 @@ fn a_pair_of_files_does_too() {
     assert_eq!(text, wanted);
 }
 
+/// At one place of either file.
+#[test]
+fn a_word_that_is_no_finite_number_is_said_of_its_file() {
+    let [(_, pair), ..] = named();
+    let with = |bytes: &[u8]| {
+        let mut bytes = bytes.to_vec();
+        bytes[400..404].copy_from_slice(&f32::INFINITY.to_le_bytes());
+        bytes
+    };
+    let said = |record: &[u8], month: &[u8]| {
+        let lent = Lent::pair(record, month);
+        run_text([OPEN, "show\n"].concat().as_bytes(), &lent)
+    };
+    let (record, month) = (with(&pair.daw), with(&pair.month));
+    let of_record = "line 2: refused 23 400: the F2 record has no finite number at this byte\n";
+    let of_month = "line 2: refused 23 400: the month file has no finite number at this byte\n";
+    assert!(said(&record, &month).ends_with(of_record));
+    assert!(said(&record, &pair.month).ends_with(of_record));
+    assert!(said(&pair.daw, &month).ends_with(of_month));
+}
+
 /// All refusals that a journal can reach, all kinds of calls, and every end.
 #[test]
 fn random_journals_have_everything() {

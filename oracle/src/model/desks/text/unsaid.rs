@@ -42,7 +42,7 @@ pub const POINTS: &str = "point";
 /// Why a line of 65,536 bytes or more, its newline not counted, is no call.
 pub const TOO_LONG: &str = "a line has fewer than 65536 bytes";
 
-/// The reason of a refusal. Those of 8 to 11, 17 and 19 are known from
+/// The reason of a refusal. Those of 8 to 11, 17, 19 and 23 are known from
 /// docs/PROGRAMS.md and `year check`, the others are the first words of
 /// docs/REFUSALS.md.
 pub fn reason(refusal: Refusal) -> &'static str {
@@ -62,6 +62,8 @@ pub fn reason(refusal: Refusal) -> &'static str {
         (9, _) => "the month file ends too early",
         (10, _) => "the month file has a wrong marker at this byte",
         (11, _) => "the month file has a bad index table for this map",
+        (23, _) if refusal.of_record => "the F2 record has no finite number at this byte",
+        (23, _) => "the month file has no finite number at this byte",
         (14, _) => "there is no such desk",
         (15, _) => "the desk has a draft already",
         (16, _) => "the desk has no draft",
