@@ -40,7 +40,8 @@ enum {
 };
 
 /* The numbers of refusals; docs/REFUSALS.md says why each is given and what its place is. 7 is given
- * for a flag (place 8) and for a model (place 15) that is neither 0 nor 1. */
+ * for a flag (place 8) and for a model (place 15) that is neither 0 nor 1; 23 for a word of the F2
+ * record or of the month file's tables that is no finite number, the record being looked at first. */
 enum {
     JT_REFUSED_MONTH = 1,
     JT_REFUSED_SUNSPOT = 2,
@@ -60,7 +61,8 @@ enum {
     JT_REFUSED_NO_DRAFT = 16,
     JT_REFUSED_STALE = 17,
     JT_REFUSED_NOTHING_EARLIER = 18,
-    JT_REFUSED_YEAR = 19
+    JT_REFUSED_YEAR = 19,
+    JT_REFUSED_WORD = 23
 };
 
 /* A refusal's number and place; 0 and 0 where nothing is refused. */

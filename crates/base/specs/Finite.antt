@@ -22,8 +22,8 @@ wordsCheck why s at zero = Accepted
 wordsCheck why s at (suc n) = cond (finite (floatAt s at)) (wordsCheck why s (at + 4) n) (Refused (why at))
 
 -- 'every f32 word of the record': of so many records, one after the other
-unfoldable pub recordsCheck : List ℕ → ℕ → Verdict
-recordsCheck daw months = wordsCheck RecordWord daw (startOf xf2cof) (months * wordsOf xf2cof)
+unfoldable pub recordWordsCheck : List ℕ → ℕ → Verdict
+recordWordsCheck daw months = wordsCheck RecordWord daw (startOf xf2cof) (months * wordsOf xf2cof)
 
 -- the tables of the month file that are of f32: all but the first, `ikim`, whose words are whole
 -- numbers
@@ -35,8 +35,8 @@ eachCheck month [] = Accepted
 eachCheck month (t ∷ ts) = wordsCheck MonthWord month (t .from) (wordsIn t) then eachCheck month ts
 
 -- 'and of the month file's tables, used or not': table after table, so that no marker counts
-unfoldable pub tablesCheck : List ℕ → Verdict
-tablesCheck month = eachCheck month floatTables
+unfoldable pub tableWordsCheck : List ℕ → Verdict
+tableWordsCheck month = eachCheck month floatTables
 
 -- ---- what an accepted check says (`record-finite`, `tables-finite`)
 

@@ -6,8 +6,8 @@ use crate::blend::SixMaps;
 use crate::blend::cofion_of;
 use crate::blend::fakmap_of;
 use crate::blend::hmym_of;
-use crate::finite::records_check;
-use crate::finite::tables_check;
+use crate::finite::record_words_check;
+use crate::finite::table_words_check;
 use crate::index::IndexTable;
 use crate::index::index_check;
 use crate::index::index_of;
@@ -30,7 +30,7 @@ pub fn file_check(month: &[u8]) -> Verdict
 {
     let walked = month_file_check(month);
     match walked {
-        Verdict::Accepted => then(tables_check(month), index_check(month)),
+        Verdict::Accepted => then(table_words_check(month), index_check(month)),
         Verdict::Refused(why) => Verdict::Refused(why),
     }
 }
@@ -46,8 +46,8 @@ pub fn files_check(f2: &[u8], month: &[u8]) -> Verdict
     let walked = month_file_check(month);
     match walked {
         Verdict::Accepted => {
-            let of_month = then(tables_check(month), index_check(month));
-            then(records_check(f2, 1), of_month)
+            let of_month = then(table_words_check(month), index_check(month));
+            then(record_words_check(f2, 1), of_month)
         }
         Verdict::Refused(why) => Verdict::Refused(why),
     }
@@ -60,7 +60,7 @@ pub fn daw_check(daw: &[u8]) -> Verdict
 {
     let whole = month_record_check(daw, 12);
     match whole {
-        Verdict::Accepted => records_check(daw, 12),
+        Verdict::Accepted => record_words_check(daw, 12),
         Verdict::Refused(why) => Verdict::Refused(why),
     }
 }

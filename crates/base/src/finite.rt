@@ -15,7 +15,7 @@ ghost use lib.Ieee.Scale.{finite};
 ghost use Rattle.base.specs.declared.refusal.Verdict.the-variants.{Accepted};
 ghost use Rattle.base.specs.Words.{floatAt};
 ghost use Rattle.base.specs.MonthFile.{recordSize, monthFileCheck};
-ghost use Rattle.base.specs.Finite.{allFinite, firstOther, recordsCheck, tablesCheck};
+ghost use Rattle.base.specs.Finite.{allFinite, firstOther, recordWordsCheck, tableWordsCheck};
 
 // Whether all n words from `at` on are finite.
 fn are_finite(s: &[u8], at: usize, n: usize) -> bool
@@ -64,18 +64,18 @@ fn first_other(s: &[u8], at: usize, n: usize) -> usize
 }
 
 // 23 with the first word of so many F2 records, which are there, that is no finite number.
-pub(crate) fn records_check(daw: &[u8], months: usize) -> Verdict
+pub(crate) fn record_words_check(daw: &[u8], months: usize) -> Verdict
     requires { ⌜ (months ≤ 12) × (months * recordSize ≤ length (now daw)) ⌝ }
-    ensures { λ r. ⌜ r ≡ recordsCheck (now (daw .entry)) months ⌝ }
+    ensures { λ r. ⌜ r ≡ recordWordsCheck (now (daw .entry)) months ⌝ }
 {
     let at = first_other(daw, 0, months * (RECORD / 4));
     refuse_unless(at == months * RECORD, Refusal::RecordWord(at as u32))
 }
 
 // 23 with the first word of the month file's tables, `ikim` left out, that is no finite number.
-pub(crate) fn tables_check(month: &[u8]) -> Verdict
+pub(crate) fn table_words_check(month: &[u8]) -> Verdict
     requires { ⌜ monthFileCheck (now month) ≡ Accepted ⌝ }
-    ensures { λ r. ⌜ r ≡ tablesCheck (now (month .entry)) ⌝ }
+    ensures { λ r. ⌜ r ≡ tableWordsCheck (now (month .entry)) ⌝ }
 {
     // The markers between the tables are looked at too: the walk has found them right, and each is a
     // finite number by its pattern.

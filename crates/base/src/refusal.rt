@@ -18,7 +18,7 @@ pub enum Refusal {
     Ended(u32),
     // The marker at this place of the month file is wrong.
     Marker(u32),
-    // The word at this place of the F2 record is no finite number.
+    // The word at this place of the F2 record, or of the file of such records, is no finite number.
     RecordWord(u32),
     // The word at this place of a table of the month file is no finite number.
     MonthWord(u32),

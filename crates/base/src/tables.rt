@@ -1,4 +1,5 @@
 // The tables of a month by number: which are there, and their bytes as parts of the files lent.
+use crate::month_file::MONTH_FILE;
 use crate::month_file::RECORD;
 use crate::month_file::month_file_check;
 use crate::refusal::Refusal;
@@ -14,7 +15,7 @@ pub struct Place {
     pub size: usize,
 }
 
-// Where the tables that are read by name start in the month file.
+// Where the tables that the code names start in the month file.
 pub const IKIM: usize = 4;
 
 pub const FAKP: usize = 252;
@@ -43,8 +44,8 @@ pub const XESUCF: usize = 34756;
 
 pub const XERCOF: usize = 36964;
 
-// Where the last of them ends.
-pub const TABLES_END: usize = XERCOF + 1584;
+// Where the last table ends: before the last marker.
+pub const TABLES_END: usize = MONTH_FILE - 4;
 
 // Start and size of the F2 planes, then of `ikim` to `xercof`.
 const PLACES: [[usize; 2]; 21] = [

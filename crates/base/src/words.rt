@@ -78,8 +78,8 @@ pub fn integer(s: &[u8], at: usize) -> i32
     number::signed(word(s, at))
 }
 
-// The word at `at` as an `f32`; a NaN's pattern gives a NaN, and a byte that is not there counts as
-// 0.
+// The word at `at` as an `f32`, of words that are no table's: a NaN's pattern gives a NaN, and a byte
+// that is not there counts as 0.
 pub fn float(s: &[u8], at: usize) -> f32
     ensures { λ r. ⌜ r ≡ floatAt (now (s .entry)) at ⌝ }
 {

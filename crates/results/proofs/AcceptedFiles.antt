@@ -3,7 +3,7 @@ use mathlib.Core.Path.{_∙_}
 use native.Mathlib.Omega.{arith}
 use Rattle.base.proofs.ladder.Indexing
 use Rattle.base.proofs.layout.Parts
-use Rattle.results.specs.AcceptedFiles.{MonthFileGood, EndedRefused, MarkerRefused, FileAnswers, RecordWordsGood, MonthWordsGood, RecordWordRefused, MonthWordRefused, FilesGood, IndexGood, IndexRefused, VirtimInside, VersyInside, MonthFileAccepted, IndexAccepted, FilesAccepted, FileOfBytes, SheetShown, SheetWritten, TablesPacked, TwentyTables, PlanesFill, TableInside, MonthInside, ZeroThere, ThereZero, MonthAccepted, MonthZero, TableCheckLater, TableBytesLater, MonthCheckLater, MonthBytesLater, CutAnywhere, TablePartLater, MonthPartLater}
+use Rattle.results.specs.AcceptedFiles.{MonthFileGood, EndedRefused, MarkerRefused, FileAnswers, RecordWordsGood, MonthWordsGood, RecordWordRefused, MonthWordRefused, FileWordRefused, IndexRefusedLast, FilesGood, IndexGood, IndexRefused, VirtimInside, VersyInside, MonthFileAccepted, IndexAccepted, FilesAccepted, FileOfBytes, SheetShown, SheetWritten, TablesPacked, TwentyTables, PlanesFill, TableInside, MonthInside, ZeroThere, ThereZero, MonthAccepted, MonthZero, TableCheckLater, TableBytesLater, MonthCheckLater, MonthBytesLater, CutAnywhere, TablePartLater, MonthPartLater}
 use Rattle.results.proofs.files.Marks
 use Rattle.results.proofs.files.WalkAnswers
 use Rattle.results.proofs.files.IndexAnswers
@@ -44,6 +44,12 @@ record-word-refused = FirstOthers.record-word-refused WalkAnswers.file-answers
 
 pub month-word-refused : MonthWordRefused
 month-word-refused = FirstOthers.month-word-refused WalkAnswers.file-answers
+
+pub file-word-refused : FileWordRefused
+file-word-refused = FirstOthers.file-word-refused WalkAnswers.file-answers
+
+pub index-refused-last : IndexRefusedLast
+index-refused-last = FirstOthers.index-refused-last WalkAnswers.file-answers
 
 pub files-good : FilesGood
 files-good = FirstOthers.files-good

@@ -18,8 +18,8 @@ use Rattle.base.specs.MonthFile.{recordSize, monthFileSize, monthRecordCheck, m
 use Rattle.base.specs.Tables.{tablesByRecord, tables, startOf, wordsOf, xf2cof, PackedRecords, partOf, tableCheck, tablePart, tableFile}
 use Rattle.base.specs.Index.{indexOf, mapWord, rows, harmonics, indexCheck, GoodIndex, Reaches}
 use Rattle.base.specs.Blend.{IA, IB, IC}
-use Rattle.base.specs.Finite.{recordsCheck, tablesCheck, FiniteRecord, FiniteMonth}
-use Rattle.base.specs.Files.{filesCheck}
+use Rattle.base.specs.Finite.{recordWordsCheck, tableWordsCheck, FiniteRecord, FiniteMonth}
+use Rattle.base.specs.Files.{fileCheck, filesCheck}
 use Rattle.maps.specs.declared.inputs.Inputs.{Inputs}
 use Rattle.maps.specs.declared.figures.Shown.the-variants.{Points}
 use Rattle.maps.specs.Figures.{sheetPath, figuresOf, shownOf, figuresBuffer}
@@ -154,13 +154,13 @@ VersyInside =
 -- The check of a record's words accepts exactly where each of its 1,976 words is a finite number,
 abbrev pub RecordWordsGood : Type 0
 RecordWordsGood =
-    (f2 : List ℕ) → (recordsCheck f2 1 ≡ Accepted → FiniteRecord f2) × (FiniteRecord f2 → recordsCheck f2 1 ≡ Accepted)
+    (f2 : List ℕ) → (recordWordsCheck f2 1 ≡ Accepted → FiniteRecord f2) × (FiniteRecord f2 → recordWordsCheck f2 1 ≡ Accepted)
 
 -- and that of a month file's words exactly where each word of its tables but `ikim` is.
 abbrev pub MonthWordsGood : Type 0
 MonthWordsGood =
     (month : List ℕ) →
-    (tablesCheck month ≡ Accepted → FiniteMonth month) × (FiniteMonth month → tablesCheck month ≡ Accepted)
+    (tableWordsCheck month ≡ Accepted → FiniteMonth month) × (FiniteMonth month → tableWordsCheck month ≡ Accepted)
 
 -- the first word of the record that is no finite number is at the byte p
 pub record FirstInRecord (f2 : List ℕ) (p : ℕ) : Type 0 where
@@ -212,6 +212,34 @@ MonthWordRefused =
     (f2 month : List ℕ) (p : ℕ) →
     (filesCheck f2 month ≡ Refused (MonthWord p) → MonthRefused f2 month p)
     × (MonthRefused f2 month p → filesCheck f2 month ≡ Refused (MonthWord p))
+
+-- the month file passes its walk, and p is its first such byte
+pub record FileRefused (month : List ℕ) (p : ℕ) : Type 0 where
+  pub walked : monthFileCheck month ≡ Accepted
+  pub first : FirstInMonth month p
+
+-- Of a month file by itself 23 is given exactly there.
+abbrev pub FileWordRefused : Type 0
+FileWordRefused =
+    (month : List ℕ) (p : ℕ) →
+    (fileCheck month ≡ Refused (MonthWord p) → FileRefused month p)
+    × (FileRefused month p → fileCheck month ≡ Refused (MonthWord p))
+
+-- the record is whole, the month file passes its walk, all words are finite, and the lowest bad map of
+-- the index table is `place`
+pub record IndexLast (f2 month : List ℕ) (place : ℕ) : Type 0 where
+  pub whole : recordSize ≤ length f2
+  pub walked : monthFileCheck month ≡ Accepted
+  pub record-finite : FiniteRecord f2
+  pub month-finite : FiniteMonth month
+  pub lowest : LowestBad month place
+
+-- 11 of both files is given exactly where all that is judged before it passes.
+abbrev pub IndexRefusedLast : Type 0
+IndexRefusedLast =
+    (f2 month : List ℕ) (place : ℕ) →
+    (filesCheck f2 month ≡ Refused (Index place) → IndexLast f2 month place)
+    × (IndexLast f2 month place → filesCheck f2 month ≡ Refused (Index place))
 
 -- the record is whole, the month file passes its walk, all words are finite and the index table is
 -- good

@@ -435,7 +435,7 @@ ShownFinite =
     step source (show n lent) w .answer ≡ shown (Points count) figures →
     let i = inputsShown n w in FiniteFiles (source i .f2) (source i .file)
 
--- of what a sheet takes of a month file beside the maps: the land map's 464 numbers and the four of
+-- of what a sheet takes of a month file and does not blend: the land map's 464 numbers and the four of
 -- `abmap` are finite, and the sums that `zenmax` and foF1 are made of are no NaN
 pub record MonthNumbers (file : List ℕ) (m : Monthly) : Type 0 where
   pub land-map : (k : ℕ) → k < 464 → T (finite (getD (fakmapOf file) k nan))
@@ -449,12 +449,12 @@ pub record MonthNumbers (file : List ℕ) (m : Monthly) : Type 0 where
   pub new1 : T (not (isNan (m .new1)))
   pub new2 : T (not (isNan (m .new2)))
 
--- So there no NaN is left of files that are accepted, with a sunspot number in range; the five sums
--- may be infinite, by overflow.
+-- So there no NaN is left of a month file whose words are finite, as those of every accepted one are,
+-- with a sunspot number in range. Whether the five sums are finite is not said.
 abbrev pub MonthNumbersSound : Type 0
 MonthNumbersSound =
-    (f2 file : List ℕ) (month : ℕ) (ssn : Float) → filesCheck f2 file ≡ Accepted →
-    T (isTo (decimal 0 1) (decimal 300 0) ssn) → MonthNumbers file (monthlyOf file month ssn)
+    (file : List ℕ) (month : ℕ) (ssn : Float) → FiniteMonth file → T (isTo (decimal 0 1) (decimal 300 0) ssn) →
+    MonthNumbers file (monthlyOf file month ssn)
 
 -- A blended coefficient can still be NaN: of the largest finite number in both planes of the F2 map,
 -- at sunspot number 300, the two products overflow to infinities of both signs.
@@ -468,4 +468,5 @@ BlendOverflows =
 -- frequency above 56 MHz; what `hpf2` (but at 0), yi[1], yi[2], hi[1] and hi[2] are for an f2m3
 -- nearer to 0 than 2 ^ -60, what the last four are for an fi[1] above 0 and below 2 ^ -40, and the
 -- best bounds. No ordinary point is exhibited by proof: in the files of `sound-sheets` the numbers
--- that figures read, all but the index table, are zero.
+-- that figures read, all but the index table, are zero. No accepted showing with a figure that is NaN
+-- is exhibited either: that there are some is run (docs/DIFFERENCES.md).

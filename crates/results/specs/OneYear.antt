@@ -18,7 +18,7 @@ use Rattle.base.specs.declared.refusal.Verdict.{Verdict}
 use Rattle.base.specs.declared.refusal.Verdict.the-variants.{Accepted, Refused}
 use Rattle.base.specs.Refusal.{refuseUnless, _then_}
 use Rattle.base.specs.Ranges.{isMonth, isBit}
-use Rattle.base.specs.Finite.{recordsCheck, tablesCheck, FiniteRecord}
+use Rattle.base.specs.Finite.{recordWordsCheck, tableWordsCheck, FiniteRecord}
 use Rattle.base.specs.Index.{indexCheck}
 use Rattle.base.specs.Files.{fileCheck}
 use Rattle.base.specs.MonthFile.{recordSize, monthStart, monthFileCheck}
@@ -126,10 +126,10 @@ abbrev pub recordAt : List ℕ → ℕ → ℕ → List ℕ
 recordAt s month model = take recordSize (drop (monthStart month) (partAt s (12 + model)))
 
 -- what is refused of the two, 'after 10 and before 11' by the words of the record and then of the part
-abbrev pub partsCheck : List ℕ → ℕ → ℕ → Verdict
-partsCheck s month model =
+abbrev pub pickedCheck : List ℕ → ℕ → ℕ → Verdict
+pickedCheck s month model =
     let part = partAt s (month - 1) in
-    monthFileCheck part then recordsCheck (recordAt s month model) 1 then tablesCheck part then indexCheck part
+    monthFileCheck part then recordWordsCheck (recordAt s month model) 1 then tableWordsCheck part then indexCheck part
 
 -- Of a month from 1 to 12 and a model of 0 or 1 a year file refuses exactly this: by 19 where its
 -- directory is refused, else by 8 where the model's own part has under month × 7,904 bytes, else by
@@ -139,7 +139,7 @@ abbrev pub YearFilesExactly : Type 0
 YearFilesExactly =
     (s : List ℕ) (month model : ℕ) → T (isMonth month) → T (isBit model) →
     yearFilesCheck s month model
-    ≡ (yearCheck s then recordCheck s month model then partsCheck s month model)
+    ≡ (yearCheck s then recordCheck s month model then pickedCheck s month model)
 
 -- A showing over a year file, of the worksheet or of a desk, on any worksheet, refuses exactly this,
 -- of which the first decides: 14 and 16, the 15 fields of the inputs shown, 12, 19, then 8 by the
@@ -157,7 +157,7 @@ YearShowingExactly =
     then bufferCheck size
     then yearCheck s
     then recordCheck s (i .month) (i .model)
-    then partsCheck s (i .month) (i .model))
+    then pickedCheck s (i .month) (i .model))
 
 -- ---- request 01: 'Showing picks its parts by these two'
 

@@ -83,8 +83,8 @@ fn rows(fd: i32, record: [u8; RECORD], month: [u8; MONTH_FILE]) -> Tally {
     let mut k: u32 = 0;
     while k < 1478 {
         let mut row = [0u8; 56];
-        io::read_full(fd, &mut row);
-        t = counted(t, is_answered(&row, record, month));
+        let n = io::read_full(fd, &mut row);
+        t = counted(t, n == 56 && is_answered(&row, record, month));
         k += 1;
     }
     t
@@ -106,7 +106,10 @@ pub fn replay() {
         if daw >= 0 {
             if file >= 0 {
                 replay_rows(fd, daw, file);
+                libc::close(file);
             }
+            libc::close(daw);
         }
+        libc::close(fd);
     }
 }

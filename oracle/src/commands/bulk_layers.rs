@@ -106,7 +106,7 @@ impl Case<'_> {
         match file_check(&self.files.file) {
             Ok(()) => self.layers(random, layers),
             Err(why) => {
-                // Its 23 follows 11: no record is looked at.
+                // No record is looked at: 23 is the month file's.
                 let tally = &mut layers[kind_of(&why).min(5)];
                 self.refused_layers(random, tally, why.into());
             }

@@ -26,7 +26,7 @@ use Rattle.base.specs.declared.words.TableWord.the-variants.{Finite, Not
 use Rattle.base.specs.Words.{wordAt, floatAt, tableWordAt, FiniteRun}
 use Rattle.base.specs.MonthFile.{sizes, monthFileCheck, Marked}
 use Rattle.base.specs.Tables.{Table, wordsIn, noSuchTable, tableEnd, startOf, wordsOf, xf2cof}
-use Rattle.base.specs.Finite.{wordsCheck, recordsCheck, floatTables, eachCheck, tablesCheck, FiniteRecord, FiniteMonth, firstOther, allFinite}
+use Rattle.base.specs.Finite.{wordsCheck, recordWordsCheck, floatTables, eachCheck, tableWordsCheck, FiniteRecord, FiniteMonth, firstOther, allFinite}
 use Rattle.base.proofs.verdicts.Picks.{never}
 use Rattle.base.proofs.verdicts.Refusals.{refused-not-accepted, then-both}
 use Rattle.base.proofs.rounding.Exponents.{finite-sum, gathered}
@@ -390,8 +390,8 @@ module _ (s : List ℕ) where
         ),
       )
 
-  pub walked-words : monthFileCheck s ≡ Accepted → check 252 9574 ≡ tablesCheck s
-  unfolding tablesCheck
+  pub walked-words : monthFileCheck s ≡ Accepted → check 252 9574 ≡ tableWordsCheck s
+  unfolding tableWordsCheck
   walked-words e = joined 252 9574 floatTables (spread (accepted-marks s e))
 
   -- ---- table by table
@@ -415,8 +415,8 @@ module _ (s : List ℕ) where
       ∙ finite-each ts (λ k h. r (suc k) (omega arith))
 
   -- accepted exactly where every word of the tables 2 to 20 is finite
-  pub tables-finite : tablesCheck s ≡ Accepted → FiniteMonth s
-  unfolding tablesCheck
+  pub tables-finite : tableWordsCheck s ≡ Accepted → FiniteMonth s
+  unfolding tableWordsCheck
   tables-finite e = record { words = by-number }
     where
       by-number : (number : ℕ) → 2 ≤ number → number ≤ 20 → FiniteRun s (startOf number) (wordsOf number)
@@ -424,15 +424,15 @@ module _ (s : List ℕ) where
       by-number (suc zero) l h = absurd (omega arith)
       by-number (suc (suc k)) l h = each-finite floatTables e k (omega arith)
 
-  pub finite-tables : FiniteMonth s → tablesCheck s ≡ Accepted
-  unfolding tablesCheck
+  pub finite-tables : FiniteMonth s → tableWordsCheck s ≡ Accepted
+  unfolding tableWordsCheck
   finite-tables f = finite-each floatTables (λ k h. f .words (suc (suc k)) (omega arith) (omega arith))
 
   -- and every word of the record
-  pub record-finite : recordsCheck s 1 ≡ Accepted → FiniteRecord s
-  unfolding recordsCheck
+  pub record-finite : recordWordsCheck s 1 ≡ Accepted → FiniteRecord s
+  unfolding recordWordsCheck
   record-finite e = record { words = run-finite RecordWord (startOf xf2cof) (wordsOf xf2cof) e }
 
-  pub finite-record : FiniteRecord s → recordsCheck s 1 ≡ Accepted
-  unfolding recordsCheck
+  pub finite-record : FiniteRecord s → recordWordsCheck s 1 ≡ Accepted
+  unfolding recordWordsCheck
   finite-record f = finite-run RecordWord (startOf xf2cof) (wordsOf xf2cof) (f .words)

@@ -14,7 +14,7 @@ use Rattle.base.specs.declared.refusal.Verdict.the-variants.{Accepted, R
 use Rattle.base.specs.Refusal.{_then_, writtenOver}
 use Rattle.base.specs.MonthFile.{recordSize, monthFileSize, monthFileCheck}
 use Rattle.base.specs.Index.{indexCheck}
-use Rattle.base.specs.Finite.{recordsCheck, tablesCheck, FiniteRecord, FiniteMonth}
+use Rattle.base.specs.Finite.{recordWordsCheck, tableWordsCheck, FiniteRecord, FiniteMonth}
 use Rattle.base.specs.Files.{indexFileCheck, fileCheck, filesCheck}
 use Rattle.base.proofs.verdicts.Refusals.{refused-not-accepted, then-both}
 use Rattle.base.proofs.layout.Walks.{accepted-length}
@@ -35,14 +35,14 @@ module _ (month : List ℕ) (e : indexFileCheck month ≡ Accepted) where
 -- the checks of a month file, one after the other
 record FileParts (month : List ℕ) : Type 0 where
   walk : monthFileCheck month ≡ Accepted
-  words : tablesCheck month ≡ Accepted
+  words : tableWordsCheck month ≡ Accepted
   index : indexCheck month ≡ Accepted
 
 file-parts : (month : List ℕ) → fileCheck month ≡ Accepted → FileParts month
 unfolding fileCheck
 file-parts month e =
-    let w = then-both (monthFileCheck month) (tablesCheck month then indexCheck month) e in
-    let t = then-both (tablesCheck month) (indexCheck month) (w .1) in
+    let w = then-both (monthFileCheck month) (tableWordsCheck month then indexCheck month) e in
+    let t = then-both (tableWordsCheck month) (indexCheck month) (w .1) in
     record { walk = w .0; words = t .0; index = t .1 }
 
 parts-file : (month : List ℕ) → FileParts month → fileCheck month ≡ Accepted
@@ -65,14 +65,14 @@ module _ (month : List ℕ) (e : fileCheck month ≡ Accepted) where
 
 module _ (f2 month : List ℕ) (e : filesCheck f2 month ≡ Accepted) where
   abbrev rest : Verdict
-  rest = recordsCheck f2 1 then tablesCheck month then indexCheck month
+  rest = recordWordsCheck f2 1 then tableWordsCheck month then indexCheck month
 
   both : (leb recordSize (length f2) ≡ true) × ((monthFileCheck month then rest) ≡ Accepted)
   unfolding filesCheck
   both = unless (leb recordSize (length f2)) (monthFileCheck month then rest) Record e
 
-  words : (recordsCheck f2 1 ≡ Accepted) × ((tablesCheck month then indexCheck month) ≡ Accepted)
-  words = then-both (recordsCheck f2 1) (tablesCheck month then indexCheck month) (then-both (monthFileCheck month) rest (both .1) .1)
+  words : (recordWordsCheck f2 1 ≡ Accepted) × ((tableWordsCheck month then indexCheck month) ≡ Accepted)
+  words = then-both (recordWordsCheck f2 1) (tableWordsCheck month then indexCheck month) (then-both (monthFileCheck month) rest (both .1) .1)
 
   pub files-record : recordSize ≤ length f2
   files-record = leb-true recordSize (length f2) (both .0)
@@ -83,7 +83,7 @@ module _ (f2 month : List ℕ) (e : filesCheck f2 month ≡ Accepted) where
   pub files-file : fileCheck month ≡ Accepted
   files-file =
       let walk = then-both (monthFileCheck month) rest (both .1) .0 in
-      let t = then-both (tablesCheck month) (indexCheck month) (words .1) in
+      let t = then-both (tableWordsCheck month) (indexCheck month) (words .1) in
       parts-file month (record { walk = walk; words = t .0; index = t .1 })
 
   pub files-index : indexCheck month ≡ Accepted

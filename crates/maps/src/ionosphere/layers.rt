@@ -154,7 +154,7 @@ fn sun_of(month: u32) -> Sun
 }
 
 // A number of a month file whose words were found finite.
-fn number(file: &[u8], at: usize) -> f32
+fn number_at(file: &[u8], at: usize) -> f32
     requires { ⌜ T (finite (floatAt (now file) at)) ⌝ }
     ensures { λ r. ⌜ r ≡ floatAt (now (file .entry)) at ⌝ }
 {
@@ -171,7 +171,7 @@ fn term(file: &[u8], a: usize, b: usize, ssn: f32) -> f32
     requires { ⌜ T (finite (floatAt (now file) a)) × T (finite (floatAt (now file) b)) ⌝ }
     ensures { λ r. ⌜ r ≡ floatAt (now (file .entry)) a ⊕ floatAt (now (file .entry)) b ⊗ ssn ⌝ }
 {
-    number(file, a) + number(file, b) * ssn
+    number_at(file, a) + number_at(file, b) * ssn
 }
 
 // What `layer_parameters` and `ground_constants` take of a month file, whose words were found finite,
@@ -187,10 +187,10 @@ pub(crate) fn monthly_of(file: &[u8], month: u32, ssn: f32) -> Monthly
         new0: term(file, ANEW, BNEW, ssn),
         new1: term(file, ANEW + 4, BNEW + 4, ssn),
         new2: term(file, ANEW + 8, BNEW + 8, ssn),
-        land_alf: number(file, ABMAP),
-        land_bet: number(file, ABMAP + 4),
-        ratio_alf: number(file, ABMAP + 8),
-        ratio_bet: number(file, ABMAP + 12),
+        land_alf: number_at(file, ABMAP),
+        land_bet: number_at(file, ABMAP + 4),
+        ratio_alf: number_at(file, ABMAP + 8),
+        ratio_bet: number_at(file, ABMAP + 12),
     }
 }
 

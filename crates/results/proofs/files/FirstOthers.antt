@@ -20,12 +20,13 @@ use Rattle.base.specs.Words.{floatAt, FiniteRun}
 use Rattle.base.specs.MonthFile.{recordSize, monthFileCheck}
 use Rattle.base.specs.Tables.{Table, wordsIn, noSuchTable, startOf, wordsOf, xf2cof}
 use Rattle.base.specs.Index.{ikimAt, rows, harmonics, goodMap, lowestBad, indexCheck}
-use Rattle.base.specs.Finite.{wordsCheck, recordsCheck, floatTables, eachCheck, tablesCheck, firstOther}
+use Rattle.base.specs.Finite.{wordsCheck, recordWordsCheck, floatTables, eachCheck, tableWordsCheck, firstOther}
 use Rattle.base.specs.Files.{fileCheck, filesCheck}
 use Rattle.listing.specs.Reason.{reasonRow}
-use Rattle.results.specs.AcceptedFiles.{FileAnswer, taken, ended, wrong, RecordWordsGood, MonthWordsGood, FirstInRecord, RecordWordRefused, FirstInMonth, MonthWordRefused, FilesGood}
+use Rattle.results.specs.AcceptedFiles.{FileAnswer, taken, ended, wrong, RecordWordsGood, MonthWordsGood, FirstInRecord, RecordWordRefused, FirstInMonth, MonthWordRefused, FileWordRefused, IndexRefusedLast, FilesGood}
 use Rattle.base.proofs.verdicts.Refusals.{refused-not-accepted, then-both}
 use Rattle.base.proofs.layout.FirstWords.{by-first, two-runs, run-finite, finite-run, tables-finite, finite-tables, record-finite, finite-record}
+use Rattle.results.proofs.files.IndexAnswers.{index-refused}
 use Rattle.base.proofs.layout.Readers.{files-record, files-record-finite, files-file, files-index, files-finite}
 
 -- ---- accepted exactly where all are finite
@@ -152,8 +153,8 @@ module _ (s : List ℕ) where
 
 -- ---- by record and by number
 
-record-first : (f2 : List ℕ) (p : ℕ) → recordsCheck f2 1 ≡ Refused (RecordWord p) → FirstInRecord f2 p
-unfolding recordsCheck
+record-first : (f2 : List ℕ) (p : ℕ) → recordWordsCheck f2 1 ≡ Refused (RecordWord p) → FirstInRecord f2 p
+unfolding recordWordsCheck
 record-first f2 p e =
     let f = first-found f2 RecordWord (λ q. refl) (startOf xf2cof) (wordsOf xf2cof) p e in
     let q = f .place in
@@ -165,8 +166,8 @@ record-first f2 p e =
       before = λ i h. subst (λ (a : ℕ). T (finite (floatAt f2 a))) (omega arith) (f .before i h);
     }
 
-first-record : (f2 : List ℕ) (p : ℕ) → FirstInRecord f2 p → recordsCheck f2 1 ≡ Refused (RecordWord p)
-unfolding recordsCheck
+first-record : (f2 : List ℕ) (p : ℕ) → FirstInRecord f2 p → recordWordsCheck f2 1 ≡ Refused (RecordWord p)
+unfolding recordWordsCheck
 first-record f2 p f =
     let q = f .place in
     first-refused f2 RecordWord (startOf xf2cof) (wordsOf xf2cof) p
@@ -179,8 +180,8 @@ first-record f2 p f =
     })
 
 -- the table k of those of f32 has the number k + 2
-month-first : (month : List ℕ) (p : ℕ) → tablesCheck month ≡ Refused (MonthWord p) → FirstInMonth month p
-unfolding tablesCheck
+month-first : (month : List ℕ) (p : ℕ) → tableWordsCheck month ≡ Refused (MonthWord p) → FirstInMonth month p
+unfolding tableWordsCheck
 month-first month p e =
     let g = each-found month floatTables p e in
     let f = g .first in
@@ -205,8 +206,8 @@ month-first month p e =
     by-number k r (suc zero) i l h m = absurd (omega arith)
     by-number k r (suc (suc j)) i l h m = r j (omega arith) i m
 
-first-month : (month : List ℕ) (p : ℕ) → FirstInMonth month p → tablesCheck month ≡ Refused (MonthWord p)
-unfolding tablesCheck
+first-month : (month : List ℕ) (p : ℕ) → FirstInMonth month p → tableWordsCheck month ≡ Refused (MonthWord p)
+unfolding tableWordsCheck
 first-month month p f =
     by-number (f .table) (f .low) (f .high) (λ t l h i m. f .earlier t i l h m)
     (record { word = f .word; inside = f .inside; place = f .place; bad = f .bad; before = f .before })
@@ -255,12 +256,12 @@ lowest-answers month (suc n) k =
     go true a = a
     go false a = other (k + 1)
 
-record-answers : (f2 : List ℕ) → Answers RecordWord (recordsCheck f2 1)
-unfolding recordsCheck
+record-answers : (f2 : List ℕ) → Answers RecordWord (recordWordsCheck f2 1)
+unfolding recordWordsCheck
 record-answers f2 = words-answers RecordWord f2 (startOf xf2cof) (wordsOf xf2cof)
 
-month-answers : (month : List ℕ) → Answers MonthWord (tablesCheck month)
-unfolding tablesCheck
+month-answers : (month : List ℕ) → Answers MonthWord (tableWordsCheck month)
+unfolding tableWordsCheck
 month-answers month = each-answers month floatTables
 
 index-answers : (month : List ℕ) → Answers Index (indexCheck month)
@@ -271,8 +272,8 @@ index-answers month = lowest-answers month 6 0
 
 -- verdicts by a number of their own: of documents 01 and 02, 23 is that of two refusals
 abbrev kind : Verdict → ℕ
-kind Accepted = 22
-kind (Refused why) = reasonRow why
+kind Accepted = 0
+kind (Refused why) = suc (reasonRow why)
 
 abbrev inTurn : Bool → Verdict → Verdict → Verdict → Verdict → Verdict
 inTurn b m v t x = cond b (m then v then t then x) (Refused Record)
@@ -307,6 +308,18 @@ module _ (p : ℕ) where
   month-turn true taken fine fine (other a) e = apart e (λ q. omega arith)
   month-turn true taken fine fine fine e = apart e (λ q. omega arith)
 
+  -- and by the index table the month file's words too
+  index-turn :
+      (b : Bool) {m v t x : Verdict} → FileAnswer m → Answers RecordWord v → Answers MonthWord t → Answers Index x →
+      inTurn b m v t x ≡ Refused (Index p) →
+      (b ≡ true) × (m ≡ Accepted) × (v ≡ Accepted) × (t ≡ Accepted) × (x ≡ Refused (Index p))
+  index-turn false am av at ax e = apart e (λ q. omega arith)
+  index-turn true (ended a) av at ax e = apart e (λ q. omega arith)
+  index-turn true (wrong a) av at ax e = apart e (λ q. omega arith)
+  index-turn true taken (other a) at ax e = apart e (λ q. omega arith)
+  index-turn true taken fine (other a) ax e = apart e (λ q. omega arith)
+  index-turn true taken fine fine ax e = (refl, refl, refl, refl, e)
+
 -- what is said of the parts is put together again by a path through the checks in turn
 
 pub record-word-refused : ((s : List ℕ) → FileAnswer (monthFileCheck s)) → RecordWordRefused
@@ -318,7 +331,7 @@ record-word-refused answer f2 month p = (
       record { whole = leb-true recordSize (length f2) (o .0); walked = o .1; first = record-first f2 p (o .2) },
   λ d i.
       let b = le-leb recordSize (length f2) (d .whole) in
-      inTurn (b i) (d .walked i) (first-record f2 p (d .first) i) (tablesCheck month) (indexCheck month),
+      inTurn (b i) (d .walked i) (first-record f2 p (d .first) i) (tableWordsCheck month) (indexCheck month),
 )
 
 pub month-word-refused : ((s : List ℕ) → FileAnswer (monthFileCheck s)) → MonthWordRefused
@@ -339,11 +352,40 @@ month-word-refused answer f2 month p = (
       inTurn (b i) (d .walked i) (v i) (first-month month p (d .first) i) (indexCheck month),
 )
 
+-- of a month file alone the record has nothing to say
+pub file-word-refused : ((s : List ℕ) → FileAnswer (monthFileCheck s)) → FileWordRefused
+unfolding fileCheck
+file-word-refused answer month p = (
+  λ e.
+      let o = month-turn p true (answer month) fine (month-answers month) (index-answers month) e in
+      record { walked = o .1; first = month-first month p (o .3) },
+  λ d i. inTurn true (d .walked i) Accepted (first-month month p (d .first) i) (indexCheck month),
+)
+
+pub index-refused-last : ((s : List ℕ) → FileAnswer (monthFileCheck s)) → IndexRefusedLast
+unfolding filesCheck
+index-refused-last answer f2 month place = (
+  λ e.
+      let b = leb recordSize (length f2) in
+      let o = index-turn place b (answer month) (record-answers f2) (month-answers month) (index-answers month) e in
+      record {
+        whole = leb-true recordSize (length f2) (o .0);
+        walked = o .1;
+        record-finite = record-finite f2 (o .2);
+        month-finite = tables-finite month (o .3);
+        lowest = index-refused month place .0 (o .4);
+      },
+  λ d i.
+      let b = le-leb recordSize (length f2) (d .whole) in
+      let v = finite-record f2 (d .record-finite) in
+      inTurn (b i) (d .walked i) (v i) (finite-tables month (d .month-finite) i) (index-refused month place .1 (d .lowest) i),
+)
+
 pub files-good : FilesGood
 unfolding filesCheck fileCheck
 files-good f2 month = (
   λ e.
-      let rest = tablesCheck month then indexCheck month in
+      let rest = tableWordsCheck month then indexCheck month in
       record {
         whole = files-record f2 month e;
         walked = then-both (monthFileCheck month) rest (files-file f2 month e) .0;

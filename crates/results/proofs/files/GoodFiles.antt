@@ -17,7 +17,7 @@ use Rattle.base.specs.Number.{signedOf}
 use Rattle.base.specs.Words.{wordAt, fourBytes}
 use Rattle.base.specs.MonthFile.{recordSize, monthFileSize, sizes, monthFileCheck, Marked}
 use Rattle.base.specs.Index.{indexOf, mapWord, rows, harmonics, climbs, goodMap, indexCheck, GoodIndex}
-use Rattle.base.specs.Finite.{tablesCheck, FiniteRecord}
+use Rattle.base.specs.Finite.{tableWordsCheck, FiniteRecord}
 use Rattle.base.specs.Files.{filesCheck}
 use Rattle.results.specs.ExhibitedFiles.{fileOf, Below}
 unfoldable pub use Rattle.results.specs.ExhibitedFiles.{wordBytes, fileWith, goodIndexTable, goodMonthFile, goodRecord}
@@ -148,7 +148,7 @@ month-file-accepted = made-walks goodIndexTable refl
 pub index-accepted : indexCheck goodMonthFile ≡ Accepted
 index-accepted = made-index goodIndexTable refl table-good
 
-pub tables-accepted : tablesCheck goodMonthFile ≡ Accepted
+pub tables-accepted : tableWordsCheck goodMonthFile ≡ Accepted
 tables-accepted = finite-tables goodMonthFile (month-finite goodIndexTable refl)
 
 pub files-accepted : filesCheck goodRecord goodMonthFile ≡ Accepted

@@ -22,7 +22,7 @@ use Rattle.base.specs.Number.{signedOf}
 use Rattle.base.specs.Fill.{tabulate}
 use Rattle.base.specs.Words.{wordOf, wordAt, integerAt, floatAt}
 use Rattle.base.specs.MonthFile.{recordSize, monthFileSize, sizes, Four, marker, anything, layout, isRight, walk, monthFileCheck}
-use Rattle.base.specs.Finite.{wordsCheck, recordsCheck, floatTables, eachCheck, tablesCheck}
+use Rattle.base.specs.Finite.{wordsCheck, recordWordsCheck, floatTables, eachCheck, tableWordsCheck}
 use Rattle.base.specs.Tables.{Table, wordsIn, tableEnd, startOf, planeOf, wordsOf, xf2cof, ikim, fakmap, xfm3cf, xesmcf, xpmap, xeslcf, xesucf, xercof}
 use Rattle.base.specs.Index.{rows, harmonics, isWholeTo, equals, exceeds, climbs, goodMap, ikimPlace, ikimAt, lowestBad, indexCheck, indexOf}
 use Rattle.base.specs.Blend.{blendOf, blendAt, blendTable, f2Weights, eWeights, heightWeights, eslcofOf, esmcofOf, esucofOf, f2cofOf, fm3cofOf, ercofOf, hmymOf, fakmapOf, appended, cofionOf}
@@ -165,8 +165,8 @@ module _ (s t : List ℕ) (a : Alike monthFileSize s t) where
   unfolding monthFileCheck fours
   file-alike = let e = length-layout sizes in walk-alike monthFileSize s t a 0 (layout sizes) (omega arith)
 
-  pub tables-alike : tablesCheck s ≡ tablesCheck t
-  unfolding tablesCheck endsBy
+  pub tables-alike : tableWordsCheck s ≡ tableWordsCheck t
+  unfolding tableWordsCheck endsBy
   tables-alike = each-alike monthFileSize s t a floatTables tt
 
   table-alike : (number : ℕ) (w : Weights) → startOf number + 8 * planeOf number ≤ monthFileSize → blendTable number w s ≡ blendTable number w t
@@ -194,8 +194,8 @@ module _ (s t : List ℕ) (a : Alike monthFileSize s t) where
 -- ---- a record, whole in both, beside any month file
 
 module _ (f g : List ℕ) (b : Alike recordSize f g) where
-  pub records-alike : recordsCheck f 1 ≡ recordsCheck g 1
-  unfolding recordsCheck
+  pub records-alike : recordWordsCheck f 1 ≡ recordWordsCheck g 1
+  unfolding recordWordsCheck
   records-alike = words-alike recordSize f g b RecordWord (startOf xf2cof) (wordsOf xf2cof) (lit≤ tt)
 
   f2-alike : (x : Float) → f2cofOf f x ≡ f2cofOf g x

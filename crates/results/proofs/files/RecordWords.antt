@@ -13,7 +13,7 @@ use Rattle.base.specs.declared.refusal.Refusal.the-variants.{RecordWord}
 use Rattle.base.specs.declared.refusal.Verdict.the-variants.{Accepted}
 use Rattle.base.specs.Words.{wordOf, wordAt, floatAt}
 use Rattle.base.specs.MonthFile.{recordSize, monthStart}
-use Rattle.base.specs.Finite.{recordsCheck}
+use Rattle.base.specs.Finite.{recordWordsCheck}
 use Rattle.base.proofs.layout.FirstWords.{run-finite, finite-run}
 
 module _ (daw : List ℕ) where
@@ -43,15 +43,15 @@ module _ (daw : List ℕ) where
   unfolding floatAt
   finite-in m at h = ap (λ (w : ℕ). finite (ofBits binary32 w)) (word-of m at h)
 
-  pub record-in : recordsCheck daw 12 ≡ Accepted → (m : ℕ) → 1 ≤ m → m ≤ 12 → recordsCheck (recordOf m) 1 ≡ Accepted
-  unfolding recordsCheck
+  pub record-in : recordWordsCheck daw 12 ≡ Accepted → (m : ℕ) → 1 ≤ m → m ≤ 12 → recordWordsCheck (recordOf m) 1 ≡ Accepted
+  unfolding recordWordsCheck
   record-in e m low high = finite-run (recordOf m) RecordWord 0 1976 (λ i h.
       let p : 0 + 4 * ((m - 1) * 1976 + i) ≡ monthStart m + (0 + 4 * i) = omega arith in
       subst T (ap (λ (at : ℕ). finite (floatAt daw at)) p ∙ sym (finite-in m (0 + 4 * i) (omega arith)))
       (run-finite daw RecordWord 0 23712 e ((m - 1) * 1976 + i) (omega arith)))
 
-  pub all-in : ((m : ℕ) → 1 ≤ m → m ≤ 12 → recordsCheck (recordOf m) 1 ≡ Accepted) → recordsCheck daw 12 ≡ Accepted
-  unfolding recordsCheck
+  pub all-in : ((m : ℕ) → 1 ≤ m → m ≤ 12 → recordWordsCheck (recordOf m) 1 ≡ Accepted) → recordWordsCheck daw 12 ≡ Accepted
+  unfolding recordWordsCheck
   all-in each = finite-run daw RecordWord 0 23712 (λ i h.
       let m = i / 1976 + 1 in
       let j = i % 1976 in

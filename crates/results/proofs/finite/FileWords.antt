@@ -8,14 +8,12 @@ use lib.Dec.{T, lit≤, lit<}
 use lib.ListN.{getD}
 use lib.Ieee.{Float, nan, binary32, round, units, odd, ofBits, add, sub, mul, div, neg, isNan}
 use lib.Ieee.Scale.{finite}
-use Rattle.base.specs.declared.refusal.Verdict.the-variants.{Accepted}
 use Rattle.base.specs.Single.{decimal}
 use Rattle.base.specs.Ranges.{isTo}
 use Rattle.base.specs.Words.{floatAt}
 use Rattle.base.specs.Tables.{startOf, wordsOf, anew, bnew, achi, bchi, fakmap, abmap}
 use Rattle.base.specs.Blend.{f2Weights, fakmapOf}
 use Rattle.base.specs.Finite.{FiniteMonth}
-use Rattle.base.specs.Files.{filesCheck}
 use Rattle.base.proofs.lists.Fills.{run-at}
 use Rattle.base.proofs.layout.Readers.{files-record-finite, files-finite}
 use Rattle.maps.specs.Layers.{termOf, abmapAt, monthlyOf}
@@ -40,10 +38,7 @@ shown-finite source w n lent figures count h =
       in-month = files-finite (source i .f2) (source i .file) (f .checked);
     }
 
-module _ (f2 file : List ℕ) (month : ℕ) (ssn : Float) (e : filesCheck f2 file ≡ Accepted) (r : T (isTo (decimal 0 1) (decimal 300 0) ssn)) where
-  words : FiniteMonth file
-  words = files-finite f2 file e
-
+module _ (file : List ℕ) (month : ℕ) (ssn : Float) (words : FiniteMonth file) (r : T (isTo (decimal 0 1) (decimal 300 0) ssn)) where
   word : (table i : ℕ) → 2 ≤ table → table ≤ 20 → i < wordsOf table → T (finite (floatAt file (startOf table + 4 * i)))
   word table i l h n = words .words table l h i n
 

@@ -13,7 +13,7 @@ use Rattle.base.specs.declared.refusal.Verdict.the-variants.{Accepted}
 use Rattle.base.specs.Refusal.{_then_}
 use Rattle.base.specs.Words.{fourBytes}
 use Rattle.base.specs.MonthFile.{recordSize, sizes, monthRecordCheck}
-use Rattle.base.specs.Finite.{recordsCheck}
+use Rattle.base.specs.Finite.{recordWordsCheck}
 use Rattle.base.specs.Files.{fileCheck, dawCheck}
 use Rattle.base.specs.Year.{directorySize}
 use Rattle.packing.specs.Pack.{partCheck, pairsOf, together, packed, startIn}
@@ -69,7 +69,7 @@ daws-there =
     (record { low = lit≤ tt; high = lit≤ tt; room = omega (arith, length-replicate {A = ℕ} (12 * recordSize) 0) })
 
 daws-good : dawCheck daws ≡ Accepted
-unfolding dawCheck recordsCheck
+unfolding dawCheck recordWordsCheck
 daws-good =
     let words = finite-run daws RecordWord 0 23712 (zeros-finite (12 * recordSize) 23712 (lit≤ tt)) in
     λ i. daws-there i then words i

@@ -15,7 +15,7 @@ use Rattle.base.specs.declared.refusal.Verdict.the-variants.{Accepted}
 use Rattle.base.specs.Refusal.{refuseUnless, _then_}
 use Rattle.base.specs.Ranges.{isMonth, isBit}
 use Rattle.base.specs.MonthFile.{recordSize, monthRecordCheck, monthFileCheck}
-use Rattle.base.specs.Finite.{recordsCheck, tablesCheck}
+use Rattle.base.specs.Finite.{recordWordsCheck, tableWordsCheck}
 use Rattle.base.specs.Index.{indexCheck}
 use Rattle.base.specs.Files.{indexFileCheck, fileCheck, dawCheck}
 use Rattle.packing.specs.Pack.{partCheck, packed}
@@ -41,7 +41,7 @@ bit-is (suc (suc m)) h = absurd (omega arith)
 -- 9 and 10, 23 and 11 by a model's file and a month's
 abbrev restCheck : ℕ → List ℕ → List ℕ → Verdict
 restCheck month daw file =
-    monthFileCheck file then recordsCheck (recordOf daw month) 1 then tablesCheck file then indexCheck file
+    monthFileCheck file then recordWordsCheck (recordOf daw month) 1 then tableWordsCheck file then indexCheck file
 
 -- 8 by a model's file
 abbrev roomCheck : ℕ → List ℕ → Verdict
@@ -77,7 +77,7 @@ module _ (ps : List (List ℕ)) (n : length ps ≡ 14) where
       let daw = getD ps (12 + model) [] in
       let file = sym (cond-true _ _ (lt-ltb (month - 1) 12 (omega arith))) ∙ good (month - 1) (omega arith) in
       let twelve = sym (cond-false _ _ (le-ltb (12 + model) 12 (omega arith))) ∙ good (12 + model) (omega arith) in
-      let d = then-both (monthRecordCheck daw 12) (recordsCheck daw 12) twelve in
+      let d = then-both (monthRecordCheck daw 12) (recordWordsCheck daw 12) twelve in
       let room = record-known daw 12 (d .0) .room in
       let part = getD ps (month - 1) [] in
       let walk = then-both (monthFileCheck part) (indexCheck part) (file-indexed part file) .0 in
@@ -90,7 +90,7 @@ module _ (ps : List (List ℕ)) (n : length ps ≡ 14) where
   -- what is accepted of a month and a model that can be shown
   record Seen (month model : ℕ) : Type 0 where
     room : month * recordSize ≤ length (getD ps (12 + model) [])
-    words : recordsCheck (recordOf (getD ps (12 + model) []) month) 1 ≡ Accepted
+    words : recordWordsCheck (recordOf (getD ps (12 + model) []) month) 1 ≡ Accepted
     file : fileCheck (getD ps (month - 1) []) ≡ Accepted
 
   seen : AllShown (packed ps) → (month model : ℕ) → isMonth month ≡ true → isBit model ≡ true → Seen month model
@@ -100,8 +100,8 @@ module _ (ps : List (List ℕ)) (n : length ps ≡ 14) where
       let part = getD ps (month - 1) [] in
       let shown = sym (by-files month model m b) ∙ all month model (subst T (sym m) tt) (subst T (sym b) tt) in
       let x = then-both (roomCheck month daw) (restCheck month daw part) shown in
-      let w = then-both (monthFileCheck part) (recordsCheck (recordOf daw month) 1 then tablesCheck part then indexCheck part) (x .1) in
-      let r = then-both (recordsCheck (recordOf daw month) 1) (tablesCheck part then indexCheck part) (w .1) in
+      let w = then-both (monthFileCheck part) (recordWordsCheck (recordOf daw month) 1 then tableWordsCheck part then indexCheck part) (x .1) in
+      let r = then-both (recordWordsCheck (recordOf daw month) 1) (tableWordsCheck part then indexCheck part) (w .1) in
       record {
         room =
             leb-true (month * recordSize) (length daw)
@@ -126,6 +126,6 @@ module _ (ps : List (List ℕ)) (n : length ps ≡ 14) where
         (record { low = lit≤ tt; high = lit≤ tt; room = seen all 12 (k - 12) refl b .room }) in
         let words = all-in daw (λ m low high. seen all m (k - 12) (month-is m low high) b .words) in
         cond-false _ _ (le-ltb k 12 (omega (arith, g)))
-        ∙ ap (λ (j : ℕ). monthRecordCheck (getD ps j []) 12 then recordsCheck (getD ps j []) 12) (sym e)
+        ∙ ap (λ (j : ℕ). monthRecordCheck (getD ps j []) 12 then recordWordsCheck (getD ps j []) 12) (sym e)
         ∙ (λ i. whole i then words i)
   ]

@@ -15,7 +15,7 @@ use Rattle.base.specs.declared.refusal.Verdict.the-variants.{Accepted, Refused}
 use Rattle.base.specs.Refusal.{refuseUnless, _then_}
 use Rattle.base.specs.Ranges.{isMonth, isBit, monthCheck, modelCheck}
 use Rattle.base.specs.MonthFile.{Part, recordSize, monthStart, monthRecordCheck, monthPart, monthFileCheck}
-use Rattle.base.specs.Finite.{recordsCheck, tablesCheck}
+use Rattle.base.specs.Finite.{recordWordsCheck, tableWordsCheck}
 use Rattle.base.specs.Index.{indexCheck}
 use Rattle.base.specs.Files.{filesCheck}
 use Rattle.base.specs.Year.{yearCheck, yearMonth, yearModel, partBytes}
@@ -23,7 +23,7 @@ use Rattle.base.proofs.verdicts.Picks.{cond-true}
 use Rattle.base.proofs.layout.Records.{month-known, month-part}
 use Rattle.worksheet.specs.Inputs.{inputsCheck}
 use Rattle.worksheet.specs.Showing.{yearFiles, yearFilesCheck, inputsShown, askedCheck, bufferCheck, drawnCheck, judgedCheck, showCheck}
-use Rattle.results.specs.OneYear.{partAt, recordAt, recordCheck, partsCheck, YearFilesExactly, YearShowingExactly}
+use Rattle.results.specs.OneYear.{partAt, recordAt, recordCheck, pickedCheck, YearFilesExactly, YearShowingExactly}
 use Rattle.results.proofs.sheet.AlwaysShown.{month-and-model}
 use Rattle.results.proofs.sheet.OwnParts.{month-bytes, model-bytes}
 
@@ -52,7 +52,7 @@ record-length daw m e =
 
 -- what is refused of a record that is long enough and a month file
 abbrev restCheck : List ℕ → List ℕ → Verdict
-restCheck f2 file = monthFileCheck file then recordsCheck f2 1 then tablesCheck file then indexCheck file
+restCheck f2 file = monthFileCheck file then recordWordsCheck f2 1 then tableWordsCheck file then indexCheck file
 
 -- a record that is there is long enough
 record-there : (daw file : List ℕ) (m : ℕ) → monthRecordCheck daw m ≡ Accepted →
@@ -85,7 +85,7 @@ module _ (s : List ℕ) (month model : ℕ) (m : isMonth month ≡ true) (b : is
       ∙ ap (λ (d : List ℕ). take recordSize (drop (monthStart month) d)) (model-bytes s good model b)
 
   abbrev rest : Verdict
-  rest = recordCheck s month model then partsCheck s month model
+  rest = recordCheck s month model then pickedCheck s month model
 
   pub files-exactly :
       let files = yearFiles s month model in
@@ -96,7 +96,7 @@ module _ (s : List ℕ) (month model : ℕ) (m : isMonth month ≡ true) (b : is
       then-assoc (yearCheck s) there _
       ∙ then-where (yearCheck s) (λ good.
       then-where there (λ e. record-there daw _ month e ∙ (λ i. restCheck (record-bytes good e i) (file-is good i)))
-      ∙ ap (λ (v : Verdict). v then partsCheck s month model) (record-is good))
+      ∙ ap (λ (v : Verdict). v then pickedCheck s month model) (record-is good))
 
   pub in-range-exactly : yearFilesCheck s month model ≡ (yearCheck s then rest)
   unfolding yearFilesCheck monthCheck modelCheck

@@ -388,7 +388,7 @@ pub const OVER_A_YEAR: [Clause; 21] = [
     }),
     ("shown after a part that was refused", |s| {
         let refused = |i: usize, call: &Call| {
-            (show_draft(call) || show_worksheet(call)) && s.is_refused(i, &[8, 9, 10, 11])
+            (show_draft(call) || show_worksheet(call)) && s.is_refused(i, &[8, 9, 10, 11, 23])
         };
         (s.accepted(show_draft) || s.accepted(show_worksheet)) && s.earlier(refused)
     }),

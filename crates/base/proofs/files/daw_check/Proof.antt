@@ -5,14 +5,14 @@ use mathlib.Core.Path.{_≡_, sym, ap, _∙_}
 use lib.Dec.{lit≤}
 use Rattle.base.specs.declared.refusal.Verdict.{Verdict}
 use Rattle.base.specs.Refusal.{_then_}
-use Rattle.base.specs.Finite.{recordsCheck}
+use Rattle.base.specs.Finite.{recordWordsCheck}
 use Rattle.base.specs.Files.{dawCheck}
 use Rattle.base.proofs.layout.Records.{month-known}
 use Rattle.base.proofs.files.daw_check.Statement.{statement}
 use Rattle.base.proofs.files.daw_check.Tie as tie
 
-records-check-requires : tie.Need-records-check-requires
-records-check-requires c κs =
+record-words-check-requires : tie.Need-record-words-check-requires
+record-words-check-requires c κs =
     let b = c .before .before in
     let daw = b .before .before .args .daw .now in
     (lit≤ tt, month-known daw 12 (sym (b .month-record-check .ensures) ∙ c .enum-told .given .1) .room)
@@ -23,7 +23,7 @@ returns c =
     let b = c .before .before .before in
     let daw = b .before .before .args .daw .now in
     let whole = sym (b .month-record-check .ensures) ∙ c .before .enum-told .given .1 in
-    c .records-check .ensures ∙ sym (ap (λ (v : Verdict). v then recordsCheck daw 12) whole)
+    c .record-words-check .ensures ∙ sym (ap (λ (v : Verdict). v then recordWordsCheck daw 12) whole)
 
 returns-2 : tie.Need-returns-2
 unfolding dawCheck
@@ -31,7 +31,7 @@ returns-2 c =
     let b = c .before .before .before in
     let daw = b .before .before .args .daw .now in
     let whole = sym (b .month-record-check .ensures) ∙ c .before .whole .given .1 in
-    sym (ap (λ (v : Verdict). v then recordsCheck daw 12) whole)
+    sym (ap (λ (v : Verdict). v then recordWordsCheck daw 12) whole)
 
 pub daw-check-spec : {M : Type 1} → statement M
 daw-check-spec =
@@ -39,7 +39,7 @@ daw-check-spec =
     (tie.spec
     (λ c κs. search needs)
     (λ c. search needs)
-    records-check-requires
+    record-words-check-requires
     (λ c. search needs)
     returns
     returns-2)

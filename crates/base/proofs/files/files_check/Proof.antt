@@ -6,7 +6,7 @@ use mathlib.Core.Path.{_≡_, sym, ap, _∙_}
 use native.Mathlib.Omega.{arith}
 use Rattle.base.specs.declared.refusal.Verdict.{Verdict}
 use Rattle.base.specs.Refusal.{_then_}
-use Rattle.base.specs.Finite.{recordsCheck, tablesCheck}
+use Rattle.base.specs.Finite.{recordWordsCheck, tableWordsCheck}
 use Rattle.base.specs.Index.{indexCheck}
 use Rattle.base.specs.Files.{filesCheck}
 use Rattle.base.proofs.verdicts.Picks.{cond-true, cond-false}
@@ -17,8 +17,8 @@ returns : tie.Need-returns
 unfolding filesCheck
 returns c = sym (cond-false _ _ (lt-leb _ _ (c .if1 .taken)))
 
-tables-check-requires : tie.Need-tables-check-requires
-tables-check-requires c κs = sym (c .before .before .month-file-check .ensures) ∙ c .enum-told .given .1
+table-words-check-requires : tie.Need-table-words-check-requires
+table-words-check-requires c κs = sym (c .before .before .month-file-check .ensures) ∙ c .enum-told .given .1
 
 returns-2 : tie.Need-returns-2
 unfolding filesCheck
@@ -33,9 +33,9 @@ returns-2 c =
     let month = a .month .now in
     let walked = sym (b .month-file-check .ensures) ∙ t .before .enum-told .given .1 in
     c .then2 .ensures
-    ∙ (λ i. r .records-check .ensures i then n .then .ensures i)
-    ∙ (λ i. recordsCheck f2 1 then t .tables-check .ensures i then x .index-check .ensures i)
-    ∙ sym (ap (λ (v : Verdict). v then recordsCheck f2 1 then tablesCheck month then indexCheck month) walked)
+    ∙ (λ i. r .record-words-check .ensures i then n .then .ensures i)
+    ∙ (λ i. recordWordsCheck f2 1 then t .table-words-check .ensures i then x .index-check .ensures i)
+    ∙ sym (ap (λ (v : Verdict). v then recordWordsCheck f2 1 then tableWordsCheck month then indexCheck month) walked)
     ∙ sym (cond-true _ _ (le-leb _ _ (b .before .if1 .left)))
 
 returns-3 : tie.Need-returns-3
@@ -46,7 +46,7 @@ returns-3 c =
     let f2 = a .f2 .now in
     let month = a .month .now in
     let walked = sym (b .month-file-check .ensures) ∙ c .before .walked .given .1 in
-    sym (ap (λ (v : Verdict). v then recordsCheck f2 1 then tablesCheck month then indexCheck month) walked)
+    sym (ap (λ (v : Verdict). v then recordWordsCheck f2 1 then tableWordsCheck month then indexCheck month) walked)
     ∙ sym (cond-true _ _ (le-leb _ _ (b .before .if1 .left)))
 
 pub files-check-spec : {M : Type 1} → statement M
@@ -56,7 +56,7 @@ files-check-spec =
     returns
     (λ c κs. search needs)
     (λ c. search needs)
-    tables-check-requires
+    table-words-check-requires
     (λ c κs. search needs)
     (λ c κs. search needs)
     (λ c κs. search needs)

@@ -239,7 +239,7 @@ fn a_word_that_is_no_finite_number_is_said_of_its_file() {
         run_text([OPEN, "show\n"].concat().as_bytes(), &lent)
     };
     let (record, month) = (with(&pair.daw), with(&pair.month));
-    let of_record = "line 2: refused 23 400: the F2 record has no finite number at this byte\n";
+    let of_record = "line 2: refused 23 400: the F2 planes have no finite number at this byte\n";
     let of_month = "line 2: refused 23 400: the month file has no finite number at this byte\n";
     assert!(said(&record, &month).ends_with(of_record));
     assert!(said(&record, &pair.month).ends_with(of_record));

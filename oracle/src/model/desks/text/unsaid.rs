@@ -62,7 +62,7 @@ pub fn reason(refusal: Refusal) -> &'static str {
         (9, _) => "the month file ends too early",
         (10, _) => "the month file has a wrong marker at this byte",
         (11, _) => "the month file has a bad index table for this map",
-        (23, _) if refusal.of_record => "the F2 record has no finite number at this byte",
+        (23, _) if refusal.of_record => "the F2 planes have no finite number at this byte",
         (23, _) => "the month file has no finite number at this byte",
         (14, _) => "there is no such desk",
         (15, _) => "the desk has a draft already",

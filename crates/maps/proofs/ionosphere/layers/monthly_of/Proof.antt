@@ -32,26 +32,26 @@ term-requires-4 c κs = let f = c .before .before .before .before .before .pre i
 term-requires-5 : tie.Need-term-requires-5
 term-requires-5 c κs = let f = c .before .before .before .before .before .before .pre in (word f anew 2 (lit≤ tt) (lit≤ tt) (lit< tt), word f bnew 2 (lit≤ tt) (lit≤ tt) (lit< tt))
 
-number-requires : tie.Need-number-requires
-number-requires c κs = word (c .before .before .before .before .before .before .before .pre) abmap 0 (lit≤ tt) (lit≤ tt) (lit< tt)
+number-at-requires : tie.Need-number-at-requires
+number-at-requires c κs = word (c .before .before .before .before .before .before .before .pre) abmap 0 (lit≤ tt) (lit≤ tt) (lit< tt)
 
-number-requires-2 : tie.Need-number-requires-2
-number-requires-2 c κs = word (c .before .before .before .before .before .before .before .before .pre) abmap 1 (lit≤ tt) (lit≤ tt) (lit< tt)
+number-at-requires-2 : tie.Need-number-at-requires-2
+number-at-requires-2 c κs = word (c .before .before .before .before .before .before .before .before .pre) abmap 1 (lit≤ tt) (lit≤ tt) (lit< tt)
 
-number-requires-3 : tie.Need-number-requires-3
-number-requires-3 c κs = word (c .before .before .before .before .before .before .before .before .before .pre) abmap 2 (lit≤ tt) (lit≤ tt) (lit< tt)
+number-at-requires-3 : tie.Need-number-at-requires-3
+number-at-requires-3 c κs = word (c .before .before .before .before .before .before .before .before .before .pre) abmap 2 (lit≤ tt) (lit≤ tt) (lit< tt)
 
-number-requires-4 : tie.Need-number-requires-4
-number-requires-4 c κs = word (c .before .before .before .before .before .before .before .before .before .before .pre) abmap 3 (lit≤ tt) (lit≤ tt) (lit< tt)
+number-at-requires-4 : tie.Need-number-at-requires-4
+number-at-requires-4 c κs = word (c .before .before .before .before .before .before .before .before .before .before .pre) abmap 3 (lit≤ tt) (lit≤ tt) (lit< tt)
 
 returns : tie.Need-returns
 unfolding monthlyOf termOf abmapAt
 returns c =
     rw (
-      c .number4 .ensures,
-      c .before .number3 .ensures,
-      c .before .before .number2 .ensures,
-      c .before .before .before .number .ensures,
+      c .number-at4 .ensures,
+      c .before .number-at3 .ensures,
+      c .before .before .number-at2 .ensures,
+      c .before .before .before .number-at .ensures,
       c .before .before .before .before .term5 .ensures,
       c .before .before .before .before .before .term4 .ensures,
       c .before .before .before .before .before .before .term3 .ensures,
@@ -76,11 +76,11 @@ monthly-of-spec =
     (λ c. search needs)
     (λ c. search needs)
     term-requires-5
-    number-requires
+    number-at-requires
     (λ c. search needs)
-    number-requires-2
+    number-at-requires-2
     (λ c. search needs)
-    number-requires-3
+    number-at-requires-3
     (λ c. search needs)
-    number-requires-4
+    number-at-requires-4
     returns)

@@ -1,9 +1,9 @@
--- `number` is `floatAt`: a word that is finite tells its number.
+-- `number_at` is `floatAt`: a word that is finite tells its number.
 use borrow.Author.Needs.{needs}
 use mathlib.Core.Path.{sym, ap, _∙_}
 use Rattle.base.proofs.layout.FirstWords.{numberIn, told-number, told-always}
-use Rattle.maps.proofs.ionosphere.layers.number.Statement.{statement}
-use Rattle.maps.proofs.ionosphere.layers.number.Tie as tie
+use Rattle.maps.proofs.ionosphere.layers.number_at.Statement.{statement}
+use Rattle.maps.proofs.ionosphere.layers.number_at.Tie as tie
 
 returns : tie.Need-returns
 unfolding numberIn
@@ -16,8 +16,8 @@ returns-2 c =
     let b = c .before .before in
     told-always _ _ (b .before .before .pre) (sym (c .enum-told .given .1) ∙ b .table-word .ensures)
 
-pub number-spec : {M : Type 1} → statement M
-number-spec =
+pub number-at-spec : {M : Type 1} → statement M
+number-at-spec =
     tie.close
     (tie.spec
     (λ c κs. search needs)
