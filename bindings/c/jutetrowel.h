@@ -225,7 +225,8 @@ jt_showing jt_show(const uint32_t sheet[JT_WORKSHEET_WORDS], uint32_t desk, cons
 
 /* The same over a year file, of which the month and the model shown pick the parts. After the buffer
  * its directory is judged (19), then whether the model's part has the month's record (8), then the
- * month's part, in which places count from its start. */
+ * month's part (9, 10), the words of the record and of that part (23), and its index table (11).
+ * Places in the part count from its start, those in the record from the record's. */
 jt_showing jt_show_year(const uint32_t sheet[JT_WORKSHEET_WORDS], uint32_t desk, const uint8_t *year,
                         size_t year_size, float *out, size_t out_count);
 
@@ -239,7 +240,8 @@ jt_span jt_month_record(const uint8_t *daw, size_t daw_size, uint32_t month);
 jt_span jt_table(uint32_t number, const uint8_t *f2, size_t f2_size, const uint8_t *file,
                  size_t file_size);
 
-/* The month file's form alone; and whether the file can be used: its form, then its index table. */
+/* The month file's form alone; and whether the file can be used: its form, then that the words of its
+ * tables are finite numbers (23), then its index table. */
 jt_answer jt_month_file_check(const uint8_t *file, size_t file_size);
 jt_answer jt_file_check(const uint8_t *file, size_t file_size);
 

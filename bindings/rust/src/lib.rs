@@ -198,7 +198,8 @@ pub fn month_file_check(file: &[u8]) -> Result<(), Refusal> {
     answered(raw::month_file_check(file))
 }
 
-/// Whether a month file can be used: its form, then its index table, 11 with the lowest bad map.
+/// Whether a month file can be used: its form, then the words of its tables, 23 with the byte of the
+/// first that is no finite number, then its index table, 11 with the lowest bad map.
 pub fn file_check(file: &[u8]) -> Result<(), Refusal> {
     answered(raw::file_check(file))
 }

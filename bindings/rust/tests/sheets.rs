@@ -244,7 +244,7 @@ fn month_records_from_the_rust() {
 fn tables_from_the_rust() {
     let words = data("crates/vectors/data/words.bin");
     let mut from = Reader(&words);
-    for name in ["calm", "wild"] {
+    for name in ["calm", "wild", "huge"] {
         let daw = data(&format!("crates/vectors/data/{name}.daw"));
         let f2 = month_record(&daw, 2).expect("a record");
         let file = data(&format!("crates/vectors/data/{name}.month"));

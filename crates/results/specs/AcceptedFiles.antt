@@ -177,7 +177,8 @@ pub record RecordRefused (f2 month : List ℕ) (p : ℕ) : Type 0 where
   pub first : FirstInRecord f2 p
 
 -- '23, place the first such word's byte within record or month file, the record first, after 10 and
--- before 11': of the record exactly there, whatever the index table,
+-- before 11': it is given of the record at p exactly where the record is whole, the month file passes
+-- its walk, and the record's first word that is no finite number is at p, whatever the index table,
 abbrev pub RecordWordRefused : Type 0
 RecordWordRefused =
     (f2 month : List ℕ) (p : ℕ) →
@@ -206,7 +207,8 @@ pub record MonthRefused (f2 month : List ℕ) (p : ℕ) : Type 0 where
   pub record-finite : FiniteRecord f2
   pub first : FirstInMonth month p
 
--- and of the month file exactly where the record's words are all finite.
+-- and of the month file at p exactly where the record is whole and of finite numbers, the month file
+-- passes its walk, and the first word of its tables but `ikim` that is no finite number is at p.
 abbrev pub MonthWordRefused : Type 0
 MonthWordRefused =
     (f2 month : List ℕ) (p : ℕ) →
@@ -218,7 +220,8 @@ pub record FileRefused (month : List ℕ) (p : ℕ) : Type 0 where
   pub walked : monthFileCheck month ≡ Accepted
   pub first : FirstInMonth month p
 
--- Of a month file by itself 23 is given exactly there.
+-- Of a month file by itself 23 is given at p exactly where it passes its walk and the first word of its
+-- tables but `ikim` that is no finite number is at p.
 abbrev pub FileWordRefused : Type 0
 FileWordRefused =
     (month : List ℕ) (p : ℕ) →
@@ -234,7 +237,9 @@ pub record IndexLast (f2 month : List ℕ) (place : ℕ) : Type 0 where
   pub month-finite : FiniteMonth month
   pub lowest : LowestBad month place
 
--- 11 of both files is given exactly where all that is judged before it passes.
+-- 11 of both files is given exactly where the record is whole, the month file passes its walk, each
+-- word of the record and of the tables but `ikim` is a finite number, and the place is the lowest bad
+-- map.
 abbrev pub IndexRefusedLast : Type 0
 IndexRefusedLast =
     (f2 month : List ℕ) (place : ℕ) →
@@ -250,7 +255,8 @@ pub record GoodFiles (f2 month : List ℕ) : Type 0 where
   pub month-finite : FiniteMonth month
   pub index : indexCheck month ≡ Accepted
 
--- Both files are accepted exactly where all of this holds.
+-- Both files are accepted exactly where the record is whole, the month file passes its walk, each word
+-- of the record and of the tables but `ikim` is a finite number, and the index table is good.
 abbrev pub FilesGood : Type 0
 FilesGood =
     (f2 month : List ℕ) →

@@ -449,8 +449,9 @@ pub record MonthNumbers (file : List ℕ) (m : Monthly) : Type 0 where
   pub new1 : T (not (isNan (m .new1)))
   pub new2 : T (not (isNan (m .new2)))
 
--- So there no NaN is left of a month file whose words are finite, as those of every accepted one are,
--- with a sunspot number in range. Whether the five sums are finite is not said.
+-- Of a month file whose words are finite, as those of every accepted one are, and with a sunspot number
+-- in range, the land map's 464 numbers and the four of `abmap` are finite, and the five sums that
+-- `zenmax` and foF1 are made of are no NaN (`MonthNumbers`). Whether these are finite is not said.
 abbrev pub MonthNumbersSound : Type 0
 MonthNumbersSound =
     (file : List ℕ) (month : ℕ) (ssn : Float) → FiniteMonth file → T (isTo (decimal 0 1) (decimal 300 0) ssn) →
