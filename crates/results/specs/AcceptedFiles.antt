@@ -154,7 +154,8 @@ VersyInside =
 -- The check of a record's words accepts exactly where each of its 1,976 words is a finite number,
 abbrev pub RecordWordsGood : Type 0
 RecordWordsGood =
-    (f2 : List ℕ) → (recordWordsCheck f2 1 ≡ Accepted → FiniteRecord f2) × (FiniteRecord f2 → recordWordsCheck f2 1 ≡ Accepted)
+    (f2 : List ℕ) →
+    (recordWordsCheck f2 1 ≡ Accepted → FiniteRecord f2) × (FiniteRecord f2 → recordWordsCheck f2 1 ≡ Accepted)
 
 -- and that of a month file's words exactly where each word of its tables but `ikim` is.
 abbrev pub MonthWordsGood : Type 0
