@@ -86,7 +86,7 @@ mod tests {
         ["refused 9 248:", "refused 8 0:"],
         ["refused 10 244:", "refused 8 0:"],
         ["refused 11 4:", "refused 8 0:"],
-        ["refused 23 4000: the F2 record has", "refused 8 0:"],
+        ["refused 23 4000: the F2 planes have", "refused 8 0:"],
         ["refused 23 23532: the month file has", "refused 8 0:"],
     ];
 
