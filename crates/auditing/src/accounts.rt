@@ -20,7 +20,7 @@ use worksheet::journal::{Answer, Call, make};
 use worksheet::showing::Lent;
 
 // What stands on the line that an audit is of.
-#[derive(Drop)]
+#[derive(Clone, Copy)]
 pub enum Showing {
     // A showing of the worksheet.
     Shown,

@@ -21,7 +21,7 @@ use worksheet::journal::{Answer, make};
 use worksheet::showing::Lent;
 
 // What the lines so far told.
-#[derive(Drop)]
+#[derive(Clone, Copy)]
 pub enum Stage {
     // Nothing: they are blank.
     Waiting,
@@ -33,7 +33,7 @@ pub enum Stage {
 
 // Where the journal sits: the worksheet after its calls, how many these are, the number of the
 // open's line, and the byte of the text where that line begins. Else no call counts.
-#[derive(Drop)]
+#[derive(Clone, Copy)]
 pub struct Gathered {
     pub stage: Stage,
     pub sheet: Worksheet,
@@ -77,7 +77,7 @@ fn is_accepted(a: Answer) -> bool
 }
 
 // The worksheet that a call leaves, and the call's mark.
-#[derive(Drop)]
+#[derive(Clone, Copy)]
 struct Marked {
     sheet: Worksheet,
     mark: u64,

@@ -11,7 +11,7 @@ use worksheet::inputs::Edit;
 use worksheet::journal::Call;
 
 // Where a part of the inputs comes from.
-#[derive(Drop)]
+#[derive(Clone, Copy)]
 pub enum Origin {
     Opened,
     // The place of the change, and of the commit that settled it.
@@ -19,7 +19,7 @@ pub enum Origin {
 }
 
 // What became of a draft; a place is how many calls stand before the call.
-#[derive(Drop)]
+#[derive(Clone, Copy)]
 pub enum Fate {
     // Committed at this place, and in force.
     Stands(usize),
@@ -31,7 +31,7 @@ pub enum Fate {
 }
 
 // Whether a draft's commit was refused, and where last.
-#[derive(Drop)]
+#[derive(Clone, Copy)]
 pub enum Refused {
     Never,
     At(usize),

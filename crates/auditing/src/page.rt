@@ -12,7 +12,7 @@ use listing::columns::COLUMNS;
 use worksheet::showing::Lent;
 
 // A part's length in bytes, and whether the page ends with it.
-#[derive(Drop)]
+#[derive(Clone, Copy)]
 pub struct Part {
     pub size: usize,
     pub last: bool,

@@ -4,10 +4,10 @@ ghost use Rattle.base.specs.Angle.{radiansOf, degreesOf};
 
 use crate::constants::{D2R, R2D};
 
-#[derive(Drop)]
+#[derive(Clone, Copy)]
 pub struct Degrees(pub f32);
 
-#[derive(Drop)]
+#[derive(Clone, Copy)]
 pub struct Radians(pub f32);
 
 impl Degrees {

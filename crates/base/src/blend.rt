@@ -10,7 +10,7 @@ use crate::tables::{FAKMAP, XERCOF, XESLCF, XESMCF, XESUCF, XFM3CF, XPMAP};
 use crate::words::{finite_word, read_floats};
 
 // What the two planes of a map are weighed with, and the divisor.
-#[derive(Drop)]
+#[derive(Clone, Copy)]
 pub struct Weights {
     pub wa: f32,
     pub wb: f32,

@@ -127,7 +127,7 @@ fn reduced(v: f64, n: f64) -> f64
 }
 
 // An angle as quarter turns, from 0 to 3 of them, and a rest.
-#[derive(Drop)]
+#[derive(Clone, Copy)]
 struct Turned {
     quarter: u64,
     rest: f64,

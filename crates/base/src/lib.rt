@@ -1,4 +1,6 @@
 // Arithmetic and files: what the maps and the worksheet stand on.
+#![tactic(auto)]
+
 pub mod angle;
 pub mod blend;
 pub mod constants;

@@ -4,7 +4,7 @@ ghost use Rattle.base.specs.Refusal.{pair_of, reportOf, verdictReport, refuseUnl
 
 // Of a field that stands more than once, and of a place in a file or the number of a map or of a
 // pair, the case carries which.
-#[derive(Drop)]
+#[derive(Clone, Copy)]
 pub enum Refusal {
     Month,
     Sunspot,
@@ -40,7 +40,7 @@ pub enum Refusal {
 }
 
 // The documents' number of a refusal, and its place; 0 and 0 where nothing is refused.
-#[derive(Drop)]
+#[derive(Clone, Copy)]
 pub struct Report(pub u32, pub u32);
 
 impl Refusal {
@@ -91,7 +91,7 @@ impl Refusal {
 }
 
 // The answer of a check.
-#[derive(Drop)]
+#[derive(Clone, Copy)]
 pub enum Verdict {
     Accepted,
     Refused(Refusal),

@@ -8,7 +8,7 @@ use crate::refusal::{Refusal, Verdict};
 
 // Where a table, or a part of a year file, starts in the file that holds it, and how many bytes it
 // has.
-#[derive(Drop)]
+#[derive(Clone, Copy)]
 pub struct Place {
     pub start: usize,
     pub size: usize,

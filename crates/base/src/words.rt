@@ -85,7 +85,7 @@ pub fn float(s: &[u8], at: usize) -> f32
 }
 
 // A word of a table: a finite number, or a NaN's or an infinity's pattern.
-#[derive(Drop)]
+#[derive(Clone, Copy)]
 pub enum TableWord {
     Finite(f32),
     NotFinite,

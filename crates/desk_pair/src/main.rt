@@ -1,5 +1,7 @@
 // The worksheet in words: a journal of calls run, a call said on a journal that four desks share,
 // and an audit of where a sheet comes from.
+#![tactic(auto)]
+
 use office::audit::audit;
 use office::run::run;
 use office::say::say;

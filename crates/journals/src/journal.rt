@@ -20,14 +20,14 @@ use worksheet::journal::Call;
 use worksheet::showing::Lent;
 
 // What stands at a place of the calls, and its size in bytes.
-#[derive(Drop)]
+#[derive(Clone, Copy)]
 struct Next {
     read: Read,
     size: usize,
 }
 
 // The worksheet that a call leaves, and the place after what it said.
-#[derive(Drop)]
+#[derive(Clone, Copy)]
 struct Step {
     sheet: Worksheet,
     at: usize,

@@ -11,7 +11,7 @@ use maps::geometry::{POINTS, Use, Uses};
 
 // The documents' number of a refusal, and its place; 0 and 0 where nothing is refused.
 #[repr(C)]
-#[derive(Drop)]
+#[derive(Clone, Copy)]
 pub struct Answer {
     pub number: u32,
     pub place: u32,
@@ -20,7 +20,7 @@ pub struct Answer {
 // How many points a sheet has and what the five are used for, as `use_code` has it; where it is
 // refused 0 and no uses, with the refusal's number and place.
 #[repr(C)]
-#[derive(Drop)]
+#[derive(Clone, Copy)]
 pub struct Showing {
     pub points: u32,
     pub number: u32,
@@ -30,7 +30,7 @@ pub struct Showing {
 
 // Where a part of a lent file starts, and its bytes; refused, both 0.
 #[repr(C)]
-#[derive(Drop)]
+#[derive(Clone, Copy)]
 pub struct Span {
     pub start: usize,
     pub size: usize,

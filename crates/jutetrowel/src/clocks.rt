@@ -11,7 +11,7 @@ use maps::ionosphere::clocks::{Direction, LocalTime, Moved, Times};
 
 // A time and its change of day: -1, 0 or 1. Refused, both +0, with the refusal's number and place.
 #[repr(C)]
-#[derive(Drop)]
+#[derive(Clone, Copy)]
 pub struct ClockAnswer {
     pub time: f32,
     pub day: f32,
@@ -21,7 +21,7 @@ pub struct ClockAnswer {
 
 // An hour in universal time and in local time at both ends. Refused, all +0.
 #[repr(C)]
-#[derive(Drop)]
+#[derive(Clone, Copy)]
 pub struct HoursAnswer {
     pub gmt: f32,
     pub lmt_tx: f32,
@@ -32,7 +32,7 @@ pub struct HoursAnswer {
 
 // A local time. Refused, +0.
 #[repr(C)]
-#[derive(Drop)]
+#[derive(Clone, Copy)]
 pub struct LocalAnswer {
     pub time: f32,
     pub number: u32,

@@ -19,7 +19,7 @@ use maps::{geometry, ionosphere};
 
 // The lengths and bearings of a path, radians but for the names that say otherwise, and its points.
 #[repr(C)]
-#[derive(Drop)]
+#[derive(Clone, Copy)]
 pub struct Measured {
     pub gcd: f32,
     pub gcd_km: f32,
@@ -34,7 +34,7 @@ pub struct Measured {
 
 // The layers at a place, or a refusal beside zeros.
 #[repr(C)]
-#[derive(Drop)]
+#[derive(Clone, Copy)]
 pub struct Layers {
     pub number: u32,
     pub place: u32,

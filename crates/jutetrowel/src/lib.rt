@@ -1,5 +1,7 @@
 // The library for programs in other languages: each function is one of the crates below it, over
 // numbers and slices. A worksheet is 96 words that the caller lends.
+#![tactic(auto)]
+
 pub mod answers;
 pub mod clocks;
 pub mod desks;

@@ -1,5 +1,7 @@
 // What each line of standard input is as a line of a journal, in a line each: with the bits of all
 // its numbers, so that reading can be compared with another's over very many lines.
+#![tactic(auto)]
+
 mod reading;
 mod saying;
 mod words;

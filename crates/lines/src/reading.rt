@@ -9,7 +9,7 @@ use libc::STDIN_FILENO;
 const CHUNK: usize = 65536;
 
 // How many lines there were, and which part of the buffer comes next.
-#[derive(Drop)]
+#[derive(Clone, Copy)]
 struct Place {
     lines: u64,
     from: usize,

@@ -17,7 +17,7 @@ use maps::inputs::Inputs;
 pub const ACCOUNT: usize = COLUMNS;
 
 // Where a field comes from. Numbers of lines are those of the journal's text.
-#[derive(Drop)]
+#[derive(Clone, Copy)]
 pub enum Came {
     // The open at this line.
     Opened(u64),
@@ -26,7 +26,7 @@ pub enum Came {
 }
 
 // What became of a draft.
-#[derive(Drop)]
+#[derive(Clone, Copy)]
 pub enum Became {
     // Committed at the first line, taken back at the second.
     TakenBack(u64, u64),
@@ -36,7 +36,7 @@ pub enum Became {
 }
 
 // Whether a commit of a draft was refused, and at which line last.
-#[derive(Drop)]
+#[derive(Clone, Copy)]
 pub enum Balked {
     No,
     At(u64),

@@ -18,7 +18,7 @@ pub const START: u32 = (SHEET_BYTES + RECORD + MONTH_FILE) as u32;
 // The same over a year file without its bytes: before it stand the words and its length.
 pub const YEAR_START: u32 = (FIELD_BYTES + 4) as u32;
 
-#[derive(Drop)]
+#[derive(Clone, Copy)]
 pub enum Read {
     // The input has ended.
     End,

@@ -1,5 +1,7 @@
 // What the programs share: calls from the words of their input, answers as lines of text, calls and
 // answers in words for people, and what a year file has to show.
+#![tactic(auto)]
+
 pub mod account;
 pub mod answer;
 pub mod call;

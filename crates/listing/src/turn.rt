@@ -13,7 +13,7 @@ use worksheet::journal::{Answer, Call, make};
 use worksheet::showing::Lent;
 
 // The worksheet that a call leaves, and how many bytes its answer's text has.
-#[derive(Drop)]
+#[derive(Clone, Copy)]
 pub struct Turn {
     pub sheet: Worksheet,
     pub size: usize,

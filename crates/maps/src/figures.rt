@@ -29,7 +29,7 @@ pub const FIGURES: usize = HEAD + POINTS * ROW;
 
 // What a showing answers: the number of points with what the five rows are used for, or why it is
 // refused.
-#[derive(Drop)]
+#[derive(Clone, Copy)]
 pub enum Shown {
     Points(u32, Uses),
     Refused(Refusal),

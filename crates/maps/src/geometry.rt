@@ -20,7 +20,7 @@ const DDX: f32 = 0.03;
 pub const POINTS: usize = 5;
 
 // What a sample area is for.
-#[derive(Drop)]
+#[derive(Clone, Copy)]
 pub enum Use {
     // The point is absent.
     NoLayer,
@@ -30,7 +30,7 @@ pub enum Use {
 }
 
 // The uses of the points, nearest to the transmitter first.
-#[derive(Drop)]
+#[derive(Clone, Copy)]
 pub struct Uses {
     pub p1: Use,
     pub p2: Use,
@@ -41,7 +41,7 @@ pub struct Uses {
 
 // A place on the path where the ionosphere is asked for, with its distance from the transmitter, its
 // latitude against the magnetic pole and what it is used for.
-#[derive(Drop)]
+#[derive(Clone, Copy)]
 pub struct ControlPoint {
     pub rd: Radians,
     pub lat: Radians,
@@ -50,7 +50,7 @@ pub struct ControlPoint {
     pub used_for: Use,
 }
 
-#[derive(Drop)]
+#[derive(Clone, Copy)]
 pub struct PathGeometry {
     // Great-circle distance.
     pub gcd: Radians,
@@ -66,7 +66,7 @@ pub struct PathGeometry {
 }
 
 // A place in radians, with the sine and the cosine of its latitude.
-#[derive(Drop)]
+#[derive(Clone, Copy)]
 pub struct Place {
     pub lat: f32,
     pub lon: f32,
@@ -75,7 +75,7 @@ pub struct Place {
 }
 
 // The great circle through both ends.
-#[derive(Drop)]
+#[derive(Clone, Copy)]
 pub struct Circle {
     pub dlong: f32,
     pub gcd: f32,
@@ -84,7 +84,7 @@ pub struct Circle {
 }
 
 // What every sample area of a path is found from.
-#[derive(Drop)]
+#[derive(Clone, Copy)]
 pub struct Track {
     pub tx: Place,
     pub rlong: f32,

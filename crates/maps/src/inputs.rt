@@ -8,7 +8,7 @@ use base::number::{bits32, float32};
 use base::words::word;
 
 // Transmitter and receiver, and whether the path goes the long way round: 0 is the short way.
-#[derive(Drop)]
+#[derive(Clone, Copy)]
 pub struct Route {
     pub tlat: Degrees,
     pub tlong: Degrees,
@@ -18,7 +18,7 @@ pub struct Route {
 }
 
 // `psc`, what the critical frequencies of the layers are multiplied with.
-#[derive(Drop)]
+#[derive(Clone, Copy)]
 pub struct Factors {
     pub e: f32,
     pub f1: f32,
@@ -27,7 +27,7 @@ pub struct Factors {
 }
 
 // The geomagnetic north pole.
-#[derive(Drop)]
+#[derive(Clone, Copy)]
 pub struct MagneticPole {
     pub lat: Degrees,
     pub lon: Degrees,
@@ -46,7 +46,7 @@ impl MagneticPole {
     }
 }
 
-#[derive(Drop)]
+#[derive(Clone, Copy)]
 pub struct Inputs {
     pub month: u32,
     // The sunspot number.

@@ -68,7 +68,7 @@ pub(crate) fn gammas_at(
 }
 
 // What the layers take besides the place.
-#[derive(Drop)]
+#[derive(Clone, Copy)]
 pub struct LayerInputs {
     pub month: u32,
     pub ssn: f32,
@@ -77,7 +77,7 @@ pub struct LayerInputs {
 }
 
 // The layers at a place; refused, they are +0.0 in every field.
-#[derive(Drop)]
+#[derive(Clone, Copy)]
 pub struct LayersAt {
     pub verdict: Verdict,
     pub params: LayerParams,

@@ -1,4 +1,6 @@
 // Maps and geometry: what the worksheet's figures are made of.
+#![tactic(auto)]
+
 pub mod figures;
 pub mod geometry;
 pub mod inputs;

@@ -61,7 +61,7 @@ const H: [[f32; 7]; 7] = [
 
 // Row n of the three tables. It is read once for a degree: each reading of a constant table copies
 // the whole table.
-#[derive(Drop)]
+#[derive(Clone, Copy)]
 struct Row {
     ct: [f32; 7],
     g: [f32; 7],
@@ -79,7 +79,7 @@ fn row_of(n: usize) -> Row
 }
 
 // Latitude and longitude.
-#[derive(Drop)]
+#[derive(Clone, Copy)]
 pub struct Position {
     pub p1: Radians,
     pub p2: Radians,
@@ -108,7 +108,7 @@ fn clamped(lat: Radians, east_lon: Radians) -> Position
 }
 
 // The sines and cosines of 0 to 6 times the longitude.
-#[derive(Drop)]
+#[derive(Clone, Copy)]
 pub struct Multiples {
     pub sp: [f32; 7],
     pub cp: [f32; 7],
@@ -157,7 +157,7 @@ fn powers(ar: f32) -> [f32; 7]
 
 // What the expansion takes of a point: the sine and the cosine of its latitude, the multiples of
 // its longitude and the powers of the ratio of radii.
-#[derive(Drop)]
+#[derive(Clone, Copy)]
 pub struct Place {
     pub c: f32,
     pub s: f32,
@@ -192,7 +192,7 @@ fn at(t: &[f32; 49], n: usize, m: usize) -> f32
 }
 
 // `p[n][m]` and `dp[n][m]`.
-#[derive(Drop)]
+#[derive(Clone, Copy)]
 pub struct Element {
     pub p: f32,
     pub dp: f32,
@@ -237,7 +237,7 @@ fn whole(m: usize) -> f32
 }
 
 // A degree's three sums.
-#[derive(Drop)]
+#[derive(Clone, Copy)]
 pub struct Sums {
     pub sumr: f32,
     pub sumt: f32,
@@ -277,7 +277,7 @@ fn orders(x: Place, n: usize, p: &mut [f32; 49], dp: &mut [f32; 49]) -> Sums
 }
 
 // The field's three sums.
-#[derive(Drop)]
+#[derive(Clone, Copy)]
 pub struct Field {
     pub bv: f32,
     pub bn: f32,
@@ -319,7 +319,7 @@ fn expansion(x: Place) -> Field
 }
 
 // The field vector in the Rust's left-handed frame, in gauss.
-#[derive(Drop)]
+#[derive(Clone, Copy)]
 pub struct Une {
     pub up: f32,
     pub north: f32,
@@ -341,7 +341,7 @@ pub fn magfin(lat: Radians, east_lon: Radians, height_m: f32) -> Une
 }
 
 // Gyrofrequency, MHz; Rawer's modified dip angle; the point's longitude as an east longitude.
-#[derive(Drop)]
+#[derive(Clone, Copy)]
 pub struct MagneticVars {
     pub gyz: f32,
     pub gmdip: Radians,

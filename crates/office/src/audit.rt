@@ -176,7 +176,7 @@ fn audit_line(
 }
 
 // How far a journal goes, up to a line of it.
-#[derive(Drop)]
+#[derive(Clone, Copy)]
 enum Reach {
     // To that line.
     Whole,
@@ -190,7 +190,7 @@ enum Reach {
 
 // The lines up to there: the sitting that they leave, how many they are, and where the next one
 // begins and ends.
-#[derive(Drop)]
+#[derive(Clone, Copy)]
 struct Walk {
     reach: Reach,
     sitting: Sitting,
@@ -411,7 +411,7 @@ fn audit_with(pair: bool, line: usize, files: &mut [u8; YEAR_MOST]) {
 }
 
 // The line that an audit is asked for, where that is a whole number.
-#[derive(Drop)]
+#[derive(Clone, Copy)]
 struct Asked {
     line: usize,
     good: bool,

@@ -8,7 +8,7 @@ use worksheet::showing::Lent;
 
 // What stands in the buffer: the year file or the record up to `first`, the month file from there
 // up to `all`.
-#[derive(Drop)]
+#[derive(Clone, Copy)]
 pub(crate) struct Files {
     pub lent: Lent,
     pub first: usize,
@@ -47,7 +47,7 @@ fn say_more(name: &[u8], full: bool) {
 }
 
 // Where a file that is read into the buffer ends, and whether it was read whole.
-#[derive(Drop)]
+#[derive(Clone, Copy)]
 struct Got {
     end: usize,
     good: bool,

@@ -12,7 +12,7 @@ use worksheet::showing::Lent;
 // A line of a journal has fewer bytes than this.
 pub(crate) const CHUNK: usize = 65536;
 
-#[derive(Drop)]
+#[derive(Clone, Copy)]
 pub(crate) enum State {
     // There may be more lines.
     Going,
@@ -28,7 +28,7 @@ pub(crate) enum State {
 
 // What the lines so far left: the sitting, how many lines there are and their bytes, and which part
 // of the buffer comes next.
-#[derive(Drop)]
+#[derive(Clone, Copy)]
 pub(crate) struct Ran {
     pub sitting: Sitting,
     pub lines: u64,
@@ -84,7 +84,7 @@ fn shift(buffer: &mut [u8], from: usize, to: usize)
 }
 
 // What one read brought.
-#[derive(Drop)]
+#[derive(Clone, Copy)]
 struct Filled {
     size: usize,
     state: State,
@@ -133,7 +133,7 @@ pub(crate) fn write(text: &[u8]) -> bool {
 }
 
 // What a line leaves, and whether what is said of it could be written.
-#[derive(Drop)]
+#[derive(Clone, Copy)]
 struct Next {
     sitting: Sitting,
     good: bool,

@@ -120,7 +120,7 @@ pub(crate) fn say_aside(name: &[u8], number: u64) {
 }
 
 // What came of a call.
-#[derive(Drop)]
+#[derive(Clone, Copy)]
 pub(crate) enum Fate {
     // Its line is on its device.
     Kept,

@@ -1,6 +1,8 @@
 // What `desk` does with files: a journal run line by line, a call said on a journal that four desks
 // share, and an audit of a journal's line. Only reading, writing and the lock stand here; what a
 // line means and what is said of it is `sitting`'s, what an audit finds `auditing`'s.
+#![tactic(auto)]
+
 pub mod audit;
 mod files;
 mod folder;

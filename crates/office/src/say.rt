@@ -50,7 +50,7 @@ fn words_from(i: usize, line: &mut [u8]) -> usize
 // What is told once the lock is given back, since a reader of standard error that is gone ends the
 // process: so many bytes of a text, what came of the call, the number of its line or of the one
 // that ends the journal, and whether one of that number was put aside.
-#[derive(Drop)]
+#[derive(Clone, Copy)]
 struct Told {
     size: usize,
     fate: Fate,

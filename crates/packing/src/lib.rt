@@ -1,4 +1,6 @@
 // A year file packed from an installation's files.
+#![tactic(auto)]
+
 ghost use Rattle.std.specs.Prelude.{◌≡◌, ℕ, ◌+◌, ◌≤◌, ◌++◌, length, get_or, drop};
 ghost use Rattle.base.specs.Fill.{fill};
 ghost use Rattle.base.specs.Words.{fourBytes};

@@ -1,5 +1,7 @@
 // The desks' journal from standard input, over a pair of files or, with the argument `year`, over a
 // year file: the answer to each call on standard output.
+#![tactic(auto)]
+
 use replaying::{over_pair, over_year};
 
 // Whether the first argument is `year`.

@@ -9,7 +9,7 @@ use listing::call::{Read, call_in, operation_in, size_of};
 use worksheet::showing::Lent;
 
 // What is read, and its size in bytes.
-#[derive(Drop)]
+#[derive(Clone, Copy)]
 pub struct Next {
     pub read: Read,
     pub size: usize,

@@ -1,5 +1,7 @@
 // The desks' journal: an open and the calls that follow it, from standard input, with the answer to
 // each on standard output.
+#![tactic(auto)]
+
 mod calls;
 
 ghost use Rattle.std.specs.Prelude.{◌≡◌, List, ◌≤◌, length};

@@ -1,6 +1,8 @@
 // One sheet: 14 little-endian words, an F2 record and a month file on standard input, and the 151
 // figures or the refusal on standard output. `sheet page` prints the fields, names the figures and
 // adds their decimals and units.
+#![tactic(auto)]
+
 use base::month_file::{MONTH_FILE, RECORD};
 use libc::{STDIN_FILENO, STDOUT_FILENO};
 use listing::answer::ANSWER;

@@ -1,5 +1,7 @@
 // A sitting at the worksheet: a journal's lines heard one after the other, each with what is said
 // of it.
+#![tactic(auto)]
+
 ghost use Rattle.std.specs.Prelude.{◌≡◌, ℕ, take};
 ghost use Rattle.io.specs.Counts.{IsPrefixLen};
 ghost use Rattle.worksheet.specs.Showing.{Source, lent_as};
@@ -20,7 +22,7 @@ use worksheet::desks::{Worksheet, open, opened};
 use worksheet::journal::make;
 use worksheet::showing::Lent;
 
-#[derive(Drop)]
+#[derive(Clone, Copy)]
 pub enum Stage {
     // Nothing is open yet.
     Waiting,
@@ -29,14 +31,14 @@ pub enum Stage {
     Ended,
 }
 
-#[derive(Drop)]
+#[derive(Clone, Copy)]
 pub struct Sitting {
     pub stage: Stage,
     pub sheet: Worksheet,
 }
 
 // The sitting after a line, and how many bytes are said of it.
-#[derive(Drop)]
+#[derive(Clone, Copy)]
 pub struct Heard {
     pub sitting: Sitting,
     pub size: usize,

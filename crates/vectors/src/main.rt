@@ -1,5 +1,7 @@
 // Replays the Rust side's answers in data/ and prints of each kind how many were compared and how
 // many differ.
+#![tactic(auto)]
+
 mod clocks;
 mod files;
 mod finite;

@@ -50,7 +50,7 @@ fn is_uses(row: &[u8], uses: Uses) -> bool {
 
 // Of a showing that should be refused: the refusal's number and place; 0 and the points where it is
 // not.
-#[derive(Drop)]
+#[derive(Clone, Copy)]
 struct Spoken {
     number: u32,
     place: u32,

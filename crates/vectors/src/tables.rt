@@ -8,7 +8,7 @@ use base::{tables, words};
 use tally::{Tally, counted, none, print_line};
 
 // A row's answer: the refusal, the part's place in its file, and its first word in words.bin.
-#[derive(Drop)]
+#[derive(Clone, Copy)]
 struct Answer {
     number: u32,
     place: u32,

@@ -15,7 +15,7 @@ use crate::written::{
 };
 
 // What should have stood where a word does not fit.
-#[derive(Drop)]
+#[derive(Clone, Copy)]
 pub enum Wanted {
     // `open`, `show`, `take back` or a desk's number.
     Start,
@@ -34,19 +34,19 @@ pub enum Wanted {
 }
 
 // The word that does not fit, counted from 1, or the one that is missing.
-#[derive(Drop)]
+#[derive(Clone, Copy)]
 pub struct Fault {
     pub word: u32,
     pub wanted: Wanted,
 }
 
-#[derive(Drop)]
+#[derive(Clone, Copy)]
 pub enum Fit {
     Good,
     Wrong(Fault),
 }
 
-#[derive(Drop)]
+#[derive(Clone, Copy)]
 pub enum Line {
     // No word: blank, or a comment alone.
     Blank,

@@ -8,14 +8,14 @@ ghost use Rattle.wording.specs.Number.{number_in, float_of, isDigit, unsignedIn,
 use base::number::float32;
 
 // As written: all digits as one whole number, and how many of them stand after the point.
-#[derive(Drop)]
+#[derive(Clone, Copy)]
 pub struct Decimal {
     pub negative: bool,
     pub digits: u64,
     pub places: u32,
 }
 
-#[derive(Drop)]
+#[derive(Clone, Copy)]
 pub enum Number {
     Is(Decimal),
     // No number, or one of more than 18 digits.
@@ -24,7 +24,7 @@ pub enum Number {
 
 // What is read of a number: its digits, how many of them stand after the point, whether there is
 // any, whether there was a point, and whether it can be a number at all.
-#[derive(Drop)]
+#[derive(Clone, Copy)]
 struct Scan {
     digits: u64,
     places: u32,

@@ -45,7 +45,7 @@ pub const TAKE: u32 = 17;
 
 pub const BACK: u32 = 18;
 
-#[derive(Drop)]
+#[derive(Clone, Copy)]
 pub enum Token {
     // The line has no more words.
     End,
@@ -56,7 +56,7 @@ pub enum Token {
 }
 
 // A struct around it, since a field can be an array of these and not of enums.
-#[derive(Drop)]
+#[derive(Clone, Copy)]
 pub struct Slot {
     pub token: Token,
 }
@@ -66,7 +66,7 @@ pub struct Slot {
 pub const WORDS: usize = 25;
 
 // The first words of a line.
-#[derive(Drop)]
+#[derive(Clone, Copy)]
 pub struct Tokens {
     pub slots: [Slot; WORDS],
 }

@@ -9,7 +9,7 @@ use worksheet::inputs::Edit;
 use worksheet::journal::Call;
 
 // The parts of the inputs, as `maps::inputs` has them, with decimals in the place of floats.
-#[derive(Drop)]
+#[derive(Clone, Copy)]
 pub struct WrittenRoute {
     pub tlat: Decimal,
     pub tlong: Decimal,
@@ -18,7 +18,7 @@ pub struct WrittenRoute {
     pub long_path: u32,
 }
 
-#[derive(Drop)]
+#[derive(Clone, Copy)]
 pub struct WrittenFactors {
     pub e: Decimal,
     pub f1: Decimal,
@@ -26,13 +26,13 @@ pub struct WrittenFactors {
     pub es: Decimal,
 }
 
-#[derive(Drop)]
+#[derive(Clone, Copy)]
 pub struct WrittenPole {
     pub lat: Decimal,
     pub lon: Decimal,
 }
 
-#[derive(Drop)]
+#[derive(Clone, Copy)]
 pub struct WrittenInputs {
     pub month: u32,
     pub ssn: Decimal,
@@ -43,7 +43,7 @@ pub struct WrittenInputs {
     pub model: u32,
 }
 
-#[derive(Drop)]
+#[derive(Clone, Copy)]
 pub enum WrittenEdit {
     Sunspot(Decimal),
     Hour(Decimal),
@@ -54,7 +54,7 @@ pub enum WrittenEdit {
     Model(u32),
 }
 
-#[derive(Drop)]
+#[derive(Clone, Copy)]
 pub enum WrittenCall {
     Begin(u32),
     Change(u32, WrittenEdit),

@@ -7,7 +7,7 @@ use crate::inputs::{Edit, apply, edit_check, inputs_check};
 use base::refusal::{Refusal, Verdict, refuse_unless, then};
 use maps::inputs::{Inputs, inputs_in, sheet_inputs_in};
 
-#[derive(Drop)]
+#[derive(Clone, Copy)]
 pub enum Draft {
     Closed,
     Fresh(Inputs),
@@ -16,13 +16,13 @@ pub enum Draft {
 }
 
 // The set of inputs that a take-back returns, if there is one.
-#[derive(Drop)]
+#[derive(Clone, Copy)]
 pub enum Earlier {
     Nothing,
     Set(Inputs),
 }
 
-#[derive(Drop)]
+#[derive(Clone, Copy)]
 pub struct Worksheet {
     pub inputs: Inputs,
     pub earlier: Earlier,
@@ -33,7 +33,7 @@ pub struct Worksheet {
 }
 
 // A call's answer, and the worksheet that it leaves.
-#[derive(Drop)]
+#[derive(Clone, Copy)]
 pub struct Outcome {
     pub answer: Verdict,
     pub sheet: Worksheet,

@@ -11,7 +11,7 @@ use maps::inputs::{Factors, Inputs, MagneticPole, Route};
 
 // A change, with all its numbers; a path is fields 4 to 8, the flag included. Over a pair of files a
 // changed month or model is shown from the files as they are lent (`showing`).
-#[derive(Drop)]
+#[derive(Clone, Copy)]
 pub enum Edit {
     Sunspot(f32),
     Hour(f32),

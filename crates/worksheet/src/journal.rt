@@ -12,7 +12,7 @@ use base::refusal::Verdict;
 use maps::figures::Shown;
 
 // Desks are any number; those that are none are refused. Show 0 is the worksheet's.
-#[derive(Drop)]
+#[derive(Clone, Copy)]
 pub enum Call {
     Begin(u32),
     Change(u32, Edit),
@@ -22,7 +22,7 @@ pub enum Call {
     Show(u32),
 }
 
-#[derive(Drop)]
+#[derive(Clone, Copy)]
 pub enum Answer {
     Told(Verdict),
     // Unless it is refused, the figures are in the lent buffer.
@@ -30,7 +30,7 @@ pub enum Answer {
 }
 
 // A call's answer, and the worksheet that it leaves.
-#[derive(Drop)]
+#[derive(Clone, Copy)]
 pub struct Next {
     pub answer: Answer,
     pub sheet: Worksheet,

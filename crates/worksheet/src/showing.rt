@@ -19,7 +19,7 @@ use maps::figures::{FIGURES, Shown, figures};
 use maps::inputs::Inputs;
 
 // How the two slices lent to the calls of a journal are read.
-#[derive(Drop)]
+#[derive(Clone, Copy)]
 pub enum Lent {
     // An F2 record and a month file.
     Pair,

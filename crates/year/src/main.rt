@@ -1,5 +1,7 @@
 // Year files: packs one from the twelve month files and the two `.daw` files of an installation, and
 // says what can be shown from one.
+#![tactic(auto)]
+
 use base::year::PARTS;
 use libc::STDERR_FILENO;
 use yearbook::{check, pack};

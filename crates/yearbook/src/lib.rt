@@ -1,4 +1,6 @@
 // Year files by name: one packed from the files of an installation, and what can be shown from one.
+#![tactic(auto)]
+
 ghost use Rattle.std.specs.Prelude.{◌≡◌, ◌+◌, ◌-◌, ◌≤◌, length, take, drop};
 ghost use Rattle.base.specs.Refusal.{isAccepted};
 ghost use Rattle.packing.specs.Pack.{partCheck};

@@ -15,28 +15,28 @@ use base::ranges::{hour_check, longitude_check};
 use base::refusal::{Refusal, Verdict, refuse_unless, then};
 
 // From universal time to local time, or back: the Rust's `isw` of 1 and -1.
-#[derive(Drop)]
+#[derive(Clone, Copy)]
 pub enum Direction {
     ToLocal,
     ToUniversal,
 }
 
 // A time, hours, and the change of day that goes with it: -1, 0 or 1.
-#[derive(Drop)]
+#[derive(Clone, Copy)]
 pub struct Shifted {
     pub time: f32,
     pub day: f32,
 }
 
 // What CNGTIM answers.
-#[derive(Drop)]
+#[derive(Clone, Copy)]
 pub enum Moved {
     To(Shifted),
     Refused(Refusal),
 }
 
 // One hour in universal time, and in local time at the transmitter and at the receiver.
-#[derive(Drop)]
+#[derive(Clone, Copy)]
 pub struct HourTimes {
     pub gmt: f32,
     pub lmt_tx: f32,
@@ -44,14 +44,14 @@ pub struct HourTimes {
 }
 
 // What GEOTIM answers.
-#[derive(Drop)]
+#[derive(Clone, Copy)]
 pub enum Times {
     Hours(HourTimes),
     Refused(Refusal),
 }
 
 // What GEOTIM answers for one place.
-#[derive(Drop)]
+#[derive(Clone, Copy)]
 pub enum LocalTime {
     At(f32),
     Refused(Refusal),

@@ -47,11 +47,11 @@ const XF1: f32 = 1.1;
 const DELZ: f32 = 2.0;
 
 // The two latitudes of the subsolar point in a month.
-#[derive(Drop)]
+#[derive(Clone, Copy)]
 pub struct Sun(pub Degrees, pub Degrees);
 
 // What a month's file gives at a sunspot number, beside the maps.
-#[derive(Drop)]
+#[derive(Clone, Copy)]
 pub struct Monthly {
     pub sun: Sun,
     // zenmax: chi0 + chi1 * cos(dip)
@@ -69,14 +69,14 @@ pub struct Monthly {
 }
 
 // What TIMVAR has before EF1VAR: the local mean time and the sun's zenith angle.
-#[derive(Drop)]
+#[derive(Clone, Copy)]
 pub struct Timvar {
     pub clock: f32,
     pub cycen: f32,
 }
 
 // A layer: its critical frequency, semithickness and height.
-#[derive(Drop)]
+#[derive(Clone, Copy)]
 pub struct Layer {
     pub fi: f32,
     pub yi: f32,
@@ -84,7 +84,7 @@ pub struct Layer {
 }
 
 // What EF1VAR leaves.
-#[derive(Drop)]
+#[derive(Clone, Copy)]
 pub struct Ef1 {
     pub e: Layer,
     pub f1: Layer,
@@ -93,7 +93,7 @@ pub struct Ef1 {
 }
 
 // F1 where it may merge into F2: what it adds to the retardation, its height and semithickness.
-#[derive(Drop)]
+#[derive(Clone, Copy)]
 pub struct Merged {
     pub rft: f32,
     pub hi: f32,
@@ -102,7 +102,7 @@ pub struct Merged {
 
 // The ionosphere at one control point for one hour: of E, F1 and F2 the critical frequencies in
 // MHz, semithicknesses and heights of maximum in km.
-#[derive(Drop)]
+#[derive(Clone, Copy)]
 pub struct LayerParams {
     pub fi: [f32; 3],
     pub yi: [f32; 3],
@@ -123,14 +123,14 @@ pub struct LayerParams {
 }
 
 // Sporadic E: lower decile, median and upper decile of the critical frequency, MHz; height, km.
-#[derive(Drop)]
+#[derive(Clone, Copy)]
 pub struct EsParams {
     pub fs: [f32; 3],
     pub hs: f32,
 }
 
 // What the ground is: conductivity in mhos/m, and permittivity against that of empty space.
-#[derive(Drop)]
+#[derive(Clone, Copy)]
 pub struct Ground(pub f32, pub f32);
 
 // The month's sun. A month that is none has no sun: both latitudes are no number.

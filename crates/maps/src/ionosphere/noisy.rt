@@ -83,7 +83,7 @@ fn latitude_sum(zz: &[f32; 29], s1: f32, c1: f32, n: usize) -> f32
 }
 
 // The sine and the cosine of an angle.
-#[derive(Drop)]
+#[derive(Clone, Copy)]
 struct Wave {
     sine: f32,
     cosine: f32,

@@ -91,7 +91,7 @@ fn basis(index: &IndexTable, k: usize, sx: f64, waves: &[f64; 16], g: &mut Basis
 }
 
 // Sums of three series, before the last narrowing.
-#[derive(Drop)]
+#[derive(Clone, Copy)]
 struct Sums {
     a: f64,
     b: f64,
@@ -130,7 +130,7 @@ fn together(
 }
 
 // Sums of two series, before the last narrowing.
-#[derive(Drop)]
+#[derive(Clone, Copy)]
 struct Pair {
     a: f64,
     b: f64,
@@ -184,7 +184,7 @@ fn finished(ab: &TimeMaps, at: usize, g: &Basis, sum: f64, n: usize, last: usize
 }
 
 // The values of three maps.
-#[derive(Drop)]
+#[derive(Clone, Copy)]
 struct Triple {
     a: f32,
     b: f32,
@@ -248,7 +248,7 @@ fn three(ab: &TimeMaps, index: &IndexTable, k: usize, sx: f64, sz: f64, waves: &
 }
 
 // The maps' values at a place: sporadic E in g1 to g3, then foF2, the M3000 factor and foE.
-#[derive(Drop)]
+#[derive(Clone, Copy)]
 pub struct Gammas {
     pub g1: f32,
     pub g2: f32,

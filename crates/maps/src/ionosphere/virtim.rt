@@ -47,7 +47,7 @@ pub(crate) fn word(index: &IndexTable, k: usize, j: usize) -> usize
 }
 
 // The cosines and sines of 1 to 8 times the hour's angle.
-#[derive(Drop)]
+#[derive(Clone, Copy)]
 struct Waves {
     c: [f32; 8],
     s: [f32; 8],
@@ -77,7 +77,7 @@ fn hour_waves(gmt: f32) -> Waves
 }
 
 // The values of two series.
-#[derive(Drop)]
+#[derive(Clone, Copy)]
 struct TwoValues {
     first: f32,
     second: f32,
