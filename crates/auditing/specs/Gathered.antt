@@ -7,7 +7,7 @@ use Rattle.maps.specs.declared.figures.Shown.TheVariants.{Points, Refused as Not
 use Rattle.worksheet.specs.declared.desks.Worksheet.{Worksheet}
 use Rattle.worksheet.specs.declared.journal.Answer.{Answer as Handed}
 use Rattle.worksheet.specs.declared.journal.Answer.TheVariants as handed
-use Rattle.worksheet.specs.Desks.{openOf}
+use Rattle.worksheet.specs.Desks.{open_of}
 use Rattle.worksheet.specs.Showing.{Source}
 use Rattle.worksheet.specs.Journal.{Call, Run, run, step, entry_of}
 use Rattle.worksheet.specs.Calls.{called}
@@ -16,13 +16,13 @@ use Rattle.wording.specs.declared.line.Line.TheVariants as line
 use Rattle.wording.specs.declared.written.WrittenCall.{WrittenCall}
 use Rattle.wording.specs.declared.written.WrittenCall.TheVariants.{TakeBack}
 use Rattle.wording.specs.declared.written.WrittenInputs.{WrittenInputs}
-use Rattle.wording.specs.Line.{lineIn}
-use Rattle.wording.specs.Written.{inputsWritten, callWritten}
+use Rattle.wording.specs.Line.{line_in}
+use Rattle.wording.specs.Written.{inputs_written, call_written}
 use Rattle.listing.specs.Turn.{blank}
 use Rattle.auditing.specs.declared.gathering.Stage.{Stage}
 use Rattle.auditing.specs.declared.gathering.Stage.TheVariants.{Waiting, Sits, Ended}
 use Rattle.auditing.specs.declared.gathering.Gathered.{Gathered}
-use Rattle.auditing.specs.Marks.{mark_of, marksOf}
+use Rattle.auditing.specs.Marks.{mark_of, marks_of}
 
 -- ---- the lines of a text
 
@@ -32,8 +32,8 @@ unfoldable pub lines_from : List ℕ → List ℕ → List (List ℕ)
 lines_from w [] = []
 lines_from w (c ∷ l) = cond (eqb c 10) (w ∷ lines_from [] l) (lines_from (w ++ (c ∷ [])) l)
 
-abbrev pub textLines : List ℕ → List (List ℕ)
-textLines text = lines_from [] text
+abbrev pub text_lines : List ℕ → List (List ℕ)
+text_lines text = lines_from [] text
 
 -- ---- what they told
 
@@ -46,18 +46,18 @@ pub data Told : Type 0 where
   -- nothing but blank lines so far
   waiting : Told
   -- the open with the number of its line, and the calls after it in their order
-  sits : (opening : WrittenInputs) → (openedAt : ℕ) → (calls : List Numbered) → Told
+  sits : (opening : WrittenInputs) → (opened_at : ℕ) → (calls : List Numbered) → Told
   -- a line was no call, or the open was refused
   ended : Told
 
-abbrev pub openedTold : ℕ → WrittenInputs → Verdict → Told
-openedTold n o Accepted = sits o n []
-openedTold n o (Refused why) = ended
+abbrev pub opened_told : ℕ → WrittenInputs → Verdict → Told
+opened_told n o Accepted = sits o n []
+opened_told n o (Refused why) = ended
 
 -- with line n
 abbrev pub telling : ℕ → Told → Line → Told
 telling n waiting line.Blank = waiting
-telling n waiting (line.Open o) = openedTold n o (openOf (inputsWritten o)).answer
+telling n waiting (line.Open o) = opened_told n o (open_of (inputs_written o)).answer
 telling n waiting (line.Call c) = ended
 telling n waiting (line.Wrong f) = ended
 telling n (sits o at cs) line.Blank = sits o at cs
@@ -67,50 +67,50 @@ telling n (sits o at cs) (line.Wrong f) = ended
 telling n ended l = ended
 
 -- with lines, of which the first is line n
-unfoldable pub toldFrom : ℕ → Told → List (List ℕ) → Told
-toldFrom n t [] = t
-toldFrom n t (l ∷ ls) = toldFrom (suc n) (telling n t (lineIn l)) ls
+unfoldable pub told_from : ℕ → Told → List (List ℕ) → Told
+told_from n t [] = t
+told_from n t (l ∷ ls) = told_from (suc n) (telling n t (line_in l)) ls
 
 -- THE CALLS of the first k lines of a text
-unfoldable pub toldBy : List ℕ → ℕ → Told
-toldBy text k = toldFrom 1 waiting (take k (textLines text))
+unfoldable pub told_by : List ℕ → ℕ → Told
+told_by text k = told_from 1 waiting (take k (text_lines text))
 
 -- ---- as calls on a worksheet, each showing with a buffer of zeros
 
-unfoldable pub callsTold : List Numbered → List Call
-callsTold [] = []
-callsTold (x ∷ l) = called (callWritten x.call) blank ∷ callsTold l
+unfoldable pub calls_told : List Numbered → List Call
+calls_told [] = []
+calls_told (x ∷ l) = called (call_written x.call) blank ∷ calls_told l
 
-unfoldable pub numbersTold : List Numbered → List ℕ
-numbersTold [] = []
-numbersTold (x ∷ l) = x.line ∷ numbersTold l
+unfoldable pub numbers_told : List Numbered → List ℕ
+numbers_told [] = []
+numbers_told (x ∷ l) = x.line ∷ numbers_told l
 
-abbrev pub sheetOpened : WrittenInputs → Worksheet
-sheetOpened o = (openOf (inputsWritten o)).sheet
+abbrev pub sheet_opened : WrittenInputs → Worksheet
+sheet_opened o = (open_of (inputs_written o)).sheet
 
 -- THE RUN of a journal
-abbrev pub runTold : Source → WrittenInputs → List Numbered → Run
-runTold source o cs = run source (callsTold cs) (sheetOpened o)
+abbrev pub run_told : Source → WrittenInputs → List Numbered → Run
+run_told source o cs = run source (calls_told cs) (sheet_opened o)
 
 -- ---- what an audit gathers
 
 -- the bytes before the first newline
-unfoldable pub firstLine : List ℕ → List ℕ
-firstLine [] = []
-firstLine (c ∷ l) = cond (eqb c 10) [] (c ∷ firstLine l)
+unfoldable pub first_line : List ℕ → List ℕ
+first_line [] = []
+first_line (c ∷ l) = cond (eqb c 10) [] (c ∷ first_line l)
 
 -- the line that begins at byte s of a text
 abbrev pub line_at : List ℕ → ℕ → List ℕ
-line_at text s = firstLine (drop s text)
+line_at text s = first_line (drop s text)
 
 -- from byte s on, up to a newline, a text reads as l
 pub record ReadsAt (text : List ℕ) (s : ℕ) (l : Line) : Type 0 where
   pub within : s ≤ length text
-  pub said : lineIn (line_at text s) ≡ l
+  pub said : line_in (line_at text s) ≡ l
 
 -- call i of those that were told, counted from 0; a take-back past their end
-abbrev pub callTold : List Numbered → ℕ → WrittenCall
-callTold cs i = (get_or cs i (record { call = TakeBack; line = 0 })).call
+abbrev pub call_told : List Numbered → ℕ → WrittenCall
+call_told cs i = (get_or cs i (record { call = TakeBack; line = 0 })).call
 
 -- a buffer holds the first `count` of some numbers, as many of them as it has room for
 abbrev pub HoldsFirst : ℕ → List ℕ → List ℕ → Type 0
@@ -127,14 +127,14 @@ module _ (source : Source) (text : List ℕ) where
     pub stage : r.stage ≡ Sits
     pub opened : r.opened ≡ at
     pub count : r.count ≡ length cs
-    pub sheet : r.sheet ≡ (runTold source o cs).sheet
+    pub sheet : r.sheet ≡ (run_told source o cs).sheet
     -- of every call its mark and the number of its line
-    pub marked : HoldsFirst r.count (marksOf (runTold source o cs).entries) marks
-    pub numbered : HoldsFirst r.count (numbersTold cs) numbers
+    pub marked : HoldsFirst r.count (marks_of (run_told source o cs).entries) marks
+    pub numbered : HoldsFirst r.count (numbers_told cs) numbers
     -- and a byte from which on the text reads as it; so of the open
     pub start : ReadsAt text r.start (line.Open o)
-    pub starts-at :
-        (i : ℕ) → i < r.count → i < length starts → ReadsAt text (get_or starts i 0) (line.Call (callTold cs i))
+    pub starts_at :
+        (i : ℕ) → i < r.count → i < length starts → ReadsAt text (get_or starts i 0) (line.Call (call_told cs i))
 
   -- of what was told
   unfoldable pub GatheredAs : Told → Gathered → List ℕ → List ℕ → List ℕ → Type 0
@@ -144,26 +144,26 @@ module _ (source : Source) (text : List ℕ) where
 
   -- WHAT IS GATHERED from the first k lines of the text
   abbrev pub Gathers : ℕ → Gathered → List ℕ → List ℕ → List ℕ → Type 0
-  Gathers k r marks numbers starts = GatheredAs (toldBy text k) r marks numbers starts
+  Gathers k r marks numbers starts = GatheredAs (told_by text k) r marks numbers starts
 
 -- ---- on the way: nothing below need be believed
 
 -- whether an answer that was handed back is no refusal
-unfoldable pub handedGood : Handed → Bool
-handedGood (handed.Told Accepted) = true
-handedGood (handed.Told (Refused why)) = false
-handedGood (handed.Shown (Points count uses)) = true
-handedGood (handed.Shown (NotShown why)) = false
+unfoldable pub handed_good : Handed → Bool
+handed_good (handed.Told Accepted) = true
+handed_good (handed.Told (Refused why)) = false
+handed_good (handed.Shown (Points count uses)) = true
+handed_good (handed.Shown (NotShown why)) = false
 
-abbrev pub stageOf : Verdict → Stage
-stageOf Accepted = Sits
-stageOf (Refused why) = Ended
+abbrev pub stage_of : Verdict → Stage
+stage_of Accepted = Sits
+stage_of (Refused why) = Ended
 
 -- what is gathered of the open o alone, on line n, which begins at byte s
-unfoldable pub openedAs : WrittenInputs → ℕ → ℕ → Gathered
-openedAs o n s =
-    let first = openOf (inputsWritten o) in
-    record { stage = stageOf first.answer; sheet = first.sheet; count = 0; opened = n; start = s }
+unfoldable pub opened_as : WrittenInputs → ℕ → ℕ → Gathered
+opened_as o n s =
+    let first = open_of (inputs_written o) in
+    record { stage = stage_of first.answer; sheet = first.sheet; count = 0; opened = n; start = s }
 
 -- what is gathered, with the three buffers
 pub record Gathering : Type 0 where
@@ -177,10 +177,10 @@ gathering g marks numbers starts = record { gathered = g; marks = marks; numbers
 
 module _ (source : Source) where
   -- with the call c of line n, which begins at byte s
-  unfoldable pub withCall : WrittenCall → ℕ → ℕ → Gathering → Gathering
-  withCall c n s h =
+  unfoldable pub with_call : WrittenCall → ℕ → ℕ → Gathering → Gathering
+  with_call c n s h =
       let g = h.gathered in
-      let call = called (callWritten c) blank in
+      let call = called (call_written c) blank in
       gathering
       (record {
         stage = Sits;

@@ -4,8 +4,8 @@
 ghost use Rattle.std.specs.Prelude.{◌≡◌, ◌+◌, ◌<◌, length, take};
 ghost use Rattle.io.specs.Counts.{IsPrefixLen};
 ghost use Rattle.worksheet.specs.Showing.{lent_as};
-ghost use Rattle.auditing.specs.Marks.{isDone, isShowing};
-ghost use Rattle.auditing.specs.Accounts.{number_at, deskAt, showingBy, showingAt, fieldPart, cameBy, fieldAccount, balkedBy, fateLine, begunLine, draftAccount, lineAccount, sheetAccount, handedPage};
+ghost use Rattle.auditing.specs.Marks.{is_done, is_showing};
+ghost use Rattle.auditing.specs.Accounts.{number_at, desk_at, showing_by, showing_at, field_part, came_by, field_account, balked_by, fate_line, begun_line, draft_account, line_account, sheet_account, handed_page};
 
 use crate::gathering::line_end;
 use crate::marks::{Fate, Origin, Refused, fate_in, origin_in, refused_in};
@@ -34,7 +34,7 @@ pub enum Showing {
 const PARTS: [u32; 16] = [0, 1, 2, 3, 4, 4, 4, 4, 4, 5, 5, 5, 5, 6, 6, 7];
 
 fn field_part(k: u32) -> u32
-    ensures { result ≡ fieldPart k }
+    ensures { result ≡ field_part k }
 {
     if k < 16 { PARTS[k as usize] } else { 0 }
 }
@@ -46,7 +46,7 @@ pub(crate) fn number_at(numbers: &[usize], p: usize) -> usize
 }
 
 fn desk_at(marks: &[u64], p: usize) -> u32
-    ensures { result ≡ deskAt marks.now p }
+    ensures { result ≡ desk_at marks.now p }
 {
     if p < marks.len() {
         (marks[p] / 32 % 0x1_0000_0000) as u32
@@ -57,20 +57,20 @@ fn desk_at(marks: &[u64], p: usize) -> u32
 
 // Whether a call is a begin that was accepted.
 fn is_begin(mark: u64) -> bool
-    ensures { result ≡ isDone 8 mark }
+    ensures { result ≡ is_done 8 mark }
 {
     mark % 16 == 8 && mark / 16 % 2 == 1
 }
 
 // Whether a call shows the worksheet, whose desk is 0.
 fn is_showing(mark: u64) -> bool
-    ensures { result ≡ isShowing mark }
+    ensures { result ≡ is_showing mark }
 {
     mark % 16 == 12 && mark / 32 == 0
 }
 
 fn showing_by(mark: u64) -> Showing
-    ensures { result ≡ showingBy mark }
+    ensures { result ≡ showing_by mark }
 {
     if is_showing(mark) {
         if mark / 16 % 2 == 1 {
@@ -84,7 +84,7 @@ fn showing_by(mark: u64) -> Showing
 // Whether the last of the `count` calls that were gathered stands on this line and shows the
 // worksheet.
 pub fn showing_at(marks: &[u64], numbers: &[usize], count: usize, line: usize) -> Showing
-    ensures { result ≡ showingAt marks.now numbers.now count line }
+    ensures { result ≡ showing_at marks.now numbers.now count line }
 {
     if count == 0 {
         return Showing::Other;
@@ -101,7 +101,7 @@ pub fn showing_at(marks: &[u64], numbers: &[usize], count: usize, line: usize) -
 
 // An origin with the numbers of lines for places.
 fn came_by(opened: usize, marks: &[u64], numbers: &[usize], origin: Origin) -> Came
-    ensures { result ≡ cameBy opened marks.now numbers.now origin }
+    ensures { result ≡ came_by opened marks.now numbers.now origin }
 {
     match origin {
         Origin::Opened => Came::Opened(opened as u64),
@@ -124,7 +124,7 @@ pub fn field_account(
     k: u32,
     out: &mut [u8; ACCOUNT],
 ) -> usize
-    ensures text { take result out.new ≡ fieldAccount i opened marks.now numbers.now count k }
+    ensures text { take result out.new ≡ field_account i opened marks.now numbers.now count k }
     ensures count { IsPrefixLen result out.new }
 {
     let origin = origin_in(marks, field_part(k), count);
@@ -133,7 +133,7 @@ pub fn field_account(
 }
 
 fn balked_by(numbers: &[usize], refused: Refused) -> Balked
-    ensures { result ≡ balkedBy numbers.now refused }
+    ensures { result ≡ balked_by numbers.now refused }
 {
     match refused {
         Refused::Never => Balked::No,
@@ -150,7 +150,7 @@ fn fate_line(
     fate: Fate,
     out: &mut [u8; ACCOUNT],
 ) -> usize
-    ensures text { take result out.new ≡ fateLine numbers.now n begun balked fate }
+    ensures text { take result out.new ≡ fate_line numbers.now n begun balked fate }
     ensures count { IsPrefixLen result out.new }
 {
     let begun = begun as u64;
@@ -179,7 +179,7 @@ fn begun_line(
     out: &mut [u8; ACCOUNT],
 ) -> usize
     requires { p < length marks.now }
-    ensures text { take result out.new ≡ begunLine marks.now numbers.now count n p }
+    ensures text { take result out.new ≡ begun_line marks.now numbers.now count n p }
     ensures count { IsPrefixLen result out.new }
 {
     let refused = refused_in(marks, n, p + 1, count);
@@ -198,7 +198,7 @@ pub fn draft_account(
     p: usize,
     out: &mut [u8; ACCOUNT],
 ) -> usize
-    ensures text { take result out.new ≡ draftAccount marks.now numbers.now count p }
+    ensures text { take result out.new ≡ draft_account marks.now numbers.now count p }
     ensures count { IsPrefixLen result out.new }
 {
     if p >= marks.len() {
@@ -213,7 +213,7 @@ pub fn draft_account(
 // Writes the line that begins at the byte `start` of a journal's text anew, as it is kept, and
 // gives its length in bytes; nothing where it is no call. Past the text there is an empty line.
 pub fn line_account(text: &[u8], start: usize, out: &mut [u8; WRITTEN]) -> usize
-    ensures text { take result out.new ≡ lineAccount text.now start }
+    ensures text { take result out.new ≡ line_account text.now start }
     ensures count { IsPrefixLen result out.new }
 {
     if start > text.len() {
@@ -230,7 +230,7 @@ fn handed_page(
     figures: &[f32; FIGURES],
     out: &mut [u8; COLUMNS],
 ) -> usize
-    ensures text { take result out.new ≡ handedPage i answer figures.now }
+    ensures text { take result out.new ≡ handed_page i answer figures.now }
     ensures count { IsPrefixLen result out.new }
 {
     match answer {
@@ -246,7 +246,7 @@ fn handed_page(
 // in bytes; nothing where the showing is refused.
 pub fn sheet_account(w: Worksheet, lent: Lent, a: &[u8], b: &[u8], out: &mut [u8; COLUMNS]) -> usize
     ensures text { let source = lent_as lent a.now b.now in
-        take result out.new ≡ sheetAccount source w }
+        take result out.new ≡ sheet_account source w }
     ensures count { IsPrefixLen result out.new }
 {
     let mut figures = [0.0f32; FIGURES];

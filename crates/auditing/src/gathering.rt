@@ -5,10 +5,10 @@ ghost use Rattle.worksheet.specs.Showing.{Source, lent_as};
 ghost use Rattle.worksheet.specs.Journal.{step, entry_of};
 ghost use Rattle.worksheet.specs.Calls.{called};
 ghost use Rattle.wording.specs.declared.line.Line.TheVariants as line;
-ghost use Rattle.wording.specs.Written.{callWritten};
+ghost use Rattle.wording.specs.Written.{call_written};
 ghost use Rattle.listing.specs.Turn.{blank};
 ghost use Rattle.auditing.specs.Marks.{mark_of};
-ghost use Rattle.auditing.specs.Gathered.{line_at, GatheredNone, Gathers, handedGood, stageOf, openedAs, gathering, withCall, GoesOn};
+ghost use Rattle.auditing.specs.Gathered.{line_at, GatheredNone, Gathers, handed_good, stage_of, opened_as, gathering, with_call, GoesOn};
 
 use crate::marks::mark_of;
 use base::refusal::Verdict;
@@ -62,7 +62,7 @@ pub fn line_end(text: &[u8], from: usize) -> usize
 
 // Whether an answer is no refusal.
 fn is_accepted(a: Answer) -> bool
-    ensures { result ≡ handedGood a }
+    ensures { result ≡ handed_good a }
 {
     match a {
         Answer::Told(v) => match v {
@@ -86,9 +86,9 @@ struct Marked {
 // Makes a call, a showing with a buffer of zeros.
 fn made(w: Worksheet, c: WrittenCall, lent: Lent, a: &[u8], b: &[u8]) -> Marked
     ensures sheet { let source = lent_as lent a.now b.now in
-        result.sheet ≡ (step source (called (callWritten c) blank) w).sheet }
+        result.sheet ≡ (step source (called (call_written c) blank) w).sheet }
     ensures mark { let source = lent_as lent a.now b.now in
-        result.mark ≡ mark_of (entry_of source (called (callWritten c) blank) w) }
+        result.mark ≡ mark_of (entry_of source (called (call_written c) blank) w) }
 {
     let call = call_written(c);
     let mut figures = [0.0f32; FIGURES];
@@ -149,7 +149,7 @@ fn ended(g: Gathered) -> Gathered
 }
 
 fn stage_of(v: Verdict) -> Stage
-    ensures { result ≡ stageOf v }
+    ensures { result ≡ stage_of v }
 {
     match v {
         Verdict::Accepted => Stage::Sits,
@@ -159,7 +159,7 @@ fn stage_of(v: Verdict) -> Stage
 
 // The open alone, on line n, which begins at byte s.
 fn opened_as(o: WrittenInputs, n: usize, s: usize) -> Gathered
-    ensures { result ≡ openedAs o n s }
+    ensures { result ≡ opened_as o n s }
 {
     let first = desks::open(inputs_written(o));
     let verdict = first.answer;
@@ -206,7 +206,7 @@ fn with_made(
     ensures { let source = lent_as lent a.now b.now in
         let old = gathering g marks.old numbers.old starts.old in
         let new = gathering result marks.new numbers.new starts.new in
-        new ≡ withCall source c n s old }
+        new ≡ with_call source c n s old }
 {
     let w = g.sheet;
     let k = g.count;

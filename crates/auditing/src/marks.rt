@@ -2,8 +2,8 @@
 // inputs, the fate of each draft and the calls of the shorter list, all by their places.
 ghost use Rattle.std.specs.Prelude.{◌≡◌, List, false, cond, ◌||◌, suc, min, ◌<◌, ◌-◌, length, take, Float};
 ghost use Rattle.worksheet.specs.Calls.{called};
-ghost use Rattle.auditing.specs.Provenance.{editPart};
-ghost use Rattle.auditing.specs.Marks.{sortOf, deskOf, markWith, isDone, isDoneBy, isOwnMark, markAt, changeBefore, originBefore, settledFrom, fateFrom, isRefusedCommit, refusedFrom, ownPlaces, kept_at, keptPlaces, backBefore, broughtBy, pile, given, allGiven, isAlone, isDraftMark, draftPlaces};
+ghost use Rattle.auditing.specs.Provenance.{edit_part};
+ghost use Rattle.auditing.specs.Marks.{sort_of, desk_of, mark_with, is_done, is_done_by, is_own_mark, mark_at, change_before, origin_before, settled_from, fate_from, is_refused_commit, refused_from, own_places, kept_at, kept_places, back_before, brought_by, pile, given, all_given, is_alone, is_draft_mark, draft_places};
 ghost use Rattle.auditing.specs.declared.marks.Origin.TheVariants.{Opened};
 ghost use Rattle.auditing.specs.declared.marks.Refused.TheVariants.{At};
 
@@ -38,7 +38,7 @@ pub enum Refused {
 }
 
 fn part_of(e: Edit) -> u64
-    ensures { result ≡ editPart e }
+    ensures { result ≡ edit_part e }
 {
     match e {
         Edit::Month(_) => 1,
@@ -53,7 +53,7 @@ fn part_of(e: Edit) -> u64
 
 fn mark_with(sort: u64, good: bool, desk: u32) -> u64
     requires { sort < 16 }
-    ensures { result ≡ markWith sort good desk }
+    ensures { result ≡ mark_with sort good desk }
 {
     if good {
         sort + 16 + 32 * (desk as u64)
@@ -65,7 +65,7 @@ fn mark_with(sort: u64, good: bool, desk: u32) -> u64
 // The mark of a call that was accepted or refused; the buffer that it lent does not count.
 pub fn mark_of(call: Call, good: bool) -> u64
     ensures { (lent : List Float) →
-        result ≡ markWith (sortOf (called call lent)) good (deskOf (called call lent)) }
+        result ≡ mark_with (sort_of (called call lent)) good (desk_of (called call lent)) }
 {
     match call {
         Call::Begin(desk) => mark_with(8, good, desk),
@@ -79,25 +79,25 @@ pub fn mark_of(call: Call, good: bool) -> u64
 
 // Past the end there is no call, and no test passes.
 fn mark_at(marks: &[u64], k: usize) -> u64
-    ensures { result ≡ markAt marks.now k }
+    ensures { result ≡ mark_at marks.now k }
 {
     if k < marks.len() { marks[k] } else { 0 }
 }
 
 fn is_done(sort: u64, mark: u64) -> bool
-    ensures { result ≡ isDone sort mark }
+    ensures { result ≡ is_done sort mark }
 {
     mark % 16 == sort && mark / 16 % 2 == 1
 }
 
 fn is_done_by(sort: u64, desk: u64, mark: u64) -> bool
-    ensures { result ≡ isDoneBy sort desk mark }
+    ensures { result ≡ is_done_by sort desk mark }
 {
     is_done(sort, mark) && mark / 32 == desk
 }
 
 fn is_own(desk: u64, mark: u64) -> bool
-    ensures { result ≡ isOwnMark desk mark }
+    ensures { result ≡ is_own_mark desk mark }
 {
     mark / 32 == desk && (mark % 16 == 12 || (mark % 16 < 8 && mark / 16 % 2 == 1))
 }
@@ -105,7 +105,7 @@ fn is_own(desk: u64, mark: u64) -> bool
 // The last accepted change of a part in the desk's draft before place j, which a commit at the
 // place `settled` settled; Opened where its begin, or the start, is met first.
 fn change_in(marks: &[u64], part: u64, desk: u64, settled: usize, j: usize) -> Origin
-    ensures { result ≡ changeBefore marks.now part desk settled Opened j }
+    ensures { result ≡ change_before marks.now part desk settled Opened j }
 {
     let mut k = j;
     while 0 < k {
@@ -123,7 +123,7 @@ fn change_in(marks: &[u64], part: u64, desk: u64, settled: usize, j: usize) -> O
 
 // What the commit at place j brings of its draft, if it is one and stands.
 fn brought_by(marks: &[u64], part: u64, back: bool, j: usize) -> Origin
-    ensures { result ≡ broughtBy marks.now part back j }
+    ensures { result ≡ brought_by marks.now part back j }
 {
     if back {
         return Origin::Opened;
@@ -138,7 +138,7 @@ fn brought_by(marks: &[u64], part: u64, back: bool, j: usize) -> Origin
 
 // Whether the next accepted commit or take-back is a take-back, for the calls before this one.
 fn back_before(back: bool, mark: u64) -> bool
-    ensures { result ≡ backBefore back mark }
+    ensures { result ≡ back_before back mark }
 {
     if is_done(11, mark) {
         return true;
@@ -148,7 +148,7 @@ fn back_before(back: bool, mark: u64) -> bool
 
 // Where a part of the inputs comes from, by the calls before place j.
 pub fn origin_in(marks: &[u64], part: u32, j: usize) -> Origin
-    ensures { result ≡ originBefore marks.now part false j }
+    ensures { result ≡ origin_before marks.now part false j }
 {
     let sort = part as u64;
     let mut back = false;
@@ -165,7 +165,7 @@ pub fn origin_in(marks: &[u64], part: u32, j: usize) -> Origin
 
 // Whether a commit at the place `settled` was taken back, by the calls from `at` to `count`.
 fn settled_in(marks: &[u64], settled: usize, at: usize, count: usize) -> Fate
-    ensures { result ≡ settledFrom marks.now settled at (count - at) }
+    ensures { result ≡ settled_from marks.now settled at (count - at) }
 {
     let mut k = at;
     while k < count {
@@ -183,7 +183,7 @@ fn settled_in(marks: &[u64], settled: usize, at: usize, count: usize) -> Fate
 
 // What became of desk n's draft, by the calls from `at` to `count`.
 pub fn fate_in(marks: &[u64], n: u32, at: usize, count: usize) -> Fate
-    ensures { result ≡ fateFrom marks.now n at (count - at) }
+    ensures { result ≡ fate_from marks.now n at (count - at) }
 {
     let desk = n as u64;
     let mut k = at;
@@ -202,13 +202,13 @@ pub fn fate_in(marks: &[u64], n: u32, at: usize, count: usize) -> Fate
 
 // Whether an accepted cancel or commit ends the desk's draft.
 fn is_end(desk: u64, mark: u64) -> bool
-    ensures { result ≡ (isDoneBy 10 desk mark || isDoneBy 9 desk mark) }
+    ensures { result ≡ (is_done_by 10 desk mark || is_done_by 9 desk mark) }
 {
     is_done_by(10, desk, mark) || is_done_by(9, desk, mark)
 }
 
 fn is_refused_commit(desk: u64, mark: u64) -> bool
-    ensures { result ≡ isRefusedCommit desk mark }
+    ensures { result ≡ is_refused_commit desk mark }
 {
     if mark % 16 == 9 {
         if mark / 16 % 2 == 1 {
@@ -221,7 +221,7 @@ fn is_refused_commit(desk: u64, mark: u64) -> bool
 
 // The call at place k where it is a refused commit, else the last one before it.
 fn last_refused(last: Refused, desk: u64, mark: u64, k: usize) -> Refused
-    ensures { result ≡ cond (isRefusedCommit desk mark) (At k) last }
+    ensures { result ≡ cond (is_refused_commit desk mark) (At k) last }
 {
     if is_refused_commit(desk, mark) {
         Refused::At(k)
@@ -232,7 +232,7 @@ fn last_refused(last: Refused, desk: u64, mark: u64, k: usize) -> Refused
 
 // Where the commit of desk n's draft was last refused, by the calls from `at` to `count`.
 pub fn refused_in(marks: &[u64], n: u32, at: usize, count: usize) -> Refused
-    ensures { result ≡ refusedFrom marks.now n Refused.Never at (count - at) }
+    ensures { result ≡ refused_from marks.now n Refused.Never at (count - at) }
 {
     let desk = n as u64;
     let mut last = Refused::Never;
@@ -270,7 +270,7 @@ fn push_if(wanted: bool, out: &mut [usize], size: usize, place: usize) -> usize
 
 // A begin of the desk's, or what belongs to its draft.
 fn is_draft(desk: u64, mark: u64) -> bool
-    ensures { result ≡ isDraftMark desk mark }
+    ensures { result ≡ is_draft_mark desk mark }
 {
     is_done_by(8, desk, mark) || is_own(desk, mark)
 }
@@ -279,7 +279,7 @@ fn is_draft(desk: u64, mark: u64) -> bool
 // of the desk is of this one.
 fn begin_before(marks: &[u64], desk: u64, j: usize) -> usize
     ensures { let ms = marks.now in
-        ownPlaces ms desk j ≡ draftPlaces ms desk result (j - result) }
+        own_places ms desk j ≡ draft_places ms desk result (j - result) }
 {
     let mut k = j;
     while 0 < k {
@@ -293,8 +293,8 @@ fn begin_before(marks: &[u64], desk: u64, j: usize) -> usize
 
 // The desk's draft before place j: its begin and what belongs to it, upwards.
 fn push_own(marks: &[u64], desk: u64, j: usize, out: &mut [usize], size: usize) -> usize
-    ensures { let own = ownPlaces marks.now desk j in
-        pile result out.new ≡ allGiven own (pile size out.old) }
+    ensures { let own = own_places marks.now desk j in
+        pile result out.new ≡ all_given own (pile size out.old) }
 {
     let mut k = begin_before(marks, desk, j);
     let mut n = size;
@@ -308,7 +308,7 @@ fn push_own(marks: &[u64], desk: u64, j: usize, out: &mut [usize], size: usize) 
 
 // A take-back or a showing of the worksheet, which the shorter list has where it stands.
 fn is_alone(mark: u64) -> bool
-    ensures { result ≡ isAlone mark }
+    ensures { result ≡ is_alone mark }
 {
     is_done(11, mark) || (mark % 16 == 12 && mark / 32 == 0)
 }
@@ -316,7 +316,7 @@ fn is_alone(mark: u64) -> bool
 // What the shorter list has for the call at place j.
 fn push_kept(marks: &[u64], j: usize, out: &mut [usize], size: usize) -> usize
     ensures { let kept = kept_at marks.now j in
-        pile result out.new ≡ allGiven kept (pile size out.old) }
+        pile result out.new ≡ all_given kept (pile size out.old) }
 {
     let mark = mark_at(marks, j);
     if is_done(9, mark) {
@@ -329,9 +329,9 @@ fn push_kept(marks: &[u64], j: usize, out: &mut [usize], size: usize) -> usize
 // The places of the shorter list's calls, of `count` calls in all, as many as the buffer holds. The
 // result is how many there are, or one more than fit where they do not.
 pub fn kept_in(marks: &[u64], count: usize, out: &mut [usize]) -> usize
-    ensures size { let kept = keptPlaces marks.now count in
+    ensures size { let kept = kept_places marks.now count in
         result ≡ min (length kept) (suc (length out.old)) }
-    ensures places { let kept = keptPlaces marks.now count in
+    ensures places { let kept = kept_places marks.now count in
         let n = min result (length out.old) in
         take n out.new ≡ take n kept }
     ensures room { length out.new ≡ length out.old }

@@ -2,8 +2,8 @@
 ghost use Rattle.std.specs.Prelude.{◌≡◌, true, false, cond, [], suc, ◌<◌, ◌≤◌, leb, length, take};
 ghost use Rattle.io.specs.Counts.{IsPrefixLen};
 ghost use Rattle.worksheet.specs.Showing.{lent_as};
-ghost use Rattle.listing.specs.Account.{noneLine};
-ghost use Rattle.auditing.specs.Page.{noDrafts, sheetParts, shorterParts, draftsParts, pageSize, fieldsPart, sheetPart, shorterPart, draftsPart, pagePart};
+ghost use Rattle.listing.specs.Account.{none_line};
+ghost use Rattle.auditing.specs.Page.{no_drafts, sheet_parts, shorter_parts, drafts_parts, page_size, fields_part, sheet_part, shorter_part, drafts_part, page_part};
 
 use crate::accounts::{draft_account, field_account, line_account, number_at, sheet_account};
 use crate::gathering::Gathered;
@@ -42,7 +42,7 @@ fn fields_part(
     out: &mut [u8; COLUMNS],
 ) -> usize
     requires { k < 16 }
-    ensures text { take result out.new ≡ fieldsPart line g marks.now numbers.now k }
+    ensures text { take result out.new ≡ fields_part line g marks.now numbers.now k }
     ensures count { IsPrefixLen result out.new }
 {
     if k == 0 {
@@ -55,7 +55,7 @@ fn fields_part(
 
 // Whether no draft has a line.
 fn no_drafts(marks: &[u64], numbers: &[usize], count: usize) -> bool
-    ensures { result ≡ noDrafts marks.now numbers.now count }
+    ensures { result ≡ no_drafts marks.now numbers.now count }
 {
     let mut piece = [0u8; ACCOUNT];
     let mut p: usize = 0;
@@ -70,8 +70,8 @@ fn no_drafts(marks: &[u64], numbers: &[usize], count: usize) -> bool
 
 // What stands in the place of the drafts' lines: nothing where there are any.
 fn none_part(marks: &[u64], numbers: &[usize], count: usize, out: &mut [u8; COLUMNS]) -> usize
-    ensures text { let none = noDrafts marks.now numbers.now count in
-        take result out.new ≡ cond none noneLine [] }
+    ensures text { let none = no_drafts marks.now numbers.now count in
+        take result out.new ≡ cond none none_line [] }
     ensures count { IsPrefixLen result out.new }
 {
     if no_drafts(marks, numbers, count) {
@@ -90,8 +90,8 @@ fn sheet_part(
     out: &mut [u8; COLUMNS],
 ) -> Part
     ensures text { let source = lent_as lent a.now b.now in
-        take result.size out.new ≡ sheetPart source g k }
-    ensures last { result.last ≡ leb sheetParts (suc k) }
+        take result.size out.new ≡ sheet_part source g k }
+    ensures last { result.last ≡ leb sheet_parts (suc k) }
     ensures count { IsPrefixLen result.size out.new }
 {
     if k == 0 {
@@ -138,8 +138,8 @@ fn shorter_part(
 ) -> Part
     ensures text { let source = lent_as lent a.now b.now in
         let s = text.now in
-        take result.size out.new ≡ shorterPart source s g starts.now places.now size k }
-    ensures last { result.last ≡ leb (shorterParts size) (suc k) }
+        take result.size out.new ≡ shorter_part source s g starts.now places.now size k }
+    ensures last { result.last ≡ leb (shorter_parts size) (suc k) }
     ensures count { IsPrefixLen result.size out.new }
 {
     if k == 0 {
@@ -176,8 +176,8 @@ fn drafts_part(
         let ns = numbers.now in
         let ss = starts.now in
         let ps = places.now in
-        take result.size out.new ≡ draftsPart source text.now g ms ns ss ps size k }
-    ensures last { result.last ≡ leb (draftsParts g.count size) (suc k) }
+        take result.size out.new ≡ drafts_part source text.now g ms ns ss ps size k }
+    ensures last { result.last ≡ leb (drafts_parts g.count size) (suc k) }
     ensures count { IsPrefixLen result.size out.new }
 {
     if k == 0 {
@@ -218,8 +218,8 @@ pub fn page_part(
         let ns = numbers.now in
         let ss = starts.now in
         let ps = places.now in
-        take result.size out.new ≡ pagePart source text.now g ms ns ss ps size line k }
-    ensures last { result.last ≡ leb (pageSize g.count size) (suc k) }
+        take result.size out.new ≡ page_part source text.now g ms ns ss ps size line k }
+    ensures last { result.last ≡ leb (page_size g.count size) (suc k) }
     ensures count { IsPrefixLen result.size out.new }
 {
     if k < 16 {

@@ -4,8 +4,8 @@ use Rattle.base.specs.declared.angle.Radians.{Radians}
 use Rattle.base.specs.Single.{◌⊗◌}
 use Rattle.base.specs.Constants.{D2R, R2D}
 
-unfoldable pub radiansOf : Degrees → Radians
-radiansOf d = record { 0 = d.0 ⊗ D2R }
+unfoldable pub radians_of : Degrees → Radians
+radians_of d = record { 0 = d.0 ⊗ D2R }
 
-unfoldable pub degreesOf : Radians → Degrees
-degreesOf a = record { 0 = a.0 ⊗ R2D }
+unfoldable pub degrees_of : Radians → Degrees
+degrees_of a = record { 0 = a.0 ⊗ R2D }

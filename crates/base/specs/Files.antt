@@ -4,26 +4,26 @@ use Rattle.base.specs.declared.refusal.Verdict.{Verdict}
 use Rattle.base.specs.declared.refusal.Verdict.TheVariants.{Refused}
 use Rattle.base.specs.declared.refusal.Refusal.TheVariants.{Record}
 use Rattle.base.specs.Refusal.{◌then◌}
-use Rattle.base.specs.MonthFile.{recordSize, monthRecordCheck, monthFileCheck}
-use Rattle.base.specs.Finite.{recordWordsCheck, tableWordsCheck}
-use Rattle.base.specs.Index.{indexCheck}
+use Rattle.base.specs.MonthFile.{record_size, month_record_check, month_file_check}
+use Rattle.base.specs.Finite.{record_words_check, table_words_check}
+use Rattle.base.specs.Index.{index_check}
 
 -- of the index table by itself, which has no f32: '9, 10, 11'
-unfoldable pub indexFileCheck : List ℕ → Verdict
-indexFileCheck month = monthFileCheck month then indexCheck month
+unfoldable pub index_file_check : List ℕ → Verdict
+index_file_check month = month_file_check month then index_check month
 
 -- '9, 10, 11', and 23 'after 10 and before 11'
-unfoldable pub fileCheck : List ℕ → Verdict
-fileCheck month = monthFileCheck month then tableWordsCheck month then indexCheck month
+unfoldable pub file_check : List ℕ → Verdict
+file_check month = month_file_check month then table_words_check month then index_check month
 
 -- '8 (F2 record under 7,904 bytes), 9, 10, 11', and 23 between the last two, 'the record first'
-unfoldable pub filesCheck : List ℕ → List ℕ → Verdict
-filesCheck f2 month =
-    cond (nat_le recordSize (length f2))
-    (monthFileCheck month then recordWordsCheck f2 1 then tableWordsCheck month then indexCheck month)
+unfoldable pub files_check : List ℕ → List ℕ → Verdict
+files_check f2 month =
+    cond (nat_le record_size (length f2))
+    (month_file_check month then record_words_check f2 1 then table_words_check month then index_check month)
     (Refused Record)
 
 -- of a `.daw` file that is to have the records of all months: 8, and 23 by any of their words, the
 -- place counting from the file's start
-unfoldable pub dawCheck : List ℕ → Verdict
-dawCheck daw = monthRecordCheck daw 12 then recordWordsCheck daw 12
+unfoldable pub daw_check : List ℕ → Verdict
+daw_check daw = month_record_check daw 12 then record_words_check daw 12

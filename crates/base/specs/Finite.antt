@@ -14,28 +14,28 @@ use Rattle.base.specs.Tables.{Table, words_in, tables, start_of, words_of, xf2co
 
 -- '23, place the first such word's byte': of n words from the byte `at` on, refused as `why` says of
 -- that byte
-unfoldable pub wordsCheck : (ℕ → Refusal) → List ℕ → ℕ → ℕ → Verdict
-wordsCheck why s at zero = Accepted
-wordsCheck why s at (suc n) = cond (finite (float_at s at)) (wordsCheck why s (at + 4) n) (Refused (why at))
+unfoldable pub words_check : (ℕ → Refusal) → List ℕ → ℕ → ℕ → Verdict
+words_check why s at zero = Accepted
+words_check why s at (suc n) = cond (finite (float_at s at)) (words_check why s (at + 4) n) (Refused (why at))
 
 -- 'every f32 word of the record': of so many records, one after the other
-unfoldable pub recordWordsCheck : List ℕ → ℕ → Verdict
-recordWordsCheck daw months = wordsCheck RecordWord daw (start_of xf2cof) (months * words_of xf2cof)
+unfoldable pub record_words_check : List ℕ → ℕ → Verdict
+record_words_check daw months = words_check RecordWord daw (start_of xf2cof) (months * words_of xf2cof)
 
 -- the tables of the month file that are of f32: all but the first, `ikim`, whose words are whole
 -- numbers
-abbrev pub floatTables : List Table
-floatTables = drop 1 tables
+abbrev pub float_tables : List Table
+float_tables = drop 1 tables
 
-unfoldable pub eachCheck : List ℕ → List Table → Verdict
-eachCheck month [] = Accepted
-eachCheck month (t ∷ ts) = wordsCheck MonthWord month t.from (words_in t) then eachCheck month ts
+unfoldable pub each_check : List ℕ → List Table → Verdict
+each_check month [] = Accepted
+each_check month (t ∷ ts) = words_check MonthWord month t.from (words_in t) then each_check month ts
 
 -- 'and of the month file's tables, used or not': table after table, so that no marker counts
-unfoldable pub tableWordsCheck : List ℕ → Verdict
-tableWordsCheck month = eachCheck month floatTables
+unfoldable pub table_words_check : List ℕ → Verdict
+table_words_check month = each_check month float_tables
 
--- ---- what an accepted check says (`record-finite`, `tables-finite`)
+-- ---- what an accepted check says (`record_finite`, `tables_finite`)
 
 -- every word of the record is a finite number
 pub record FiniteRecord (f2 : List ℕ) : Type 0 where
@@ -49,11 +49,11 @@ pub record FiniteMonth (month : List ℕ) : Type 0 where
 
 -- the byte of the first of n words from `at` on that is no finite number; the byte behind them where
 -- all are
-unfoldable pub firstOther : List ℕ → ℕ → ℕ → ℕ
-firstOther s at zero = at
-firstOther s at (suc n) = cond (finite (float_at s at)) (firstOther s (at + 4) n) at
+unfoldable pub first_other : List ℕ → ℕ → ℕ → ℕ
+first_other s at zero = at
+first_other s at (suc n) = cond (finite (float_at s at)) (first_other s (at + 4) n) at
 
 -- whether all n words from `at` on are finite, the last one being looked at last
-unfoldable pub allFinite : List ℕ → ℕ → ℕ → Bool
-allFinite s at zero = true
-allFinite s at (suc n) = allFinite s at n && finite (float_at s (at + 4 * n))
+unfoldable pub all_finite : List ℕ → ℕ → ℕ → Bool
+all_finite s at zero = true
+all_finite s at (suc n) = all_finite s at n && finite (float_at s (at + 4 * n))

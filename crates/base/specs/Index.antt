@@ -5,18 +5,18 @@ use Rattle.base.specs.declared.refusal.Refusal.TheVariants.{Index}
 use Rattle.base.specs.declared.refusal.Verdict.{Verdict}
 use Rattle.base.specs.declared.refusal.Verdict.TheVariants.{Accepted, Refused}
 use Rattle.base.specs.Fill.{tabulate}
-use Rattle.base.specs.Words.{word_at, integerAt}
+use Rattle.base.specs.Words.{word_at, integer_at}
 use Rattle.base.specs.Tables.{ikim, start_of, words_of}
 
 -- ---- the words
 
 -- where the word j of the map k stands, both counted from 0: a row of `ikim` has 10 words
-abbrev pub ikimPlace : ℕ → ℕ → ℕ
-ikimPlace k j = start_of ikim + (k * 10 + j) * 4
+abbrev pub ikim_place : ℕ → ℕ → ℕ
+ikim_place k j = start_of ikim + (k * 10 + j) * 4
 
 -- the word as the Rust reads it, signed
-abbrev pub ikimAt : List ℕ → ℕ → ℕ → ℤ
-ikimAt month k j = integerAt month (ikimPlace k j)
+abbrev pub ikim_at : List ℕ → ℕ → ℕ → ℤ
+ikim_at month k j = integer_at month (ikim_place k j)
 
 -- the 60 words of `ikim`, unsigned
 unfoldable pub index_of : List ℕ → List ℕ
@@ -32,8 +32,8 @@ abbrev pub harmonics : List ℕ
 harmonics = 2 ∷ 3 ∷ 2 ∷ 6 ∷ 4 ∷ 4 ∷ []
 
 -- z is a to b
-abbrev pub isWholeTo : ℕ → ℕ → ℤ → Bool
-isWholeTo a b z = int_le (pos a) z && int_le z (pos b)
+abbrev pub is_whole_to : ℕ → ℕ → ℤ → Bool
+is_whole_to a b z = int_le (pos a) z && int_le z (pos b)
 
 abbrev pub equals : ℤ → ℤ → Bool
 equals y z = int_le y z && int_le z y
@@ -50,20 +50,20 @@ climbs w (suc n) j = cond (equals (w j) (w (j + 1))) true (exceeds (w j) (w (j +
 
 -- 'word 8 is 0 to rows - 1; word 9 is 0 to the harmonics; word 0 is 1 to 75; each of words 1 to 8
 -- ..'
-unfoldable pub goodMap : (ℕ → ℤ) → ℕ → ℕ → Bool
-goodMap w rows harmonics =
-    isWholeTo 0 (rows - 1) (w 8) && (isWholeTo 0 harmonics (w 9) && (isWholeTo 1 75 (w 0) && climbs w 8 0))
+unfoldable pub good_map : (ℕ → ℤ) → ℕ → ℕ → Bool
+good_map w rows harmonics =
+    is_whole_to 0 (rows - 1) (w 8) && (is_whole_to 0 harmonics (w 9) && (is_whole_to 1 75 (w 0) && climbs w 8 0))
 
 -- 'place the lowest bad map 1 to 6': of n maps, the first one being the map k, counted from 0
-unfoldable pub lowestBad : List ℕ → ℕ → ℕ → Verdict
-lowestBad month zero k = Accepted
-lowestBad month (suc n) k =
-    cond (goodMap (ikimAt month k) (slice_index rows k) (slice_index harmonics k))
-    (lowestBad month n (k + 1))
+unfoldable pub lowest_bad : List ℕ → ℕ → ℕ → Verdict
+lowest_bad month zero k = Accepted
+lowest_bad month (suc n) k =
+    cond (good_map (ikim_at month k) (slice_index rows k) (slice_index harmonics k))
+    (lowest_bad month n (k + 1))
     (Refused (Index (k + 1)))
 
-unfoldable pub indexCheck : List ℕ → Verdict
-indexCheck month = lowestBad month 6 0
+unfoldable pub index_check : List ℕ → Verdict
+index_check month = lowest_bad month 6 0
 
 -- ---- what a map that is not bad gives, over its words as natural numbers
 
@@ -88,5 +88,5 @@ abbrev pub Reaches : (ℕ → ℕ) → ℕ → Type 0
 Reaches w j = (i : ℕ) → i < j → w (i + 1) ≢ w i
 
 -- the word j of the map k among the 60
-abbrev pub mapWord : List ℕ → ℕ → ℕ → ℕ
-mapWord index k j = slice_index index (k * 10 + j)
+abbrev pub map_word : List ℕ → ℕ → ℕ → ℕ
+map_word index k j = slice_index index (k * 10 + j)

@@ -5,19 +5,19 @@ use Rattle.std.specs.Borrow.{Bor}
 use Rattle.base.specs.declared.refusal.Refusal.TheVariants.{Record, Ended, Marker}
 use Rattle.base.specs.declared.refusal.Verdict.{Verdict}
 use Rattle.base.specs.declared.refusal.Verdict.TheVariants.{Accepted, Refused}
-use Rattle.base.specs.Refusal.{refuseUnless, ◌then◌, isAccepted}
-use Rattle.base.specs.Ranges.{monthCheck}
+use Rattle.base.specs.Refusal.{refuse_unless, ◌then◌, is_accepted}
+use Rattle.base.specs.Ranges.{month_check}
 use Rattle.base.specs.Words.{word_at}
 
 -- ---- lengths
 
--- the bytes of an F2 record, which are those of its planes (`planes-fill`)
-abbrev pub recordSize : ℕ
-recordSize = 7904
+-- the bytes of an F2 record, which are those of its planes (`planes_fill`)
+abbrev pub record_size : ℕ
+record_size = 7904
 
--- 'in all 38,552 bytes': the nine records with their markers (`tables-packed`)
-abbrev pub monthFileSize : ℕ
-monthFileSize = 38552
+-- 'in all 38,552 bytes': the nine records with their markers (`tables_packed`)
+abbrev pub month_file_size : ℕ
+month_file_size = 38552
 
 -- ---- a part of a lent file
 
@@ -26,8 +26,8 @@ pub record Part : Type 0 where
   pub size : ℕ
 
 -- 'the part handed back is empty, at the start'
-abbrev pub emptyPart : Part
-emptyPart = record { from = 0; size = 0 }
+abbrev pub empty_part : Part
+empty_part = record { from = 0; size = 0 }
 
 -- x is the part p of the lent file s: its bytes, and where they lie
 pub record IsPart (p : Part) (s x : Bor (List ℕ)) : Type 0 where
@@ -38,16 +38,16 @@ pub record IsPart (p : Part) (s x : Bor (List ℕ)) : Type 0 where
 -- ---- Month record
 
 -- 'refuses 1 (place 1), then 8 if the file has under month × 7,904 bytes'
-unfoldable pub monthRecordCheck : List ℕ → ℕ → Verdict
-monthRecordCheck s month = monthCheck month then refuseUnless (nat_le (month * recordSize) (length s)) Record
+unfoldable pub month_record_check : List ℕ → ℕ → Verdict
+month_record_check s month = month_check month then refuse_unless (nat_le (month * record_size) (length s)) Record
 
-abbrev pub monthStart : ℕ → ℕ
-monthStart month = (month - 1) * recordSize
+abbrev pub month_start : ℕ → ℕ
+month_start month = (month - 1) * record_size
 
 -- 'It hands back those 7,904 bytes from (month - 1) × 7,904'
-unfoldable pub monthPart : List ℕ → ℕ → Part
-monthPart s month =
-    cond (isAccepted (monthRecordCheck s month)) (record { from = monthStart month; size = recordSize }) emptyPart
+unfoldable pub month_part : List ℕ → ℕ → Part
+month_part s month =
+    cond (is_accepted (month_record_check s month)) (record { from = month_start month; size = record_size }) empty_part
 
 -- ---- Month file
 
@@ -64,9 +64,9 @@ unfoldable pub layout : List ℕ → List Four
 layout [] = []
 layout (n ∷ ns) = marker n ∷ (replicate (n / 4) anything ++ (marker n ∷ layout ns))
 
-abbrev pub isRight : List ℕ → ℕ → Four → Bool
-isRight s at (marker n) = word_at s at == n
-isRight s at anything = true
+abbrev pub is_right : List ℕ → ℕ → Four → Bool
+is_right s at (marker n) = word_at s at == n
+is_right s at anything = true
 
 -- 'The walk goes in fours: 9 if four bytes are not there, 10 at a wrong marker, whichever comes
 -- first, with its byte place'
@@ -74,14 +74,14 @@ unfoldable pub walk : List ℕ → ℕ → List Four → Verdict
 walk s at [] = Accepted
 walk s at (f ∷ fs) =
     cond (nat_le (at + 4) (length s))
-    (cond (isRight s at f) (walk s (at + 4) fs) (Refused (Marker at)))
+    (cond (is_right s at f) (walk s (at + 4) fs) (Refused (Marker at)))
     (Refused (Ended at))
 
 -- 'later bytes are ignored'
-unfoldable pub monthFileCheck : List ℕ → Verdict
-monthFileCheck s = walk s 0 (layout sizes)
+unfoldable pub month_file_check : List ℕ → Verdict
+month_file_check s = walk s 0 (layout sizes)
 
--- ---- the same check without the walk (`month-file-good`)
+-- ---- the same check without the walk (`month_file_good`)
 
 -- from `at` on stand records of the sizes ns, each between two markers of its size
 abbrev pub Marked : List ℕ → ℕ → List ℕ → Type 0
@@ -90,7 +90,7 @@ Marked s at (n ∷ ns) = (word_at s at ≡ n) × (word_at s (at + n + 4) ≡ n) 
 
 -- all 38,552 bytes are there, and the 18 markers are right
 pub record WellMarked (s : List ℕ) : Type 0 where
-  pub whole : monthFileSize ≤ length s
+  pub whole : month_file_size ≤ length s
   pub marks : Marked s 0 sizes
 
 -- the first 17 markers are right: those of eight records, and the one that opens the ninth

@@ -16,8 +16,8 @@ negative (inf s) = s
 negative (fin s m e) = s
 
 -- the size of x: that of -0 is +0
-unfoldable pub absOf : Float → Float
-absOf x = cond (negative x) (neg x) x
+unfoldable pub abs_of : Float → Float
+abs_of x = cond (negative x) (neg x) x
 
 -- w, turned where v has a sign
 unfoldable pub with_sign : Float → Float → Float
@@ -26,18 +26,18 @@ with_sign v w = cond (negative v) (neg w) w
 -- ---- document 01, Figures: 'Where `min` or `max` meets one NaN it gives the other operand; of
 -- equals, the left'
 
-unfoldable pub minOf : Float → Float → Float
-minOf a b = cond (is_nan a) b (cond (lt b a) b a)
+unfoldable pub min_of : Float → Float → Float
+min_of a b = cond (is_nan a) b (cond (lt b a) b a)
 
 unfoldable pub max_of : Float → Float → Float
 max_of a b = cond (is_nan a) b (cond (lt a b) b a)
 
 -- ---- an `f64` as the nearest `f32`, a tie going to the even one
 
-unfoldable pub narrowOf : Float → Float
-narrowOf nan = nan
-narrowOf (inf s) = inf s
-narrowOf (fin s m e) = round binary32 s (m * up e) (down e)
+unfoldable pub narrow_of : Float → Float
+narrow_of nan = nan
+narrow_of (inf s) = inf s
+narrow_of (fin s m e) = round binary32 s (m * up e) (down e)
 
 -- ---- the signed number of 32 bits
 
@@ -48,40 +48,40 @@ signed_of w = cond (nat_lt w (2 ^ 31)) (pos w) (negsuc (2 ^ 32 - suc w))
 -- ---- the square root, by whole numbers: there is no real number here
 
 -- the whole part of √n, for an n below 4 ^ k: the root of n / 4, doubled, or one more
-unfoldable pub rootIn : ℕ → ℕ → ℕ
-rootIn zero n = 0
-rootIn (suc k) n = let r = 2 * rootIn k (n / 4) in cond (nat_le ((r + 1) * (r + 1)) n) (r + 1) r
+unfoldable pub root_in : ℕ → ℕ → ℕ
+root_in zero n = 0
+root_in (suc k) n = let r = 2 * root_in k (n / 4) in cond (nat_le ((r + 1) * (r + 1)) n) (r + 1) r
 
 unfoldable pub root : ℕ → ℕ
-unfolding rootIn
-root n = rootIn (size n) n
+unfolding root_in
+root n = root_in (size n) n
 
 -- √(a / b) to the nearest whole number: by how it compares with the middle of its whole part and
 -- the next number
-unfoldable pub closestRoot : ℕ → ℕ → ℕ
+unfoldable pub closest_root : ℕ → ℕ → ℕ
 unfolding root
-closestRoot a b = let q = root (a / b) in nearest q (compare (a * 4) ((2 * q + 1) * (2 * q + 1) * b))
+closest_root a b = let q = root (a / b) in nearest q (compare (a * 4) ((2 * q + 1) * (2 * q + 1) * b))
 
 -- The value of the format f that is nearest to √(num / den), as `round` is of num / den. In units
 -- of f's smallest value the root is √(n / den). Of its whole part the format keeps the `prec`
 -- leading digits and drops k.
 unfoldable pub rounded : Format → ℕ → ℕ → Float
-unfolding closestRoot
+unfolding closest_root
 rounded f num den =
     let n = num * 4 ^ low f in
     let k = size (root (n / den)) - prec f in
-    units f false (closestRoot n (den * 4 ^ k)) k
+    units f false (closest_root n (den * 4 ^ k)) k
 
 -- IEEE 754's square root in the format f. The root of -0 is -0, and that of any other number below
 -- zero is no number.
-unfoldable pub sqrtOf : Format → Float → Float
+unfoldable pub sqrt_of : Format → Float → Float
 unfolding rounded
-sqrtOf f nan = nan
-sqrtOf f (inf true) = nan
-sqrtOf f (inf false) = inf false
-sqrtOf f (fin s zero e) = fin s zero e
-sqrtOf f (fin true (suc m) e) = nan
-sqrtOf f (fin false (suc m) e) = rounded f (suc m * up e) (down e)
+sqrt_of f nan = nan
+sqrt_of f (inf true) = nan
+sqrt_of f (inf false) = inf false
+sqrt_of f (fin s zero e) = fin s zero e
+sqrt_of f (fin true (suc m) e) = nan
+sqrt_of f (fin false (suc m) e) = rounded f (suc m * up e) (down e)
 
 -- ---- what the root is, said without the steps that find it
 

@@ -22,5 +22,5 @@ unfoldable pub decimal : ℕ → ℕ → Float
 decimal n k = round binary32 false n (10 ^ k)
 
 -- the `f32` nearest to -n / 10 ^ k
-unfoldable pub minusDecimal : ℕ → ℕ → Float
-minusDecimal n k = round binary32 true n (10 ^ k)
+unfoldable pub minus_decimal : ℕ → ℕ → Float
+minus_decimal n k = round binary32 true n (10 ^ k)

@@ -6,8 +6,8 @@ use Rattle.std.specs.Borrow.{Bor}
 use Rattle.base.specs.declared.refusal.Refusal.TheVariants.{Record, Table as NoTable}
 use Rattle.base.specs.declared.refusal.Verdict.{Verdict}
 use Rattle.base.specs.declared.refusal.Verdict.TheVariants.{Refused}
-use Rattle.base.specs.Refusal.{isAccepted}
-use Rattle.base.specs.MonthFile.{Part, emptyPart, recordSize, sizes, monthFileCheck}
+use Rattle.base.specs.Refusal.{is_accepted}
+use Rattle.base.specs.MonthFile.{Part, empty_part, record_size, sizes, month_file_check}
 
 -- ---- shapes
 
@@ -36,8 +36,8 @@ shapes =
     ∷ []
 
 -- the F2 record is `XF2COF(13,76,2)` and nothing else
-abbrev pub f2Shape : List ℕ
-f2Shape = 13 ∷ 76 ∷ 2 ∷ []
+abbrev pub f2_shape : List ℕ
+f2_shape = 13 ∷ 76 ∷ 2 ∷ []
 
 -- ---- places
 
@@ -54,39 +54,39 @@ abbrev pub words_in : Table → ℕ
 words_in t = product t.shape
 
 -- the tables of a record whose body starts at `at`, one after the other
-abbrev pub inRecord : ℕ → List (List ℕ) → List Table
-inRecord at [] = []
-inRecord at (d ∷ ds) = record { from = at; shape = d } ∷ inRecord (at + 4 * product d) ds
+abbrev pub in_record : ℕ → List (List ℕ) → List Table
+in_record at [] = []
+in_record at (d ∷ ds) = record { from = at; shape = d } ∷ in_record (at + 4 * product d) ds
 
 -- those of each record, the first one's marker being at `at`: a record's body stands between two
 -- markers
-abbrev pub inRecords : ℕ → List ℕ → List (List (List ℕ)) → List (List Table)
-inRecords at [] rs = []
-inRecords at (n ∷ ns) [] = []
-inRecords at (n ∷ ns) (r ∷ rs) = inRecord (at + 4) r ∷ inRecords (at + n + 8) ns rs
+abbrev pub in_records : ℕ → List ℕ → List (List (List ℕ)) → List (List Table)
+in_records at [] rs = []
+in_records at (n ∷ ns) [] = []
+in_records at (n ∷ ns) (r ∷ rs) = in_record (at + 4) r ∷ in_records (at + n + 8) ns rs
 
-abbrev pub tablesByRecord : List (List Table)
-tablesByRecord = inRecords 0 sizes shapes
+abbrev pub tables_by_record : List (List Table)
+tables_by_record = in_records 0 sizes shapes
 
 abbrev pub joined : List (List Table) → List Table
 joined [] = []
 joined (ts ∷ rs) = ts ++ joined rs
 
 abbrev pub tables : List Table
-tables = joined tablesByRecord
+tables = joined tables_by_record
 
 -- ---- by number
 
 -- 'number 0 (F2 planes)', then '1 to 20 (`ikim` to `xercof` in file order)'
 abbrev pub numbered : List Table
-numbered = record { from = 0; shape = f2Shape } ∷ tables
+numbered = record { from = 0; shape = f2_shape } ∷ tables
 
 -- a number above 20 has no words
-abbrev pub noSuchTable : Table
-noSuchTable = record { from = 0; shape = 0 ∷ [] }
+abbrev pub no_such_table : Table
+no_such_table = record { from = 0; shape = 0 ∷ [] }
 
 abbrev pub table_of : ℕ → Table
-table_of number = slice_index_or numbered number noSuchTable
+table_of number = slice_index_or numbered number no_such_table
 
 abbrev pub start_of : ℕ → ℕ
 start_of number = (table_of number).from
@@ -95,8 +95,8 @@ abbrev pub words_of : ℕ → ℕ
 words_of number = words_in (table_of number)
 
 -- the words of one plane of a table that has two, one at each sunspot number
-abbrev pub planeOf : ℕ → ℕ
-planeOf number = words_of number / 2
+abbrev pub plane_of : ℕ → ℕ
+plane_of number = words_of number / 2
 
 -- the file that holds the table of a number
 abbrev pub holding : {A : Type 0} → ℕ → A → A → A
@@ -160,12 +160,12 @@ pub record HasEntry (number i j k : ℕ) : Type 0 where
   pub plane : k < dimension number 2
 
 -- how many of the table's words stand before it: the last index of the Rust runs fastest
-abbrev pub entryWord : ℕ → ℕ → ℕ → ℕ → ℕ
-entryWord number i j k = (k * dimension number 1 + j) * dimension number 0 + i
+abbrev pub entry_word : ℕ → ℕ → ℕ → ℕ → ℕ
+entry_word number i j k = (k * dimension number 1 + j) * dimension number 0 + i
 
 -- its first byte in the file that holds the table
-unfoldable pub entryPlace : ℕ → ℕ → ℕ → ℕ → ℕ
-entryPlace number i j k = start_of number + 4 * entryWord number i j k
+unfoldable pub entry_place : ℕ → ℕ → ℕ → ℕ → ℕ
+entry_place number i j k = start_of number + 4 * entry_word number i j k
 
 -- ---- what the tables and the records' sizes must agree in
 
@@ -192,26 +192,26 @@ PackedRecords at end (n ∷ ns) (ts ∷ rs) =
 
 -- ---- Table
 
-abbrev pub bytesIn : Table → Part
-bytesIn t = record { from = t.from; size = 4 * words_in t }
+abbrev pub bytes_in : Table → Part
+bytes_in t = record { from = t.from; size = 4 * words_in t }
 
 -- the part of a number in the file that holds it; of no bytes above 20
 unfoldable pub part_of : ℕ → Part
-part_of number = bytesIn (table_of number)
+part_of number = bytes_in (table_of number)
 
 -- 'It refuses 13 (number above 20), 8, 9, 10, both files being checked for every number'; of the F2
 -- record 'bytes after 7,904 ignored'
-unfoldable pub tableCheck : ℕ → List ℕ → List ℕ → Verdict
-tableCheck number f2 month =
+unfoldable pub table_check : ℕ → List ℕ → List ℕ → Verdict
+table_check number f2 month =
     cond (nat_le number 20)
-    (cond (nat_le recordSize (length f2)) (monthFileCheck month) (Refused Record))
+    (cond (nat_le record_size (length f2)) (month_file_check month) (Refused Record))
     (Refused NoTable)
 
 -- 'Where this or Table refuses, the part handed back is empty'
-unfoldable pub tablePart : ℕ → List ℕ → List ℕ → Part
-tablePart number f2 month = cond (isAccepted (tableCheck number f2 month)) (part_of number) emptyPart
+unfoldable pub table_part : ℕ → List ℕ → List ℕ → Part
+table_part number f2 month = cond (is_accepted (table_check number f2 month)) (part_of number) empty_part
 
 -- 'a part of the lent file that holds them'; refused, 'at the start of the first file lent'
-unfoldable pub tableFile : ℕ → Bor (List ℕ) → Bor (List ℕ) → Bor (List ℕ)
-tableFile number f2 month =
-    cond (isAccepted (tableCheck number f2.now month.now)) (holding number f2 month) f2
+unfoldable pub table_file : ℕ → Bor (List ℕ) → Bor (List ℕ) → Bor (List ℕ)
+table_file number f2 month =
+    cond (is_accepted (table_check number f2.now month.now)) (holding number f2 month) f2

@@ -16,20 +16,20 @@ word_of a b c d = a + b * 256 + c * 65536 + d * 16777216
 unfoldable pub word_at : List ℕ → ℕ → ℕ
 word_at s at = word_of (slice_index s at) (slice_index s (at + 1)) (slice_index s (at + 2)) (slice_index s (at + 3))
 
-unfoldable pub integerAt : List ℕ → ℕ → ℤ
-integerAt s at = signed_of (word_at s at)
+unfoldable pub integer_at : List ℕ → ℕ → ℤ
+integer_at s at = signed_of (word_at s at)
 
 unfoldable pub float_at : List ℕ → ℕ → Float
 float_at s at = from_bits binary32 (word_at s at)
 
 -- 'Reading an f32 table word must now tell a finite number from any other'
-unfoldable pub tableWordAt : List ℕ → ℕ → TableWord
-tableWordAt s at = cond (finite (float_at s at)) (Finite (float_at s at)) NotFinite
+unfoldable pub table_word_at : List ℕ → ℕ → TableWord
+table_word_at s at = cond (finite (float_at s at)) (Finite (float_at s at)) NotFinite
 
 -- each of the n words from the byte `at` on is a finite number
 abbrev pub FiniteRun : List ℕ → ℕ → ℕ → Type 0
 FiniteRun s at n = (i : ℕ) → i < n → T (finite (float_at s (at + 4 * i)))
 
 -- a number below 2 ^ 32 as four bytes, the lowest first
-abbrev pub fourBytes : ℕ → List ℕ
-fourBytes n = n % 256 ∷ n / 256 % 256 ∷ n / 65536 % 256 ∷ n / 16777216 ∷ []
+abbrev pub four_bytes : ℕ → List ℕ
+four_bytes n = n % 256 ∷ n / 256 % 256 ∷ n / 65536 % 256 ∷ n / 16777216 ∷ []

@@ -1,6 +1,6 @@
 // Degrees as typed and radians as worked: two types that meet only through the functions here.
 ghost use Rattle.std.specs.Prelude.{◌≡◌};
-ghost use Rattle.base.specs.Angle.{radiansOf, degreesOf};
+ghost use Rattle.base.specs.Angle.{radians_of, degrees_of};
 
 use crate::constants::{D2R, R2D};
 
@@ -13,7 +13,7 @@ pub struct Radians(pub f32);
 impl Degrees {
     // The angle in radians: the degrees times D2R, rounded once.
     pub fn to_radians(self) -> Radians
-        ensures { result ≡ radiansOf self }
+        ensures { result ≡ radians_of self }
     {
         Radians(self.0 * D2R)
     }
@@ -22,7 +22,7 @@ impl Degrees {
 impl Radians {
     // The angle in degrees: the radians times R2D, rounded once.
     pub fn to_degrees(self) -> Degrees
-        ensures { result ≡ degreesOf self }
+        ensures { result ≡ degrees_of self }
     {
         Degrees(self.0 * R2D)
     }

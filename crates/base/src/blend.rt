@@ -3,8 +3,8 @@ ghost use Rattle.std.specs.Prelude.{◌≡◌, ℕ, ◌+◌, ◌*◌, ◌≤◌,
 ghost use Rattle.base.specs.Fill.{fill};
 ghost use Rattle.base.specs.Words.{FiniteRun};
 ghost use Rattle.base.specs.Finite.{FiniteRecord, FiniteMonth};
-ghost use Rattle.base.specs.MonthFile.{recordSize, monthFileSize};
-ghost use Rattle.base.specs.Blend.{blend_of, blendAt, f2Weights, eWeights, heightWeights, cofionOf, hmymOf, fakmapOf};
+ghost use Rattle.base.specs.MonthFile.{record_size, month_file_size};
+ghost use Rattle.base.specs.Blend.{blend_of, blend_at, f2_weights, e_weights, height_weights, cofion_of, hmym_of, fakmap_of};
 
 use crate::tables::{FAKMAP, XERCOF, XESLCF, XESMCF, XESUCF, XFM3CF, XPMAP};
 use crate::words::{finite_word, read_floats};
@@ -19,7 +19,7 @@ pub struct Weights {
 
 // The weights of the F2 and M3000 maps at a sunspot number s: 100 - s and s, with the divisor 100.
 pub fn f2_weights(ssn: f32) -> Weights
-    ensures { result ≡ f2Weights ssn }
+    ensures { result ≡ f2_weights ssn }
 {
     Weights {
         wa: 100.0 - ssn,
@@ -30,7 +30,7 @@ pub fn f2_weights(ssn: f32) -> Weights
 
 // The weights of the Es and E maps at a sunspot number s: 150 - s and s - 10, with the divisor 140.
 pub fn e_weights(ssn: f32) -> Weights
-    ensures { result ≡ eWeights ssn }
+    ensures { result ≡ e_weights ssn }
 {
     Weights {
         wa: 150.0 - ssn,
@@ -41,7 +41,7 @@ pub fn e_weights(ssn: f32) -> Weights
 
 // The weights of the height map at a sunspot number s: 125 - s and s - 25, with the divisor 100.
 pub fn height_weights(ssn: f32) -> Weights
-    ensures { result ≡ heightWeights ssn }
+    ensures { result ≡ height_weights ssn }
 {
     Weights {
         wa: 125.0 - ssn,
@@ -64,7 +64,7 @@ fn blend(s: &[u8], at: usize, width: usize, w: Weights, out: &mut [f32], base: u
         × (at + 8 * width ≤ length s.now)
         × (base + width ≤ length out.old)
         × FiniteRun s.now at (2 * width) }
-    ensures { out.new ≡ fill (blendAt s.now at width w) base out.old width }
+    ensures { out.new ≡ fill (blend_at s.now at width w) base out.old width }
 {
     let mut i = 0usize;
     while i < width {
@@ -117,11 +117,11 @@ pub type LandMap = [f32; PLANE];
 
 // The coefficients of the six maps at a sunspot number, from files that were checked.
 pub(crate) fn cofion_of(f2: &[u8], month: &[u8], ssn: f32, out: &mut SixMaps)
-    requires { (recordSize ≤ length f2.now)
-        × (monthFileSize ≤ length month.now)
+    requires { (record_size ≤ length f2.now)
+        × (month_file_size ≤ length month.now)
         × FiniteRecord f2.now
         × FiniteMonth month.now }
-    ensures { out.new ≡ cofionOf f2.now month.now ssn }
+    ensures { out.new ≡ cofion_of f2.now month.now ssn }
 {
     let wf = f2_weights(ssn);
     let we = e_weights(ssn);
@@ -135,16 +135,16 @@ pub(crate) fn cofion_of(f2: &[u8], month: &[u8], ssn: f32, out: &mut SixMaps)
 
 // The coefficients of the height map at a sunspot number, from a file that was checked.
 pub(crate) fn hmym_of(month: &[u8], ssn: f32, out: &mut HeightMap)
-    requires { (monthFileSize ≤ length month.now) × FiniteMonth month.now }
-    ensures { out.new ≡ hmymOf month.now ssn }
+    requires { (month_file_size ≤ length month.now) × FiniteMonth month.now }
+    ensures { out.new ≡ hmym_of month.now ssn }
 {
     blend(month, XPMAP, PLANE, height_weights(ssn), out, 0);
 }
 
 // The words of the land map, of a file that was checked.
 pub(crate) fn fakmap_of(month: &[u8], out: &mut LandMap)
-    requires { (monthFileSize ≤ length month.now) × FiniteMonth month.now }
-    ensures { out.new ≡ fakmapOf month.now }
+    requires { (month_file_size ≤ length month.now) × FiniteMonth month.now }
+    ensures { out.new ≡ fakmap_of month.now }
 {
     read_floats(month, FAKMAP, out);
 }

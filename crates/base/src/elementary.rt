@@ -4,9 +4,9 @@ ghost use Rattle.std.specs.Prelude.{◌≡◌, ◌*◌, ◌^◌, ◌<◌, ◌≤
 ghost use Rattle.std.specs.Float.{binary64};
 ghost use Rattle.std.specs.Float.Ieee.{le, minus, of_int};
 ghost use Rattle.base.specs.Double.{◌⊕◌, fraction};
-ghost use Rattle.base.specs.Number.{absOf};
+ghost use Rattle.base.specs.Number.{abs_of};
 ghost use Rattle.base.specs.Elementary as steps;
-ghost use Rattle.base.specs.Elementary.{nearOf, quarterOf, powerOfTwo, turnsOf, reducedOf, sinSeries, cosSeries, sinAt, cosAt, sinOf, cosOf, halfAngle, atanSeries, atanWithin, atanFrom, atanOf, acosOf, expWithin, expOf, lnSeries, lnSum, lnOf, sin32Of, cos32Of, atan32Of, acos32Of, exp32Of, ln32Of};
+ghost use Rattle.base.specs.Elementary.{near_of, quarter_of, power_of_two, turns_of, reduced_of, sin_series, cos_series, sin_at, cos_at, sin_of, cos_of, half_angle, atan_series, atan_within, atan_from, atan_of, acos_of, exp_within, exp_of, ln_series, ln_sum, ln_of, sin32_of, cos32_of, atan32_of, acos32_of, exp32_of, ln32_of};
 
 use crate::number::{abs64, is_negative, narrow, sqrt64, to_u64, widen};
 
@@ -106,22 +106,22 @@ fn shifted(y: f64) -> f64
 
 // y to the nearest whole number, where it is small enough.
 fn near(y: f64) -> f64
-    ensures { result ≡ nearOf y }
+    ensures { result ≡ near_of y }
 {
     shifted(y) - 6755399441055744.0
 }
 
 // The whole number nearest to y modulo 4, from 0 to 3 for a negative one too.
 fn quarter(y: f64) -> u64
-    requires { T (le (absOf y) (fraction 1024 1)) }
-    ensures { result ≡ quarterOf (nearOf y) }
+    requires { T (le (abs_of y) (fraction 1024 1)) }
+    ensures { result ≡ quarter_of (near_of y) }
 {
     f64::to_bits(shifted(y)) % 4
 }
 
 // v without n quarter turns.
 fn reduced(v: f64, n: f64) -> f64
-    ensures { result ≡ reducedOf v n }
+    ensures { result ≡ reduced_of v n }
 {
     (v - n * 1.5707963267948966) - n * 6.123233995736766e-17
 }
@@ -135,9 +135,9 @@ struct Turned {
 
 // v as the nearest quarter turns, modulo 4, and what v is without them.
 fn split(v: f64) -> Turned
-    requires { T (le (absOf v) (fraction 1000 1)) }
-    ensures quarter { result.quarter ≡ quarterOf (turnsOf v) }
-    ensures rest { result.rest ≡ reducedOf v (turnsOf v) }
+    requires { T (le (abs_of v) (fraction 1000 1)) }
+    ensures quarter { result.quarter ≡ quarter_of (turns_of v) }
+    ensures rest { result.rest ≡ reduced_of v (turns_of v) }
 {
     let y = v * 0.6366197723675814;
     Turned {
@@ -148,19 +148,19 @@ fn split(v: f64) -> Turned
 
 // The sine and the cosine of a small a.
 fn sin_series(a: f64) -> f64
-    ensures { result ≡ sinSeries a }
+    ensures { result ≡ sin_series a }
 {
     a * horner(&SIN, a * a)
 }
 
 fn cos_series(a: f64) -> f64
-    ensures { result ≡ cosSeries a }
+    ensures { result ≡ cos_series a }
 {
     horner(&COS, a * a)
 }
 
 fn sin_at(q: u64, a: f64) -> f64
-    ensures { result ≡ sinAt q a }
+    ensures { result ≡ sin_at q a }
 {
     if q == 0 {
         sin_series(a)
@@ -174,7 +174,7 @@ fn sin_at(q: u64, a: f64) -> f64
 }
 
 fn cos_at(q: u64, a: f64) -> f64
-    ensures { result ≡ cosAt q a }
+    ensures { result ≡ cos_at q a }
 {
     if q == 0 {
         cos_series(a)
@@ -189,7 +189,7 @@ fn cos_at(q: u64, a: f64) -> f64
 
 // The sine of v radians, by document 01's steps; a NaN for a NaN and for v beyond 1000 in size.
 pub fn sin64(v: f64) -> f64
-    ensures { result ≡ sinOf v }
+    ensures { result ≡ sin_of v }
 {
     if abs64(v) <= 1000.0 {
         let t = split(v);
@@ -202,7 +202,7 @@ pub fn sin64(v: f64) -> f64
 // The cosine of v, in radians, by document 01's steps; a NaN for a NaN and for v beyond 1000 in
 // size.
 pub fn cos64(v: f64) -> f64
-    ensures { result ≡ cosOf v }
+    ensures { result ≡ cos_of v }
 {
     if abs64(v) <= 1000.0 {
         let t = split(v);
@@ -214,28 +214,28 @@ pub fn cos64(v: f64) -> f64
 
 // The tangent of half the angle whose tangent is a.
 fn half_angle(a: f64) -> f64
-    ensures { result ≡ halfAngle a }
+    ensures { result ≡ half_angle a }
 {
     a / (1.0 + sqrt64(1.0 + a * a))
 }
 
 // The arc tangent of a small a.
 fn atan_series(a: f64) -> f64
-    ensures { result ≡ atanSeries a }
+    ensures { result ≡ atan_series a }
 {
     a * horner(&ATAN, a * a)
 }
 
 // The arc tangent of an a from 0 to 1.
 fn atan_within(a: f64) -> f64
-    ensures { result ≡ atanWithin a }
+    ensures { result ≡ atan_within a }
 {
     atan_series(half_angle(half_angle(half_angle(a)))) * 8.0
 }
 
 // The arc tangent of an a of no sign.
 fn atan_from(a: f64) -> f64
-    ensures { result ≡ atanFrom a }
+    ensures { result ≡ atan_from a }
 {
     if a > 1.0 {
         1.5707963267948966 - atan_within(1.0 / a)
@@ -246,7 +246,7 @@ fn atan_from(a: f64) -> f64
 
 // The arc tangent of v, in radians, by document 01's steps; a NaN for a NaN.
 pub fn atan64(v: f64) -> f64
-    ensures { result ≡ atanOf v }
+    ensures { result ≡ atan_of v }
 {
     let t = atan_from(abs64(v));
     if is_negative(v) { -t } else { t }
@@ -255,7 +255,7 @@ pub fn atan64(v: f64) -> f64
 // The arc cosine of v, in radians, by document 01's steps; a NaN for a NaN and for v beyond 1 in
 // size.
 pub fn acos64(v: f64) -> f64
-    ensures { result ≡ acosOf v }
+    ensures { result ≡ acos_of v }
 {
     if abs64(v) <= 1.0 {
         2.0 * atan64(sqrt64((1.0 - v) / (1.0 + v)))
@@ -290,7 +290,7 @@ fn power_down(k: u64) -> f64
 
 // 2^n
 fn power(n: f64) -> f64
-    ensures { result ≡ powerOfTwo n }
+    ensures { result ≡ power_of_two n }
 {
     let k = to_u64(abs64(n));
     if is_negative(n) {
@@ -302,7 +302,7 @@ fn power(n: f64) -> f64
 
 // e^v for a v from -700 to 700.
 fn exp_within(v: f64) -> f64
-    ensures { result ≡ expWithin v }
+    ensures { result ≡ exp_within v }
 {
     let n = near(v * 1.4426950408889634);
     horner(&EXP, v - n * 0.6931471805599453) * power(n)
@@ -310,7 +310,7 @@ fn exp_within(v: f64) -> f64
 
 // e to the power v, by document 01's steps: infinity above 700, zero below -700, a NaN for a NaN.
 pub fn exp64(v: f64) -> f64
-    ensures { result ≡ expOf v }
+    ensures { result ≡ exp_of v }
 {
     if v > 700.0 {
         1.0 / 0.0
@@ -323,14 +323,14 @@ pub fn exp64(v: f64) -> f64
 
 // The logarithm of (1 + q) / (1 - q), for a small q.
 fn ln_series(q: f64) -> f64
-    ensures { result ≡ lnSeries q }
+    ensures { result ≡ ln_series q }
 {
     2.0 * q * horner(&LN, q * q)
 }
 
 // k * ln 2 + ln m
 fn ln_sum(k: f64, m: f64) -> f64
-    ensures { result ≡ lnSum k m }
+    ensures { result ≡ ln_sum k m }
 {
     k * 0.6931471805599453 + ln_series((m - 1.0) / (m + 1.0))
 }
@@ -349,7 +349,7 @@ fn exponent(f: u64) -> f64
 // The logarithm of m * 2^(f - 1127), where m has 53 digits.
 fn ln_scaled(m: u64, f: u64) -> f64
     requires { (2 ^ 52 ≤ m) × (m < 2 ^ 53) }
-    ensures { result ≡ lnSum (of_int binary64 (minus f 1075)) (fraction m (2 ^ 52)) }
+    ensures { result ≡ ln_sum (of_int binary64 (minus f 1075)) (fraction m (2 ^ 52)) }
 {
     ln_sum(exponent(f), f64::from_bits(m + 0x3fe0_0000_0000_0000))
 }
@@ -357,7 +357,7 @@ fn ln_scaled(m: u64, f: u64) -> f64
 // The logarithm of the positive number whose bits are b.
 fn ln_bits(b: u64) -> f64
     requires { (0 < b) × (b < 2047 * 2 ^ 52) }
-    ensures { result ≡ lnOf (from_bits binary64 b) }
+    ensures { result ≡ ln_of (from_bits binary64 b) }
 {
     if b < 0x10_0000_0000_0000 {
         let shift = u64::leading_zeros(b) as u64 - 11;
@@ -373,7 +373,7 @@ fn ln_bits(b: u64) -> f64
 // The natural logarithm of x, by document 01's steps: a NaN for a NaN and below zero, minus
 // infinity at either zero, infinity at infinity.
 pub fn ln64(x: f64) -> f64
-    ensures { result ≡ lnOf x }
+    ensures { result ≡ ln_of x }
 {
     if x != x {
         return x;
@@ -393,14 +393,14 @@ pub fn ln64(x: f64) -> f64
 
 // The sine of x radians: x is widened, `sin64` works it out, and its answer is narrowed.
 pub fn sin32(x: f32) -> f32
-    ensures { result ≡ sin32Of x }
+    ensures { result ≡ sin32_of x }
 {
     narrow(sin64(widen(x)))
 }
 
 // The cosine of x radians: x is widened, `cos64` works it out, and its answer is narrowed.
 pub fn cos32(x: f32) -> f32
-    ensures { result ≡ cos32Of x }
+    ensures { result ≡ cos32_of x }
 {
     narrow(cos64(widen(x)))
 }
@@ -408,28 +408,28 @@ pub fn cos32(x: f32) -> f32
 // The arc tangent of x, in radians: x is widened, `atan64` works it out, and its answer is
 // narrowed.
 pub fn atan32(x: f32) -> f32
-    ensures { result ≡ atan32Of x }
+    ensures { result ≡ atan32_of x }
 {
     narrow(atan64(widen(x)))
 }
 
 // The arc cosine of x, in radians: x is widened, `acos64` works it out, and its answer is narrowed.
 pub fn acos32(x: f32) -> f32
-    ensures { result ≡ acos32Of x }
+    ensures { result ≡ acos32_of x }
 {
     narrow(acos64(widen(x)))
 }
 
 // e to the power x: x is widened, `exp64` works it out, and its answer is narrowed.
 pub fn exp32(x: f32) -> f32
-    ensures { result ≡ exp32Of x }
+    ensures { result ≡ exp32_of x }
 {
     narrow(exp64(widen(x)))
 }
 
 // The natural logarithm of x: x is widened, `ln64` works it out, and its answer is narrowed.
 pub fn ln32(x: f32) -> f32
-    ensures { result ≡ ln32Of x }
+    ensures { result ≡ ln32_of x }
 {
     narrow(ln64(widen(x)))
 }

@@ -1,10 +1,10 @@
 // The record and the month file, lent as two or parts of a year file, as a whole: the checks before
 // they are used, and the arrays that a sheet reads from them. A refusal leaves the arrays as they are.
 ghost use Rattle.std.specs.Prelude.{◌≡◌};
-ghost use Rattle.base.specs.Refusal.{writtenOver};
+ghost use Rattle.base.specs.Refusal.{written_over};
 ghost use Rattle.base.specs.Index.{index_of};
-ghost use Rattle.base.specs.Blend.{cofionOf, hmymOf, fakmapOf};
-ghost use Rattle.base.specs.Files.{indexFileCheck, fileCheck, filesCheck, dawCheck};
+ghost use Rattle.base.specs.Blend.{cofion_of, hmym_of, fakmap_of};
+ghost use Rattle.base.specs.Files.{index_file_check, file_check, files_check, daw_check};
 
 use crate::blend::{HeightMap, LandMap, SixMaps, cofion_of, fakmap_of, hmym_of};
 use crate::finite::{record_words_check, table_words_check};
@@ -15,7 +15,7 @@ use crate::refusal::{Refusal, Verdict, then};
 // The verdict on a month file: 9 or 10 by its walk, then 23 by the words of its tables, then 11 by
 // its index table.
 pub fn file_check(month: &[u8]) -> Verdict
-    ensures { result ≡ fileCheck month.now }
+    ensures { result ≡ file_check month.now }
 {
     let walked = month_file_check(month);
     match walked {
@@ -27,7 +27,7 @@ pub fn file_check(month: &[u8]) -> Verdict
 // The verdict on an F2 record and a month file: 8 where the record has under 7,904 bytes, 9 or 10 by
 // the month file's walk, 23 by the words of the record and then of the month file's tables, and 11.
 pub fn files_check(f2: &[u8], month: &[u8]) -> Verdict
-    ensures { result ≡ filesCheck f2.now month.now }
+    ensures { result ≡ files_check f2.now month.now }
 {
     if f2.len() < RECORD {
         return Verdict::Refused(Refusal::Record);
@@ -45,7 +45,7 @@ pub fn files_check(f2: &[u8], month: &[u8]) -> Verdict
 // The verdict on a `.daw` file that is to have the records of all months: 8 where it does not reach
 // to the end of month 12's, then 23 by their words, the place counting from the file's start.
 pub fn daw_check(daw: &[u8]) -> Verdict
-    ensures { result ≡ dawCheck daw.now }
+    ensures { result ≡ daw_check daw.now }
 {
     let whole = month_record_check(daw, 12);
     match whole {
@@ -55,7 +55,7 @@ pub fn daw_check(daw: &[u8]) -> Verdict
 }
 
 fn index_file_check(month: &[u8]) -> Verdict
-    ensures { result ≡ indexFileCheck month.now }
+    ensures { result ≡ index_file_check month.now }
 {
     let walked = month_file_check(month);
     match walked {
@@ -67,9 +67,9 @@ fn index_file_check(month: &[u8]) -> Verdict
 // The 60 words of `ikim`, which are whole numbers, into the lent array: 9 or 10 by the month file's
 // walk, then 11. Refused, the array stays as it is.
 pub fn index(month: &[u8], out: &mut IndexTable) -> Verdict
-    ensures answer { result ≡ indexFileCheck month.now }
+    ensures answer { result ≡ index_file_check month.now }
     ensures buffer { let m = month.now in
-        out.new ≡ writtenOver (indexFileCheck m) (index_of m) out.old }
+        out.new ≡ written_over (index_file_check m) (index_of m) out.old }
 {
     let verdict = index_file_check(month);
     match verdict {
@@ -84,10 +84,10 @@ pub fn index(month: &[u8], out: &mut IndexTable) -> Verdict
 // The coefficients of the six maps at a sunspot number into the lent array, and the verdict of
 // `files_check`. Refused, the array stays as it is.
 pub fn cofion(f2: &[u8], month: &[u8], ssn: f32, out: &mut SixMaps) -> Verdict
-    ensures answer { result ≡ filesCheck f2.now month.now }
+    ensures answer { result ≡ files_check f2.now month.now }
     ensures buffer { let f = f2.now in
         let m = month.now in
-        out.new ≡ writtenOver (filesCheck f m) (cofionOf f m ssn) out.old }
+        out.new ≡ written_over (files_check f m) (cofion_of f m ssn) out.old }
 {
     let verdict = files_check(f2, month);
     match verdict {
@@ -102,9 +102,9 @@ pub fn cofion(f2: &[u8], month: &[u8], ssn: f32, out: &mut SixMaps) -> Verdict
 // The coefficients of the height map at a sunspot number into the lent array, and the verdict of
 // `file_check`. Refused, the array stays as it is.
 pub fn hmym(month: &[u8], ssn: f32, out: &mut HeightMap) -> Verdict
-    ensures answer { result ≡ fileCheck month.now }
+    ensures answer { result ≡ file_check month.now }
     ensures buffer { let m = month.now in
-        out.new ≡ writtenOver (fileCheck m) (hmymOf m ssn) out.old }
+        out.new ≡ written_over (file_check m) (hmym_of m ssn) out.old }
 {
     let verdict = file_check(month);
     match verdict {
@@ -119,9 +119,9 @@ pub fn hmym(month: &[u8], ssn: f32, out: &mut HeightMap) -> Verdict
 // The words of the land map into the lent array, and the verdict of `file_check`. Refused, the
 // array stays as it is.
 pub fn fakmap(month: &[u8], out: &mut LandMap) -> Verdict
-    ensures answer { result ≡ fileCheck month.now }
+    ensures answer { result ≡ file_check month.now }
     ensures buffer { let m = month.now in
-        out.new ≡ writtenOver (fileCheck m) (fakmapOf m) out.old }
+        out.new ≡ written_over (file_check m) (fakmap_of m) out.old }
 {
     let verdict = file_check(month);
     match verdict {
@@ -144,19 +144,19 @@ pub fn redmap(
     hmym: &mut HeightMap,
     fakmap: &mut LandMap,
 ) -> Verdict
-    ensures answer { result ≡ filesCheck f2.now month.now }
+    ensures answer { result ≡ files_check f2.now month.now }
     ensures index { let f = f2.now in
         let m = month.now in
-        index.new ≡ writtenOver (filesCheck f m) (index_of m) index.old }
+        index.new ≡ written_over (files_check f m) (index_of m) index.old }
     ensures cofion { let f = f2.now in
         let m = month.now in
-        cofion.new ≡ writtenOver (filesCheck f m) (cofionOf f m ssn) cofion.old }
+        cofion.new ≡ written_over (files_check f m) (cofion_of f m ssn) cofion.old }
     ensures hmym { let f = f2.now in
         let m = month.now in
-        hmym.new ≡ writtenOver (filesCheck f m) (hmymOf m ssn) hmym.old }
+        hmym.new ≡ written_over (files_check f m) (hmym_of m ssn) hmym.old }
     ensures fakmap { let f = f2.now in
         let m = month.now in
-        fakmap.new ≡ writtenOver (filesCheck f m) (fakmapOf m) fakmap.old }
+        fakmap.new ≡ written_over (files_check f m) (fakmap_of m) fakmap.old }
 {
     let verdict = files_check(f2, month);
     match verdict {

@@ -3,8 +3,8 @@ ghost use Rattle.std.specs.Prelude.{◌≡◌, ℕ, ◌+◌, ◌*◌, ◌≤◌,
 ghost use Rattle.std.specs.Float.Ieee.Scale.{finite};
 ghost use Rattle.base.specs.declared.refusal.Verdict.TheVariants.{Accepted};
 ghost use Rattle.base.specs.Words.{float_at};
-ghost use Rattle.base.specs.MonthFile.{recordSize, monthFileCheck};
-ghost use Rattle.base.specs.Finite.{allFinite, firstOther, recordWordsCheck, tableWordsCheck};
+ghost use Rattle.base.specs.MonthFile.{record_size, month_file_check};
+ghost use Rattle.base.specs.Finite.{all_finite, first_other, record_words_check, table_words_check};
 
 use crate::month_file::RECORD;
 use crate::refusal::{Refusal, Verdict, refuse_unless};
@@ -14,7 +14,7 @@ use crate::words::{TableWord, table_word, whole_word};
 // Whether all n words from `at` on are finite.
 fn are_finite(s: &[u8], at: usize, n: usize) -> bool
     requires { (at ≤ 65536) × (n ≤ 65536) × (at + 4 * n ≤ length s.now) }
-    ensures { result ≡ allFinite s.now at n }
+    ensures { result ≡ all_finite s.now at n }
 {
     // An exponent is all ones exactly where the word without its sign and the exponent's lowest bit
     // add up to the sign's bit or more. The sums are gathered and looked at once, so that the loop
@@ -42,7 +42,7 @@ fn is_finite(s: &[u8], at: usize) -> bool
 // all are.
 fn first_other(s: &[u8], at: usize, n: usize) -> usize
     requires { (at ≤ 65536) × (n ≤ 65536) × (at + 4 * n ≤ length s.now) }
-    ensures { result ≡ firstOther s.now at n }
+    ensures { result ≡ first_other s.now at n }
 {
     if are_finite(s, at, n) {
         return at + 4 * n;
@@ -59,8 +59,8 @@ fn first_other(s: &[u8], at: usize, n: usize) -> usize
 
 // 23 with the first word of so many F2 records, which are there, that is no finite number.
 pub(crate) fn record_words_check(daw: &[u8], months: usize) -> Verdict
-    requires { (months ≤ 12) × (months * recordSize ≤ length daw.now) }
-    ensures { result ≡ recordWordsCheck daw.now months }
+    requires { (months ≤ 12) × (months * record_size ≤ length daw.now) }
+    ensures { result ≡ record_words_check daw.now months }
 {
     let at = first_other(daw, 0, months * (RECORD / 4));
     refuse_unless(at == months * RECORD, Refusal::RecordWord(at as u32))
@@ -68,8 +68,8 @@ pub(crate) fn record_words_check(daw: &[u8], months: usize) -> Verdict
 
 // 23 with the first word of the month file's tables, `ikim` left out, that is no finite number.
 pub(crate) fn table_words_check(month: &[u8]) -> Verdict
-    requires { monthFileCheck month.now ≡ Accepted }
-    ensures { result ≡ tableWordsCheck month.now }
+    requires { month_file_check month.now ≡ Accepted }
+    ensures { result ≡ table_words_check month.now }
 {
     // The markers between the tables are looked at too: the walk has found them right, and each is a
     // finite number by its pattern.

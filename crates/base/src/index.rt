@@ -2,8 +2,8 @@
 ghost use Rattle.std.specs.Prelude.{◌≡◌, ℕ, ◌<◌, ◌≤◌, length, slice_index};
 ghost use Rattle.base.specs.Number.{signed_of};
 ghost use Rattle.base.specs.Words.{word_at};
-ghost use Rattle.base.specs.MonthFile.{monthFileSize};
-ghost use Rattle.base.specs.Index.{ikimPlace, ikimAt, index_of, rows, harmonics, exceeds, climbs, goodMap, indexCheck};
+ghost use Rattle.base.specs.MonthFile.{month_file_size};
+ghost use Rattle.base.specs.Index.{ikim_place, ikim_at, index_of, rows, harmonics, exceeds, climbs, good_map, index_check};
 
 use crate::refusal::{Refusal, Verdict};
 use crate::tables::IKIM;
@@ -12,7 +12,7 @@ use crate::words::{read_words, word};
 // The word j of the map k of `ikim`, both counted from 0.
 fn ikim_word(month: &[u8], k: usize, j: usize) -> u32
     requires { (k < 6) × (j < 10) }
-    ensures { result ≡ word_at month.now (ikimPlace k j) }
+    ensures { result ≡ word_at month.now (ikim_place k j) }
 {
     word(month, IKIM + (k * 10 + j) * 4)
 }
@@ -33,8 +33,8 @@ fn is_next(p: u32, q: u32) -> bool
 
 // Whether the words 1 to 8 of a map climb from its word 0.
 fn is_ladder(month: &[u8], k: usize) -> bool
-    requires { (k < 6) × (word_at month.now (ikimPlace k 0) ≤ 75) }
-    ensures { result ≡ climbs (ikimAt month.now k) 8 0 }
+    requires { (k < 6) × (word_at month.now (ikim_place k 0) ≤ 75) }
+    ensures { result ≡ climbs (ikim_at month.now k) 8 0 }
 {
     let mut p = ikim_word(month, k, 0);
     let mut j = 0usize;
@@ -59,7 +59,7 @@ const HARMONICS: [u32; 6] = [2, 3, 2, 6, 4, 4];
 // Whether the map k is good.
 fn is_good(month: &[u8], k: usize) -> bool
     requires { k < 6 }
-    ensures { result ≡ goodMap (ikimAt month.now k) (slice_index rows k) (slice_index harmonics k) }
+    ensures { result ≡ good_map (ikim_at month.now k) (slice_index rows k) (slice_index harmonics k) }
 {
     if ikim_word(month, k, 8) >= ROWS[k] {
         return false;
@@ -79,7 +79,7 @@ fn is_good(month: &[u8], k: usize) -> bool
 
 // Document 01's index check of a month file: 11 with the lowest bad map, 1 to 6, as its place.
 pub fn index_check(month: &[u8]) -> Verdict
-    ensures { result ≡ indexCheck month.now }
+    ensures { result ≡ index_check month.now }
 {
     let mut k = 0usize;
     while k < 6 {
@@ -99,7 +99,7 @@ pub type IndexTable = [u32; INDEX];
 // The 60 words of `ikim`, of a file that was checked. The words that the index check does not leave
 // free are the signed ones too.
 pub(crate) fn index_of(month: &[u8], out: &mut IndexTable)
-    requires { monthFileSize ≤ length month.now }
+    requires { month_file_size ≤ length month.now }
     ensures { out.new ≡ index_of month.now }
 {
     read_words(month, IKIM, out);

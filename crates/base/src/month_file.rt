@@ -1,7 +1,7 @@
 // The month's record of the `.daw` file, and the month file's walk.
 ghost use Rattle.std.specs.Prelude.{◌≡◌, ℕ, ◌<◌, ◌==◌};
 ghost use Rattle.base.specs.Words.{word_at};
-ghost use Rattle.base.specs.MonthFile.{IsPart, monthRecordCheck, monthPart, monthFileCheck, RecordSize};
+ghost use Rattle.base.specs.MonthFile.{IsPart, month_record_check, month_part, month_file_check, RecordSize};
 
 use crate::ranges::month_check;
 use crate::refusal::{Refusal, Verdict, refuse_unless, then};
@@ -16,7 +16,7 @@ pub const MONTH_FILE: usize = 38552;
 // Whether the `.daw` file has a month's record: 1 for a month outside 1 to 12, then 8 for a file of
 // under month times 7,904 bytes.
 pub fn month_record_check(s: &[u8], month: u32) -> Verdict
-    ensures { result ≡ monthRecordCheck s.now month }
+    ensures { result ≡ month_record_check s.now month }
 {
     let there = month as usize * RECORD <= s.len();
     then(month_check(month), refuse_unless(there, Refusal::Record))
@@ -25,7 +25,7 @@ pub fn month_record_check(s: &[u8], month: u32) -> Verdict
 // A month's 7,904 bytes, a part of the `.daw` file; where `month_record_check` refuses, the empty
 // part at the file's start.
 pub fn month_record(s: &[u8], month: u32) -> &[u8]
-    ensures { IsPart (monthPart s.now month) s.entry result }
+    ensures { IsPart (month_part s.now month) s.entry result }
 {
     let verdict = month_record_check(s, month);
     match verdict {
@@ -56,7 +56,7 @@ fn is_marker(s: &[u8], at: usize, n: usize) -> bool
 // Document 01's walk through a month file in fours: 9 where four bytes are not there, 10 at a wrong
 // marker, whichever comes first, with that byte's place.
 pub fn month_file_check(s: &[u8]) -> Verdict
-    ensures { result ≡ monthFileCheck s.now }
+    ensures { result ≡ month_file_check s.now }
 {
     // What lies between two markers is only asked to be there, so of each record the markers and
     // the file's length are looked at; where the file ends within a record, the walk in fours stops

@@ -4,7 +4,7 @@ ghost use Rattle.std.specs.Prelude.{◌≡◌, ◌+◌, ◌-◌, ◌*◌, ◌/�
 ghost use Rattle.std.specs.Float.{binary32, binary64};
 ghost use Rattle.std.specs.Float.Ieee.{of_int, to_signed, to_unsigned};
 ghost use Rattle.std.specs.Float.Ieee.Nearest.{closest};
-ghost use Rattle.base.specs.Number.{negative, absOf, minOf, max_of, narrowOf, signed_of, closestRoot, sqrtOf};
+ghost use Rattle.base.specs.Number.{negative, abs_of, min_of, max_of, narrow_of, signed_of, closest_root, sqrt_of};
 
 // Whether x has a sign, as -0 has; a NaN has none.
 pub fn is_negative(x: f64) -> bool
@@ -18,7 +18,7 @@ pub fn is_negative(x: f64) -> bool
 
 // The size of x, which takes -0 to +0; a NaN gives a NaN.
 pub fn abs64(x: f64) -> f64
-    ensures { result ≡ absOf x }
+    ensures { result ≡ abs_of x }
 {
     if x != x {
         return x;
@@ -28,7 +28,7 @@ pub fn abs64(x: f64) -> f64
 
 // The size of x, which takes -0 to +0; a NaN gives a NaN.
 pub fn abs32(x: f32) -> f32
-    ensures { result ≡ absOf x }
+    ensures { result ≡ abs_of x }
 {
     if x != x {
         return x;
@@ -38,7 +38,7 @@ pub fn abs32(x: f32) -> f32
 
 // The lesser of two, the other one where one is a NaN, and the left of equals.
 pub fn min(a: f32, b: f32) -> f32
-    ensures { result ≡ minOf a b }
+    ensures { result ≡ min_of a b }
 {
     if a != a {
         b
@@ -179,7 +179,7 @@ fn half_even(m: u64, n: u64) -> u64
 fn magnitude(b: u64) -> u64
     requires { b ≤ 2047 * 2 ^ 52 }
     ensures bound { result ≤ 255 * 2 ^ 23 }
-    ensures value { (s : Bool) → from_bits binary32 ((if s then 2 ^ 31 else 0) + result) ≡ narrowOf (from_bits binary64 ((if s then 2 ^ 63 else 0) + b)) }
+    ensures value { (s : Bool) → from_bits binary32 ((if s then 2 ^ 31 else 0) + result) ≡ narrow_of (from_bits binary64 ((if s then 2 ^ 63 else 0) + b)) }
 {
     let exponent = b / 0x10_0000_0000_0000;
     let digits = b % 0x10_0000_0000_0000 + 0x10_0000_0000_0000;
@@ -196,7 +196,7 @@ fn magnitude(b: u64) -> u64
 
 // The `f32` nearest to x, a tie going to the one whose last digit is even; a NaN gives a NaN.
 pub fn narrow(x: f64) -> f32
-    ensures { result ≡ narrowOf x }
+    ensures { result ≡ narrow_of x }
 {
     if x != x {
         return 0.0 / 0.0;
@@ -208,7 +208,7 @@ pub fn narrow(x: f64) -> f32
 
 // The `f32` nearest to x, as `narrow` gives it, kept as an `f64`.
 pub fn narrowed(x: f64) -> f64
-    ensures { result ≡ narrowOf x }
+    ensures { result ≡ narrow_of x }
 {
     // From 2^-126 on an `f32` is an `f64` whose last 29 digits are 0, so that the bits are rounded
     // where they stand; what may overflow or is below goes by `narrow`.
@@ -230,7 +230,7 @@ pub fn narrowed(x: f64) -> f64
 // √(a * 2^52) to the nearest whole number, a binary digit a turn.
 fn nearest_root(a: u64) -> u64
     requires { a < 2 ^ 54 }
-    ensures { result ≡ closestRoot (a * 2 ^ 52) 1 }
+    ensures { result ≡ closest_root (a * 2 ^ 52) 1 }
 {
     // the root of the digits read so far is q, with `rest` left over; `digits` are those to come
     let mut digits = a;
@@ -279,7 +279,7 @@ fn guess(b: u64) -> f64
 // three parts, and what is left tells.
 fn is_nearest(a: u64, w: u64) -> bool
     requires { w < 2 ^ 53 }
-    ensures { result ≡ true → w + 1 ≡ closestRoot (a * 2 ^ 52) 1 }
+    ensures { result ≡ true → w + 1 ≡ closest_root (a * 2 ^ 52) 1 }
 {
     let h = w / 0x800_0000;
     let l = w % 0x800_0000;
@@ -301,7 +301,7 @@ fn is_nearest(a: u64, w: u64) -> bool
 // Whether s is the root of the number whose bits are b; it may be where this is false.
 fn is_root(b: u64, s: f64) -> bool
     requires { (2 ^ 52 ≤ b) × (b < 2047 * 2 ^ 52) }
-    ensures { result ≡ true → s ≡ sqrtOf binary64 (from_bits binary64 b) }
+    ensures { result ≡ true → s ≡ sqrt_of binary64 (from_bits binary64 b) }
 {
     if s != s {
         return false;
@@ -320,7 +320,7 @@ fn is_root(b: u64, s: f64) -> bool
 // The bits of √(m * 2^(f - 2095)), where m has 53 digits.
 fn scaled_root(m: u64, f: u64) -> u64
     requires { (2 ^ 52 ≤ m) × (m < 2 ^ 53) × (f < 3072) }
-    ensures { result ≡ (f + f % 2) / 2 * 2 ^ 52 + closestRoot (m * (2 - f % 2) * 2 ^ 52) 1 }
+    ensures { result ≡ (f + f % 2) / 2 * 2 ^ 52 + closest_root (m * (2 - f % 2) * 2 ^ 52) 1 }
 {
     let odd = f % 2;
     (f + odd) / 2 * 0x10_0000_0000_0000 + nearest_root(m * (2 - odd))
@@ -330,7 +330,7 @@ fn scaled_root(m: u64, f: u64) -> u64
 fn root_bits(b: u64) -> u64
     requires { (0 < b) × (b < 2047 * 2 ^ 52) }
     ensures bound { result < 2047 * 2 ^ 52 }
-    ensures value { from_bits binary64 result ≡ sqrtOf binary64 (from_bits binary64 b) }
+    ensures value { from_bits binary64 result ≡ sqrt_of binary64 (from_bits binary64 b) }
 {
     if b < 0x10_0000_0000_0000 {
         let shift = u64::leading_zeros(b) as u64 - 11;
@@ -346,7 +346,7 @@ fn root_bits(b: u64) -> u64
 // The root of the number whose bits are b, which has 53 digits.
 fn normal_root(b: u64) -> f64
     requires { (2 ^ 52 ≤ b) × (b < 2047 * 2 ^ 52) }
-    ensures { result ≡ sqrtOf binary64 (from_bits binary64 b) }
+    ensures { result ≡ sqrt_of binary64 (from_bits binary64 b) }
 {
     let s = guess(b);
     if is_root(b, s) {
@@ -358,7 +358,7 @@ fn normal_root(b: u64) -> f64
 
 // √x to the nearest `f64`; a NaN for a NaN and for any x below zero but -0, whose root is -0.
 pub fn sqrt64(x: f64) -> f64
-    ensures { result ≡ sqrtOf binary64 x }
+    ensures { result ≡ sqrt_of binary64 x }
 {
     if x != x {
         return x;
@@ -382,7 +382,7 @@ pub fn sqrt64(x: f64) -> f64
 
 // √x to the nearest `f32`; a NaN for a NaN and for any x below zero but -0, whose root is -0.
 pub fn sqrt32(x: f32) -> f32
-    ensures { result ≡ sqrtOf binary32 x }
+    ensures { result ≡ sqrt_of binary32 x }
 {
     // The `f64` nearest to √x has more than twice the digits, so that rounding it once more gives
     // the `f32` nearest to √x itself.

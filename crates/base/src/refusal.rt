@@ -1,6 +1,6 @@
 // Why a call is refused: a name for each refusal of documents 01 and 02, with its number and place.
 ghost use Rattle.std.specs.Prelude.{◌≡◌};
-ghost use Rattle.base.specs.Refusal.{pair_of, reportOf, verdictReport, refuseUnless, ◌then◌};
+ghost use Rattle.base.specs.Refusal.{pair_of, report_of, verdict_report, refuse_unless, ◌then◌};
 
 // Of a field that stands more than once, and of a place in a file or the number of a map or of a
 // pair, the case carries which.
@@ -47,7 +47,7 @@ impl Refusal {
     // The number of a refusal with its place: a field's number, a byte's place, a map's or a pair's
     // number; all others have place 0.
     pub fn report(self) -> Report
-        ensures { pair_of result ≡ reportOf self }
+        ensures { pair_of result ≡ report_of self }
     {
         match self {
             Refusal::Month => Report(1, 1),
@@ -77,14 +77,14 @@ impl Refusal {
 
     // The number of a refusal, 1 to 19 or 23.
     pub fn number(self) -> u32
-        ensures { result ≡ (reportOf self).0 }
+        ensures { result ≡ (report_of self).0 }
     {
         self.report().0
     }
 
     // The place of a refusal, as `report` has it.
     pub fn place(self) -> u32
-        ensures { result ≡ (reportOf self).1 }
+        ensures { result ≡ (report_of self).1 }
     {
         self.report().1
     }
@@ -100,7 +100,7 @@ pub enum Verdict {
 impl Verdict {
     // The number and place of a verdict: the refusal's, or 0 and 0 where nothing is refused.
     pub fn report(self) -> Report
-        ensures { pair_of result ≡ verdictReport self }
+        ensures { pair_of result ≡ verdict_report self }
     {
         match self {
             Verdict::Accepted => Report(0, 0),
@@ -110,14 +110,14 @@ impl Verdict {
 
     // The number of a verdict: the refusal's, or 0 where nothing is refused.
     pub fn number(self) -> u32
-        ensures { result ≡ (verdictReport self).0 }
+        ensures { result ≡ (verdict_report self).0 }
     {
         self.report().0
     }
 
     // The place of a verdict: the refusal's, or 0 where nothing is refused.
     pub fn place(self) -> u32
-        ensures { result ≡ (verdictReport self).1 }
+        ensures { result ≡ (verdict_report self).1 }
     {
         self.report().1
     }
@@ -125,7 +125,7 @@ impl Verdict {
 
 // Accepted where `good` is true, else refused as `why` says.
 pub fn refuse_unless(good: bool, why: Refusal) -> Verdict
-    ensures { result ≡ refuseUnless good why }
+    ensures { result ≡ refuse_unless good why }
 {
     if good {
         Verdict::Accepted

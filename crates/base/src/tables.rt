@@ -1,7 +1,7 @@
 // The tables of a month by number: which are there, and their bytes as parts of the files lent.
 ghost use Rattle.std.specs.Prelude.{◌≡◌};
 ghost use Rattle.base.specs.MonthFile.{IsPart};
-ghost use Rattle.base.specs.Tables.{part_of, tableCheck, tablePart, tableFile};
+ghost use Rattle.base.specs.Tables.{part_of, table_check, table_part, table_file};
 
 use crate::month_file::{MONTH_FILE, RECORD, month_file_check};
 use crate::refusal::{Refusal, Verdict};
@@ -90,7 +90,7 @@ pub fn table_place(number: u32) -> Place
 // Whether there is such a table and both files are whole: 13 for a number above 20, then 8, 9, 10,
 // for every number alike.
 pub fn table_check(number: u32, f2: &[u8], month: &[u8]) -> Verdict
-    ensures { result ≡ tableCheck number f2.now month.now }
+    ensures { result ≡ table_check number f2.now month.now }
 {
     if 20 < number {
         return Verdict::Refused(Refusal::Table);
@@ -105,8 +105,8 @@ pub fn table_check(number: u32, f2: &[u8], month: &[u8]) -> Verdict
 // at the F2 record's start.
 pub fn table<'a>(number: u32, f2: &'a [u8], month: &'a [u8]) -> &'a [u8]
     ensures { IsPart
-        (tablePart number f2.now month.now)
-        (tableFile number f2.entry month.entry)
+        (table_part number f2.now month.now)
+        (table_file number f2.entry month.entry)
         result }
 {
     let verdict = table_check(number, f2, month);

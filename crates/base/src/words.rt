@@ -2,7 +2,7 @@
 ghost use Rattle.std.specs.Prelude.{◌≡◌, ℕ, ◌+◌, ◌*◌, ◌<◌, ◌≤◌, T, length, slice_index};
 ghost use Rattle.std.specs.Float.Ieee.Scale.{finite};
 ghost use Rattle.base.specs.Fill.{tabulate};
-ghost use Rattle.base.specs.Words.{word_of, word_at, integerAt, float_at, tableWordAt, FiniteRun};
+ghost use Rattle.base.specs.Words.{word_of, word_at, integer_at, float_at, table_word_at, FiniteRun};
 
 use crate::number;
 
@@ -71,7 +71,7 @@ pub fn word(s: &[u8], at: usize) -> u32
 
 // The word at `at` as a signed number; a byte that is not there counts as 0.
 pub fn integer(s: &[u8], at: usize) -> i32
-    ensures { result ≡ integerAt s.now at }
+    ensures { result ≡ integer_at s.now at }
 {
     number::signed(word(s, at))
 }
@@ -94,7 +94,7 @@ pub enum TableWord {
 // The word at `at` as a table's, where every number must be finite; a byte that is not there counts
 // as 0.
 pub fn table_word(s: &[u8], at: usize) -> TableWord
-    ensures { result ≡ tableWordAt s.now at }
+    ensures { result ≡ table_word_at s.now at }
 {
     let x = word(s, at);
     if x % 0x8000_0000 < 0x7f80_0000 {

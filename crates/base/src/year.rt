@@ -2,7 +2,7 @@
 // pairs of offset and length.
 ghost use Rattle.std.specs.Prelude.{◌≡◌, ◌+◌, ◌^◌, ◌<◌, ◌≤◌, length};
 ghost use Rattle.base.specs.MonthFile.{IsPart};
-ghost use Rattle.base.specs.Year.{offsetAt, length_at, end_at, floorAt, keepsRules, yearCheck, pairPart, yearMonth, yearModel};
+ghost use Rattle.base.specs.Year.{offset_at, length_at, end_at, floor_at, keeps_rules, year_check, pair_part, year_month, year_model};
 
 use crate::ranges::{is_bit, is_month};
 use crate::refusal::{Refusal, Verdict};
@@ -18,7 +18,7 @@ pub const DIRECTORY: usize = 8 * PARTS;
 // Where the part of pair k, counted from 0, starts.
 fn offset(year: &[u8], k: usize) -> usize
     requires { k < 14 }
-    ensures answer { result ≡ offsetAt year.now k }
+    ensures answer { result ≡ offset_at year.now k }
     ensures bound { result < 2 ^ 32 }
 {
     word(year, 8 * k) as usize
@@ -44,7 +44,7 @@ fn end(year: &[u8], k: usize) -> usize
 // Where the part of pair k may start at the earliest.
 fn floor(year: &[u8], k: usize) -> usize
     requires { k < 14 }
-    ensures { result ≡ floorAt year.now k }
+    ensures { result ≡ floor_at year.now k }
 {
     if k == 0 { DIRECTORY } else { end(year, k - 1) }
 }
@@ -52,7 +52,7 @@ fn floor(year: &[u8], k: usize) -> usize
 // Whether pair k, counted from 0, is wholly there and keeps its rules.
 fn keeps_rules(year: &[u8], k: usize) -> bool
     requires { k < 14 }
-    ensures { result ≡ keepsRules year.now k }
+    ensures { result ≡ keeps_rules year.now k }
 {
     if year.len() < 8 * k + 8 {
         return false;
@@ -69,7 +69,7 @@ fn keeps_rules(year: &[u8], k: usize) -> bool
 // The verdict on a year file's directory: 19 with the lowest pair, 1 to 14, that is not wholly
 // there or breaks a rule. What stands in the parts is not looked at.
 pub fn year_check(year: &[u8]) -> Verdict
-    ensures { result ≡ yearCheck year.now }
+    ensures { result ≡ year_check year.now }
 {
     let mut k = 0usize;
     while k < PARTS {
@@ -85,8 +85,8 @@ pub fn year_check(year: &[u8]) -> Verdict
 // not wholly there or its part not within the file.
 fn pair_place(year: &[u8], k: usize) -> Place
     requires { k < 14 }
-    ensures start { result.start ≡ (pairPart year.now k).from }
-    ensures size { result.size ≡ (pairPart year.now k).size }
+    ensures start { result.start ≡ (pair_part year.now k).from }
+    ensures size { result.size ≡ (pair_part year.now k).size }
     ensures within { result.start + result.size ≤ length year.now }
 {
     if year.len() < 8 * k + 8 {
@@ -105,8 +105,8 @@ fn pair_place(year: &[u8], k: usize) -> Place
 // outside 1 to 12, and where its pair is not wholly there or the part not within the file; whether
 // the directory keeps its rules is for `year_check`.
 pub fn month_place(year: &[u8], month: u32) -> Place
-    ensures start { result.start ≡ (yearMonth year.now month).from }
-    ensures size { result.size ≡ (yearMonth year.now month).size }
+    ensures start { result.start ≡ (year_month year.now month).from }
+    ensures size { result.size ≡ (year_month year.now month).size }
     ensures within { result.start + result.size ≤ length year.now }
 {
     if is_month(month) {
@@ -119,8 +119,8 @@ pub fn month_place(year: &[u8], month: u32) -> Place
 // Where the `.daw` file of a model, 0 CCIR and 1 URSI, lies in a year file, as `month_place` has
 // it; 0 and 0 for any other word.
 pub fn model_place(year: &[u8], model: u32) -> Place
-    ensures start { result.start ≡ (yearModel year.now model).from }
-    ensures size { result.size ≡ (yearModel year.now model).size }
+    ensures start { result.start ≡ (year_model year.now model).from }
+    ensures size { result.size ≡ (year_model year.now model).size }
     ensures within { result.start + result.size ≤ length year.now }
 {
     if is_bit(model) {
@@ -132,7 +132,7 @@ pub fn model_place(year: &[u8], model: u32) -> Place
 
 // The month file of a month, the part of the year file at `month_place`.
 pub fn year_month(year: &[u8], month: u32) -> &[u8]
-    ensures { IsPart (yearMonth year.now month) year.entry result }
+    ensures { IsPart (year_month year.now month) year.entry result }
 {
     let at = month_place(year, month);
     let a = at.start;
@@ -142,7 +142,7 @@ pub fn year_month(year: &[u8], month: u32) -> &[u8]
 
 // The `.daw` file of a model, the part of the year file at `model_place`.
 pub fn year_model(year: &[u8], model: u32) -> &[u8]
-    ensures { IsPart (yearModel year.now model) year.entry result }
+    ensures { IsPart (year_model year.now model) year.entry result }
 {
     let at = model_place(year, model);
     let a = at.start;

@@ -15,8 +15,8 @@ abbrev pub radians : Float → Radians
 radians x = record { 0 = x }
 
 -- a path's numbers, and the flag's word as it is
-abbrev pub routeTyped : Float → Float → Float → Float → ℕ → Route
-routeTyped tlat tlong rlat rlong flag =
+abbrev pub route_typed : Float → Float → Float → Float → ℕ → Route
+route_typed tlat tlong rlat rlong flag =
     record {
       tlat = degrees tlat;
       tlong = degrees tlong;
@@ -25,22 +25,22 @@ routeTyped tlat tlong rlat rlong flag =
       long_path = flag;
     }
 
-abbrev pub factorsOf : Float → Float → Float → Float → Factors
-factorsOf e f1 f2 es = record { e = e; f1 = f1; f2 = f2; es = es }
+abbrev pub factors_of : Float → Float → Float → Float → Factors
+factors_of e f1 f2 es = record { e = e; f1 = f1; f2 = f2; es = es }
 
-abbrev pub poleTyped : Float → Float → MagneticPole
-poleTyped lat lon = record { lat = degrees lat; lon = degrees lon }
+abbrev pub pole_typed : Float → Float → MagneticPole
+pole_typed lat lon = record { lat = degrees lat; lon = degrees lon }
 
 -- the 14 fields in document 01's order, with model 0
-unfoldable pub inputsTyped :
+unfoldable pub inputs_typed :
     ℕ → Float → Float → Float → Float → Float → Float → ℕ → Float → Float → Float → Float → Float → Float → Inputs
-inputsTyped month ssn gmt tlat tlong rlat rlong flag e f1 f2 es lat lon =
+inputs_typed month ssn gmt tlat tlong rlat rlong flag e f1 f2 es lat lon =
     record {
       month = month;
       ssn = ssn;
       gmt = gmt;
-      route = routeTyped tlat tlong rlat rlong flag;
-      psc = factorsOf e f1 f2 es;
-      pole = poleTyped lat lon;
+      route = route_typed tlat tlong rlat rlong flag;
+      psc = factors_of e f1 f2 es;
+      pole = pole_typed lat lon;
       model = 0;
     }

@@ -1,8 +1,8 @@
 // How answers cross to another language: whole numbers in structs that C lays out alike.
 ghost use Rattle.std.specs.Prelude.{◌≡◌};
 ghost use Rattle.base.specs.declared.refusal.Verdict.TheVariants.{Refused};
-ghost use Rattle.base.specs.MonthFile.{emptyPart};
-ghost use Rattle.jutetrowel.specs.Answers.{answer_of, useCode, useCodes, showingOf, shownNumbers, span_of, spanUnless};
+ghost use Rattle.base.specs.MonthFile.{empty_part};
+ghost use Rattle.jutetrowel.specs.Answers.{answer_of, use_code, use_codes, showing_of, shown_numbers, span_of, span_unless};
 
 use base::refusal::{Refusal, Verdict};
 use base::tables::Place;
@@ -48,7 +48,7 @@ pub(crate) fn answered(v: Verdict) -> Answer
 }
 
 fn use_code(u: Use) -> u32
-    ensures { result ≡ useCode u }
+    ensures { result ≡ use_code u }
 {
     match u {
         Use::NoLayer => 0,
@@ -59,7 +59,7 @@ fn use_code(u: Use) -> u32
 }
 
 fn use_codes(uses: Uses) -> [u32; POINTS]
-    ensures { result ≡ useCodes uses }
+    ensures { result ≡ use_codes uses }
 {
     let p1 = uses.p1;
     let p2 = uses.p2;
@@ -76,7 +76,7 @@ fn use_codes(uses: Uses) -> [u32; POINTS]
 }
 
 pub(crate) fn shown_as(shown: Shown) -> Showing
-    ensures { result ≡ showingOf shown }
+    ensures { result ≡ showing_of shown }
 {
     match shown {
         Shown::Points(count, uses) => Showing {
@@ -96,7 +96,7 @@ pub(crate) fn shown_as(shown: Shown) -> Showing
 
 // A showing's number and place.
 pub(crate) fn numbers_of(shown: Shown) -> Answer
-    ensures { result ≡ shownNumbers shown }
+    ensures { result ≡ shown_numbers shown }
 {
     let s = shown_as(shown);
     Answer {
@@ -106,7 +106,7 @@ pub(crate) fn numbers_of(shown: Shown) -> Answer
 }
 
 pub(crate) fn no_span(why: Refusal) -> Span
-    ensures { result ≡ span_of (Refused why) emptyPart }
+    ensures { result ≡ span_of (Refused why) empty_part }
 {
     Span {
         start: 0,
@@ -118,7 +118,7 @@ pub(crate) fn no_span(why: Refusal) -> Span
 
 // The span of a place, unless the verdict refuses it.
 pub(crate) fn span_unless(verdict: Verdict, at: Place) -> Span
-    ensures { result ≡ spanUnless verdict (record { from = at.start; size = at.size }) }
+    ensures { result ≡ span_unless verdict (record { from = at.start; size = at.size }) }
 {
     match verdict {
         Verdict::Accepted => Span {

@@ -1,9 +1,9 @@
 // The clocks of `maps::ionosphere::clocks`. Longitudes are in degrees, times in hours.
 ghost use Rattle.std.specs.Prelude.{◌≡◌, not, eqb};
 ghost use Rattle.maps.specs.declared.ionosphere.clocks.Direction.TheVariants.{ToLocal, ToUniversal};
-ghost use Rattle.maps.specs.Clocks.{movedOf, timesOf, localTimeOf};
+ghost use Rattle.maps.specs.Clocks.{moved_of, times_of, local_time_of};
 ghost use Rattle.jutetrowel.specs.Fields.{degrees};
-ghost use Rattle.jutetrowel.specs.Clocks.{clockAnswer, hoursAnswer, localAnswer};
+ghost use Rattle.jutetrowel.specs.Clocks.{clock_answer, hours_answer, local_answer};
 
 use base::angle::Degrees;
 use maps::ionosphere::clocks;
@@ -40,7 +40,7 @@ pub struct LocalAnswer {
 }
 
 fn clock_of(moved: Moved) -> ClockAnswer
-    ensures { result ≡ clockAnswer moved }
+    ensures { result ≡ clock_answer moved }
 {
     match moved {
         Moved::To(x) => ClockAnswer {
@@ -59,7 +59,7 @@ fn clock_of(moved: Moved) -> ClockAnswer
 }
 
 fn hours_of(times: Times) -> HoursAnswer
-    ensures { result ≡ hoursAnswer times }
+    ensures { result ≡ hours_answer times }
 {
     match times {
         Times::Hours(x) => HoursAnswer {
@@ -80,7 +80,7 @@ fn hours_of(times: Times) -> HoursAnswer
 }
 
 fn local_of(local: LocalTime) -> LocalAnswer
-    ensures { result ≡ localAnswer local }
+    ensures { result ≡ local_answer local }
 {
     match local {
         LocalTime::At(x) => LocalAnswer {
@@ -100,7 +100,7 @@ fn local_of(local: LocalTime) -> LocalAnswer
 // as `cngtim`, with zeros for the time and the day.
 #[unsafe(no_mangle)]
 pub extern "C" fn jt_cngtim_to_local(time: f32, lon: f32) -> ClockAnswer
-    ensures { result ≡ clockAnswer (movedOf time (degrees lon) ToLocal) }
+    ensures { result ≡ clock_answer (moved_of time (degrees lon) ToLocal) }
 {
     clock_of(clocks::cngtim(time, Degrees(lon), Direction::ToLocal))
 }
@@ -109,7 +109,7 @@ pub extern "C" fn jt_cngtim_to_local(time: f32, lon: f32) -> ClockAnswer
 // as `cngtim`, with zeros for the time and the day.
 #[unsafe(no_mangle)]
 pub extern "C" fn jt_cngtim_to_universal(time: f32, lon: f32) -> ClockAnswer
-    ensures { result ≡ clockAnswer (movedOf time (degrees lon) ToUniversal) }
+    ensures { result ≡ clock_answer (moved_of time (degrees lon) ToUniversal) }
 {
     clock_of(clocks::cngtim(time, Degrees(lon), Direction::ToUniversal))
 }
@@ -118,7 +118,7 @@ pub extern "C" fn jt_cngtim_to_universal(time: f32, lon: f32) -> ClockAnswer
 // Refuses as `geotim`, with zeros for the times.
 #[unsafe(no_mangle)]
 pub extern "C" fn jt_geotim(hour: u32, local: u32, tlong: f32, rlong: f32) -> HoursAnswer
-    ensures { result ≡ hoursAnswer (timesOf hour (not (eqb local 0)) (degrees tlong) (degrees rlong)) }
+    ensures { result ≡ hours_answer (times_of hour (not (eqb local 0)) (degrees tlong) (degrees rlong)) }
 {
     hours_of(clocks::geotim(hour, local != 0, Degrees(tlong), Degrees(rlong)))
 }
@@ -127,7 +127,7 @@ pub extern "C" fn jt_geotim(hour: u32, local: u32, tlong: f32, rlong: f32) -> Ho
 // `geotim_clck`, with zero for the time.
 #[unsafe(no_mangle)]
 pub extern "C" fn jt_geotim_clck(gmt: f32, lon: f32) -> LocalAnswer
-    ensures { result ≡ localAnswer (localTimeOf gmt (degrees lon)) }
+    ensures { result ≡ local_answer (local_time_of gmt (degrees lon)) }
 {
     local_of(clocks::geotim_clck(gmt, Degrees(lon)))
 }

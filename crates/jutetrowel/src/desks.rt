@@ -4,12 +4,12 @@ ghost use Rattle.std.specs.Prelude.{◌≡◌, []};
 ghost use Rattle.worksheet.specs.declared.inputs.Edit.TheVariants.{Sunspot, Hour, Path, Psc, Pole, Month, Model};
 ghost use Rattle.worksheet.specs.Desks.{opened_of};
 ghost use Rattle.worksheet.specs.Showing.{pair, yearly};
-ghost use Rattle.worksheet.specs.Journal.{begin, change, commit, cancel, takeBack, show as showCall, step};
+ghost use Rattle.worksheet.specs.Journal.{begin, change, commit, cancel, take_back, show as showCall, step};
 ghost use Rattle.worksheet.specs.Calls.{called};
 ghost use Rattle.jutetrowel.specs.Answers.{answer_of};
-ghost use Rattle.jutetrowel.specs.Fields.{routeTyped, factorsOf, poleTyped};
-ghost use Rattle.jutetrowel.specs.Words.{worksheetOf, wordsAfter};
-ghost use Rattle.jutetrowel.specs.Calls.{answerNumbers, Shows, wordsLeft, Made};
+ghost use Rattle.jutetrowel.specs.Fields.{route_typed, factors_of, pole_typed};
+ghost use Rattle.jutetrowel.specs.Words.{worksheet_of, words_after};
+ghost use Rattle.jutetrowel.specs.Calls.{answer_numbers, Shows, words_left, Made};
 
 use crate::answers::{Answer, Showing, numbers_of, shown_as};
 use crate::fields::{factors, pole, route};
@@ -25,7 +25,7 @@ use worksheet::showing::{Lent, show, show_year};
 #[unsafe(no_mangle)]
 pub extern "C" fn jt_open(words: &[u8], sheet: &mut [u32; SHEET_WORDS]) -> Answer
     ensures answer { result ≡ answer_of (opened_of words.now).answer }
-    ensures sheet { sheet.new ≡ wordsAfter (opened_of words.now) sheet.old }
+    ensures sheet { sheet.new ≡ words_after (opened_of words.now) sheet.old }
 {
     let new = opened(words);
     let verdict = new.answer;
@@ -35,9 +35,9 @@ pub extern "C" fn jt_open(words: &[u8], sheet: &mut [u32; SHEET_WORDS]) -> Answe
 
 // Makes a call that needs no files. A showing has no buffer here: it is refused.
 fn made(sheet: &mut [u32; SHEET_WORDS], call: Call) -> Answer
-    ensures answer { let s = step (pair [] []) (called call []) (worksheetOf sheet.old) in
-        result ≡ answerNumbers s.answer }
-    ensures sheet { sheet.new ≡ wordsLeft (pair [] []) (called call []) sheet.old }
+    ensures answer { let s = step (pair [] []) (called call []) (worksheet_of sheet.old) in
+        result ≡ answer_numbers s.answer }
+    ensures sheet { sheet.new ≡ words_left (pair [] []) (called call []) sheet.old }
 {
     let mut nothing = [0.0f32; 0];
     let next = journal::make(load(sheet), call, Lent::Pair, b"", b"", &mut nothing);
@@ -85,7 +85,7 @@ pub extern "C" fn jt_change_path(
     rlong: f32,
     long_path: u32,
 ) -> Answer
-    ensures { Made (change desk (Path (routeTyped tlat tlong rlat rlong long_path)))
+    ensures { Made (change desk (Path (route_typed tlat tlong rlat rlong long_path)))
         sheet.old result sheet.new }
 {
     let e = Edit::Path(route(tlat, tlong, rlat, rlong, long_path));
@@ -102,7 +102,7 @@ pub extern "C" fn jt_change_factors(
     psc_f2: f32,
     psc_es: f32,
 ) -> Answer
-    ensures { Made (change desk (Psc (factorsOf psc_e psc_f1 psc_f2 psc_es)))
+    ensures { Made (change desk (Psc (factors_of psc_e psc_f1 psc_f2 psc_es)))
         sheet.old result sheet.new }
 {
     let e = Edit::Psc(factors(psc_e, psc_f1, psc_f2, psc_es));
@@ -118,7 +118,7 @@ pub extern "C" fn jt_change_pole(
     pole_lat: f32,
     pole_lon: f32,
 ) -> Answer
-    ensures { Made (change desk (Pole (poleTyped pole_lat pole_lon)))
+    ensures { Made (change desk (Pole (pole_typed pole_lat pole_lon)))
         sheet.old result sheet.new }
 {
     let e = Edit::Pole(pole(pole_lat, pole_lon));
@@ -162,7 +162,7 @@ pub extern "C" fn jt_cancel(sheet: &mut [u32; SHEET_WORDS], desk: u32) -> Answer
 // Brings back the earlier set of inputs. Refuses 18 where there is none.
 #[unsafe(no_mangle)]
 pub extern "C" fn jt_take_back(sheet: &mut [u32; SHEET_WORDS]) -> Answer
-    ensures { Made takeBack sheet.old result sheet.new }
+    ensures { Made take_back sheet.old result sheet.new }
 {
     made(sheet, Call::TakeBack)
 }
@@ -179,7 +179,7 @@ pub extern "C" fn jt_show(
     out: &mut [f32],
 ) -> Showing
     ensures { Shows (step (pair f2.now file.now)
-        (showCall desk out.old) (worksheetOf sheet.now)).answer
+        (showCall desk out.old) (worksheet_of sheet.now)).answer
         result out.new }
 {
     shown_as(show(load(sheet), desk, f2, file, out))
@@ -195,7 +195,7 @@ pub extern "C" fn jt_show_year(
     out: &mut [f32],
 ) -> Showing
     ensures { Shows (step (yearly year.now)
-        (showCall desk out.old) (worksheetOf sheet.now)).answer
+        (showCall desk out.old) (worksheet_of sheet.now)).answer
         result out.new }
 {
     shown_as(show_year(load(sheet), desk, year, out))

@@ -1,13 +1,13 @@
 // The files of `base::month_file` and `base::files`, the tables of `base::tables` and the year file of
 // `base::year`.
 ghost use Rattle.std.specs.Prelude.{◌≡◌};
-ghost use Rattle.base.specs.Refusal.{writtenOver};
-ghost use Rattle.base.specs.MonthFile.{monthFileCheck, monthRecordCheck, monthPart};
-ghost use Rattle.base.specs.Tables.{tableCheck, tablePart};
-ghost use Rattle.base.specs.Blend.{cofionOf, hmymOf};
-ghost use Rattle.base.specs.Files.{fileCheck, filesCheck};
-ghost use Rattle.base.specs.Year.{yearCheck, yearMonth, yearModel, yearMonthCheck, yearModelCheck};
-ghost use Rattle.jutetrowel.specs.Answers.{answer_of, span_of, spanUnless};
+ghost use Rattle.base.specs.Refusal.{written_over};
+ghost use Rattle.base.specs.MonthFile.{month_file_check, month_record_check, month_part};
+ghost use Rattle.base.specs.Tables.{table_check, table_part};
+ghost use Rattle.base.specs.Blend.{cofion_of, hmym_of};
+ghost use Rattle.base.specs.Files.{file_check, files_check};
+ghost use Rattle.base.specs.Year.{year_check, year_month, year_model, year_month_check, year_model_check};
+ghost use Rattle.jutetrowel.specs.Answers.{answer_of, span_of, span_unless};
 
 use crate::answers::{Answer, Span, answered, no_span, span_unless};
 use base::blend::{HeightMap, SixMaps};
@@ -20,7 +20,7 @@ use base::{files, month_file, tables, year};
 // byte's place.
 #[unsafe(no_mangle)]
 pub extern "C" fn jt_month_file_check(s: &[u8]) -> Answer
-    ensures { result ≡ answer_of (monthFileCheck s.now) }
+    ensures { result ≡ answer_of (month_file_check s.now) }
 {
     answered(month_file::month_file_check(s))
 }
@@ -29,7 +29,7 @@ pub extern "C" fn jt_month_file_check(s: &[u8]) -> Answer
 // by its index table.
 #[unsafe(no_mangle)]
 pub extern "C" fn jt_file_check(month: &[u8]) -> Answer
-    ensures { result ≡ answer_of (fileCheck month.now) }
+    ensures { result ≡ answer_of (file_check month.now) }
 {
     answered(files::file_check(month))
 }
@@ -39,7 +39,7 @@ pub extern "C" fn jt_file_check(month: &[u8]) -> Answer
 #[unsafe(no_mangle)]
 pub extern "C" fn jt_month_record(daw: &[u8], month: u32) -> Span
     ensures { let s = daw.now in
-        result ≡ span_of (monthRecordCheck s month) (monthPart s month) }
+        result ≡ span_of (month_record_check s month) (month_part s month) }
 {
     let verdict = month_file::month_record_check(daw, month);
     match verdict {
@@ -59,7 +59,7 @@ pub extern "C" fn jt_month_record(daw: &[u8], month: u32) -> Span
 pub extern "C" fn jt_table(number: u32, f2: &[u8], month: &[u8]) -> Span
     ensures { let f = f2.now in
         let m = month.now in
-        result ≡ span_of (tableCheck number f m) (tablePart number f m) }
+        result ≡ span_of (table_check number f m) (table_part number f m) }
 {
     let verdict = tables::table_check(number, f2, month);
     match verdict {
@@ -80,7 +80,7 @@ pub extern "C" fn jt_table(number: u32, f2: &[u8], month: &[u8]) -> Span
 // or breaks a rule.
 #[unsafe(no_mangle)]
 pub extern "C" fn jt_year_check(year: &[u8]) -> Answer
-    ensures { result ≡ answer_of (yearCheck year.now) }
+    ensures { result ≡ answer_of (year_check year.now) }
 {
     answered(year::year_check(year))
 }
@@ -90,7 +90,7 @@ pub extern "C" fn jt_year_check(year: &[u8]) -> Answer
 #[unsafe(no_mangle)]
 pub extern "C" fn jt_year_month(year: &[u8], month: u32) -> Span
     ensures { let s = year.now in
-        result ≡ spanUnless (yearMonthCheck s month) (yearMonth s month) }
+        result ≡ span_unless (year_month_check s month) (year_month s month) }
 {
     let verdict = then(month_check(month), year::year_check(year));
     let at = year::month_place(year, month);
@@ -102,7 +102,7 @@ pub extern "C" fn jt_year_month(year: &[u8], month: u32) -> Span
 #[unsafe(no_mangle)]
 pub extern "C" fn jt_year_model(year: &[u8], model: u32) -> Span
     ensures { let s = year.now in
-        result ≡ spanUnless (yearModelCheck s model) (yearModel s model) }
+        result ≡ span_unless (year_model_check s model) (year_model s model) }
 {
     let verdict = then(model_check(model), year::year_check(year));
     let at = year::model_place(year, model);
@@ -113,10 +113,10 @@ pub extern "C" fn jt_year_model(year: &[u8], model: u32) -> Span
 // array stays as it is.
 #[unsafe(no_mangle)]
 pub extern "C" fn jt_cofion(f2: &[u8], month: &[u8], ssn: f32, out: &mut SixMaps) -> Answer
-    ensures answer { result ≡ answer_of (filesCheck f2.now month.now) }
+    ensures answer { result ≡ answer_of (files_check f2.now month.now) }
     ensures buffer { let f = f2.now in
         let m = month.now in
-        out.new ≡ writtenOver (filesCheck f m) (cofionOf f m ssn) out.old }
+        out.new ≡ written_over (files_check f m) (cofion_of f m ssn) out.old }
 {
     answered(files::cofion(f2, month, ssn, out))
 }
@@ -125,9 +125,9 @@ pub extern "C" fn jt_cofion(f2: &[u8], month: &[u8], ssn: f32, out: &mut SixMaps
 // array stays as it is.
 #[unsafe(no_mangle)]
 pub extern "C" fn jt_hmym(month: &[u8], ssn: f32, out: &mut HeightMap) -> Answer
-    ensures answer { result ≡ answer_of (fileCheck month.now) }
+    ensures answer { result ≡ answer_of (file_check month.now) }
     ensures buffer { let m = month.now in
-        out.new ≡ writtenOver (fileCheck m) (hmymOf m ssn) out.old }
+        out.new ≡ written_over (file_check m) (hmym_of m ssn) out.old }
 {
     answered(files::hmym(month, ssn, out))
 }

@@ -1,14 +1,14 @@
 // The parts of `maps` by themselves: a path, the six maps at an hour, the layers at a place. Of the
 // fields only the layers' month is judged: a whole sheet judges all, these take them as they are.
 ghost use Rattle.std.specs.Prelude.{◌≡◌};
-ghost use Rattle.base.specs.Refusal.{writtenOver};
-ghost use Rattle.base.specs.Files.{filesCheck};
-ghost use Rattle.maps.specs.Inputs.{isLong};
-ghost use Rattle.maps.specs.Geometry.{pathOf};
-ghost use Rattle.maps.specs.Ionosphere.{hourMapsOf, layersAtOf};
+ghost use Rattle.base.specs.Refusal.{written_over};
+ghost use Rattle.base.specs.Files.{files_check};
+ghost use Rattle.maps.specs.Inputs.{is_long};
+ghost use Rattle.maps.specs.Geometry.{path_of};
+ghost use Rattle.maps.specs.Ionosphere.{hour_maps_of, layers_at_of};
 ghost use Rattle.jutetrowel.specs.Answers.{answer_of};
-ghost use Rattle.jutetrowel.specs.Fields.{degrees, radians, poleTyped};
-ghost use Rattle.jutetrowel.specs.Layers.{layerInputs, measuredOf, layersAs};
+ghost use Rattle.jutetrowel.specs.Fields.{degrees, radians, pole_typed};
+ghost use Rattle.jutetrowel.specs.Layers.{layer_inputs, measured_of, layers_as};
 
 use crate::answers::{Answer, answered};
 use crate::fields::{factors, pole};
@@ -51,7 +51,7 @@ pub struct Layers {
 }
 
 fn path_as(g: geometry::PathGeometry) -> Measured
-    ensures { result ≡ measuredOf g }
+    ensures { result ≡ measured_of g }
 {
     let gcd = g.gcd;
     let btr = g.btr;
@@ -82,9 +82,9 @@ pub extern "C" fn jt_path(
     pole_lat: f32,
     pole_lon: f32,
 ) -> Measured
-    ensures { let long = isLong long_path in
-        let pole = poleTyped pole_lat pole_lon in
-        result ≡ measuredOf (pathOf (degrees tlat) (degrees tlong) (degrees rlat) (degrees rlong) long pole) }
+    ensures { let long = is_long long_path in
+        let pole = pole_typed pole_lat pole_lon in
+        result ≡ measured_of (path_of (degrees tlat) (degrees tlong) (degrees rlat) (degrees rlong) long pole) }
 {
     path_as(geometry::path_geometry(
         Degrees(tlat),
@@ -106,16 +106,16 @@ pub extern "C" fn jt_hour_maps(
     gmt: f32,
     ab: &mut TimeMaps,
 ) -> Answer
-    ensures answer { result ≡ answer_of (filesCheck f2.now file.now) }
+    ensures answer { result ≡ answer_of (files_check f2.now file.now) }
     ensures buffer { let f = f2.now in
         let m = file.now in
-        ab.new ≡ writtenOver (filesCheck f m) (hourMapsOf f m ssn gmt) ab.old }
+        ab.new ≡ written_over (files_check f m) (hour_maps_of f m ssn gmt) ab.old }
 {
     answered(ionosphere::hour_maps(f2, file, ssn, gmt, ab))
 }
 
 fn layers_as(l: LayersAt) -> Layers
-    ensures { result ≡ layersAs l }
+    ensures { result ≡ layers_as l }
 {
     let verdict = l.verdict;
     let p = l.params;
@@ -158,9 +158,9 @@ pub extern "C" fn jt_layers_at(
     lat: f32,
     lon: f32,
 ) -> Layers
-    ensures { let i = layerInputs month ssn gmt psc_e psc_f1 psc_f2 psc_es in
-        let pole = poleTyped pole_lat pole_lon in
-        result ≡ layersAs (layersAtOf i ab.now file.now pole (radians lat) (radians lon)) }
+    ensures { let i = layer_inputs month ssn gmt psc_e psc_f1 psc_f2 psc_es in
+        let pole = pole_typed pole_lat pole_lon in
+        result ≡ layers_as (layers_at_of i ab.now file.now pole (radians lat) (radians lon)) }
 {
     let inputs = LayerInputs {
         month,

@@ -2,14 +2,14 @@
 ghost use Rattle.std.specs.Prelude.{◌≡◌};
 ghost use Rattle.std.specs.Float.{binary32, binary64};
 ghost use Rattle.std.specs.Float.Ieee.{of_int, to_signed, to_unsigned};
-ghost use Rattle.base.specs.Number.{absOf, minOf, max_of, narrowOf, sqrtOf};
+ghost use Rattle.base.specs.Number.{abs_of, min_of, max_of, narrow_of, sqrt_of};
 ghost use Rattle.maps.specs.Geometry.{sign_of};
-ghost use Rattle.base.specs.Elementary.{sinOf, cosOf, atanOf, acosOf, expOf, lnOf, sin32Of, cos32Of, atan32Of, acos32Of, exp32Of, ln32Of};
+ghost use Rattle.base.specs.Elementary.{sin_of, cos_of, atan_of, acos_of, exp_of, ln_of, sin32_of, cos32_of, atan32_of, acos32_of, exp32_of, ln32_of};
 
 // The size of x, which takes -0 to +0; a NaN gives a NaN.
 #[unsafe(no_mangle)]
 pub extern "C" fn jt_abs32(x: f32) -> f32
-    ensures { result ≡ absOf x }
+    ensures { result ≡ abs_of x }
 {
     base::number::abs32(x)
 }
@@ -17,7 +17,7 @@ pub extern "C" fn jt_abs32(x: f32) -> f32
 // The size of x, which takes -0 to +0; a NaN gives a NaN.
 #[unsafe(no_mangle)]
 pub extern "C" fn jt_abs64(x: f64) -> f64
-    ensures { result ≡ absOf x }
+    ensures { result ≡ abs_of x }
 {
     base::number::abs64(x)
 }
@@ -25,7 +25,7 @@ pub extern "C" fn jt_abs64(x: f64) -> f64
 // The lesser of two, the other one where one is a NaN, and the left of equals.
 #[unsafe(no_mangle)]
 pub extern "C" fn jt_min(a: f32, b: f32) -> f32
-    ensures { result ≡ minOf a b }
+    ensures { result ≡ min_of a b }
 {
     base::number::min(a, b)
 }
@@ -58,7 +58,7 @@ pub extern "C" fn jt_widen(x: f32) -> f64
 // The `f32` nearest to x, a tie going to the one whose last digit is even; a NaN gives a NaN.
 #[unsafe(no_mangle)]
 pub extern "C" fn jt_narrow(x: f64) -> f32
-    ensures { result ≡ narrowOf x }
+    ensures { result ≡ narrow_of x }
 {
     base::number::narrow(x)
 }
@@ -66,7 +66,7 @@ pub extern "C" fn jt_narrow(x: f64) -> f32
 // √x to the nearest `f64`; a NaN for a NaN and for any x below zero but -0, whose root is -0.
 #[unsafe(no_mangle)]
 pub extern "C" fn jt_sqrt64(x: f64) -> f64
-    ensures { result ≡ sqrtOf binary64 x }
+    ensures { result ≡ sqrt_of binary64 x }
 {
     base::number::sqrt64(x)
 }
@@ -74,7 +74,7 @@ pub extern "C" fn jt_sqrt64(x: f64) -> f64
 // √x to the nearest `f32`; a NaN for a NaN and for any x below zero but -0, whose root is -0.
 #[unsafe(no_mangle)]
 pub extern "C" fn jt_sqrt32(x: f32) -> f32
-    ensures { result ≡ sqrtOf binary32 x }
+    ensures { result ≡ sqrt_of binary32 x }
 {
     base::number::sqrt32(x)
 }
@@ -107,7 +107,7 @@ pub extern "C" fn jt_to_u64(x: f64) -> u64
 // The sine of x radians, by document 01's steps; a NaN for a NaN and beyond 1000 in size.
 #[unsafe(no_mangle)]
 pub extern "C" fn jt_sin64(x: f64) -> f64
-    ensures { result ≡ sinOf x }
+    ensures { result ≡ sin_of x }
 {
     base::elementary::sin64(x)
 }
@@ -115,7 +115,7 @@ pub extern "C" fn jt_sin64(x: f64) -> f64
 // The cosine of x radians, by document 01's steps; a NaN for a NaN and beyond 1000 in size.
 #[unsafe(no_mangle)]
 pub extern "C" fn jt_cos64(x: f64) -> f64
-    ensures { result ≡ cosOf x }
+    ensures { result ≡ cos_of x }
 {
     base::elementary::cos64(x)
 }
@@ -123,7 +123,7 @@ pub extern "C" fn jt_cos64(x: f64) -> f64
 // The arc tangent of x, in radians, by document 01's steps; a NaN for a NaN.
 #[unsafe(no_mangle)]
 pub extern "C" fn jt_atan64(x: f64) -> f64
-    ensures { result ≡ atanOf x }
+    ensures { result ≡ atan_of x }
 {
     base::elementary::atan64(x)
 }
@@ -131,7 +131,7 @@ pub extern "C" fn jt_atan64(x: f64) -> f64
 // The arc cosine of x, in radians, by document 01's steps; a NaN for a NaN and beyond 1 in size.
 #[unsafe(no_mangle)]
 pub extern "C" fn jt_acos64(x: f64) -> f64
-    ensures { result ≡ acosOf x }
+    ensures { result ≡ acos_of x }
 {
     base::elementary::acos64(x)
 }
@@ -139,7 +139,7 @@ pub extern "C" fn jt_acos64(x: f64) -> f64
 // e to the power x, by document 01's steps; a NaN for a NaN.
 #[unsafe(no_mangle)]
 pub extern "C" fn jt_exp64(x: f64) -> f64
-    ensures { result ≡ expOf x }
+    ensures { result ≡ exp_of x }
 {
     base::elementary::exp64(x)
 }
@@ -147,7 +147,7 @@ pub extern "C" fn jt_exp64(x: f64) -> f64
 // The natural logarithm of x, by document 01's steps; a NaN for a NaN and below zero.
 #[unsafe(no_mangle)]
 pub extern "C" fn jt_ln64(x: f64) -> f64
-    ensures { result ≡ lnOf x }
+    ensures { result ≡ ln_of x }
 {
     base::elementary::ln64(x)
 }
@@ -156,7 +156,7 @@ pub extern "C" fn jt_ln64(x: f64) -> f64
 // size.
 #[unsafe(no_mangle)]
 pub extern "C" fn jt_sin32(x: f32) -> f32
-    ensures { result ≡ sin32Of x }
+    ensures { result ≡ sin32_of x }
 {
     base::elementary::sin32(x)
 }
@@ -165,7 +165,7 @@ pub extern "C" fn jt_sin32(x: f32) -> f32
 // in size.
 #[unsafe(no_mangle)]
 pub extern "C" fn jt_cos32(x: f32) -> f32
-    ensures { result ≡ cos32Of x }
+    ensures { result ≡ cos32_of x }
 {
     base::elementary::cos32(x)
 }
@@ -173,7 +173,7 @@ pub extern "C" fn jt_cos32(x: f32) -> f32
 // The arc tangent of x, in radians, through the `f64` one and narrowed; a NaN for a NaN.
 #[unsafe(no_mangle)]
 pub extern "C" fn jt_atan32(x: f32) -> f32
-    ensures { result ≡ atan32Of x }
+    ensures { result ≡ atan32_of x }
 {
     base::elementary::atan32(x)
 }
@@ -182,7 +182,7 @@ pub extern "C" fn jt_atan32(x: f32) -> f32
 // in size.
 #[unsafe(no_mangle)]
 pub extern "C" fn jt_acos32(x: f32) -> f32
-    ensures { result ≡ acos32Of x }
+    ensures { result ≡ acos32_of x }
 {
     base::elementary::acos32(x)
 }
@@ -190,7 +190,7 @@ pub extern "C" fn jt_acos32(x: f32) -> f32
 // e to the power x, through the `f64` one and narrowed; a NaN for a NaN.
 #[unsafe(no_mangle)]
 pub extern "C" fn jt_exp32(x: f32) -> f32
-    ensures { result ≡ exp32Of x }
+    ensures { result ≡ exp32_of x }
 {
     base::elementary::exp32(x)
 }
@@ -198,7 +198,7 @@ pub extern "C" fn jt_exp32(x: f32) -> f32
 // The natural logarithm of x, through the `f64` one and narrowed; a NaN for a NaN and below zero.
 #[unsafe(no_mangle)]
 pub extern "C" fn jt_ln32(x: f32) -> f32
-    ensures { result ≡ ln32Of x }
+    ensures { result ≡ ln32_of x }
 {
     base::elementary::ln32(x)
 }

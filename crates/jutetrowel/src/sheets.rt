@@ -1,10 +1,10 @@
 // The figures of a sheet by its fields, and a whole sheet as the program `sheet` gives it.
 ghost use Rattle.std.specs.Prelude.{◌≡◌};
-ghost use Rattle.worksheet.specs.Desks.{sheetOpenedOf};
-ghost use Rattle.worksheet.specs.Showing.{pair, drawnOf, drawnBuffer};
+ghost use Rattle.worksheet.specs.Desks.{sheet_opened_of};
+ghost use Rattle.worksheet.specs.Showing.{pair, drawn_of, drawn_buffer};
 ghost use Rattle.worksheet.specs.Journal.{show as showCall, step};
-ghost use Rattle.jutetrowel.specs.Answers.{showingOf};
-ghost use Rattle.jutetrowel.specs.Fields.{inputsTyped};
+ghost use Rattle.jutetrowel.specs.Answers.{showing_of};
+ghost use Rattle.jutetrowel.specs.Fields.{inputs_typed};
 ghost use Rattle.jutetrowel.specs.Calls.{Shows};
 
 use crate::answers::{Showing, shown_as};
@@ -36,14 +36,14 @@ pub extern "C" fn jt_figures(
     file: &[u8],
     out: &mut [f32],
 ) -> Showing
-    ensures answer { let i = inputsTyped month ssn gmt tlat tlong rlat rlong long_path
+    ensures answer { let i = inputs_typed month ssn gmt tlat tlong rlat rlong long_path
         psc_e psc_f1 psc_f2 psc_es pole_lat pole_lon in
         let files = pair f2.now file.now i in
-        result ≡ showingOf (drawnOf files i out.old) }
-    ensures buffer { let i = inputsTyped month ssn gmt tlat tlong rlat rlong long_path
+        result ≡ showing_of (drawn_of files i out.old) }
+    ensures buffer { let i = inputs_typed month ssn gmt tlat tlong rlat rlong long_path
         psc_e psc_f1 psc_f2 psc_es pole_lat pole_lon in
         let files = pair f2.now file.now i in
-        out.new ≡ drawnBuffer files i out.old }
+        out.new ≡ drawn_buffer files i out.old }
 {
     let i = Inputs {
         month,
@@ -63,7 +63,7 @@ pub extern "C" fn jt_figures(
 #[unsafe(no_mangle)]
 pub extern "C" fn jt_sheet(words: &[u8], f2: &[u8], file: &[u8], out: &mut [f32]) -> Showing
     ensures { Shows (step (pair f2.now file.now)
-        (showCall 0 out.old) (sheetOpenedOf words.now).sheet).answer
+        (showCall 0 out.old) (sheet_opened_of words.now).sheet).answer
         result out.new }
 {
     let new = sheet_opened(words);

@@ -2,9 +2,9 @@
 // of desks 1 to 4, 16 words each.
 ghost use Rattle.std.specs.Prelude.{◌≡◌, ℕ, ◌+◌, ◌≤◌, length};
 ghost use Rattle.base.specs.Fill.{fill};
-ghost use Rattle.base.specs.Refusal.{writtenOver};
+ghost use Rattle.base.specs.Refusal.{written_over};
 ghost use Rattle.jutetrowel.specs.Answers.{answer_of};
-ghost use Rattle.jutetrowel.specs.Words.{setSize, sheetSize, word_in, inputsIn, earlierIn, draftIn, worksheetOf, setWords, earlierWords, draftWords, sheetWords};
+ghost use Rattle.jutetrowel.specs.Words.{set_size, sheet_size, word_in, inputs_in, earlier_in, draft_in, worksheet_of, set_words, earlier_words, draft_words, sheet_words};
 
 use crate::answers::{Answer, answered};
 use base::refusal::Verdict;
@@ -42,8 +42,8 @@ fn copy(from: &[u32], at: usize, out: &mut [u32], to: usize, n: usize)
 
 // The 15 fields of the set at `at`.
 fn inputs_in(sheet: &[u32; SHEET_WORDS], at: usize) -> Inputs
-    requires { at + setSize ≤ sheetSize }
-    ensures { result ≡ inputsIn sheet.now at }
+    requires { at + set_size ≤ sheet_size }
+    ensures { result ≡ inputs_in sheet.now at }
 {
     let mut fields = [0u32; FIELDS];
     copy(sheet, at + 1, &mut fields, 0, FIELDS);
@@ -51,8 +51,8 @@ fn inputs_in(sheet: &[u32; SHEET_WORDS], at: usize) -> Inputs
 }
 
 fn earlier_in(sheet: &[u32; SHEET_WORDS], at: usize) -> Earlier
-    requires { at + setSize ≤ sheetSize }
-    ensures { result ≡ earlierIn sheet.now at }
+    requires { at + set_size ≤ sheet_size }
+    ensures { result ≡ earlier_in sheet.now at }
 {
     if sheet[at] == 0 {
         Earlier::Nothing
@@ -62,8 +62,8 @@ fn earlier_in(sheet: &[u32; SHEET_WORDS], at: usize) -> Earlier
 }
 
 fn draft_in(sheet: &[u32; SHEET_WORDS], at: usize) -> Draft
-    requires { at + setSize ≤ sheetSize }
-    ensures { result ≡ draftIn sheet.now at }
+    requires { at + set_size ≤ sheet_size }
+    ensures { result ≡ draft_in sheet.now at }
 {
     if sheet[at] == 0 {
         Draft::Closed
@@ -76,7 +76,7 @@ fn draft_in(sheet: &[u32; SHEET_WORDS], at: usize) -> Draft
 
 // The worksheet that the words hold; any 96 words hold one.
 pub(crate) fn load(sheet: &[u32; SHEET_WORDS]) -> Worksheet
-    ensures { result ≡ worksheetOf sheet.now }
+    ensures { result ≡ worksheet_of sheet.now }
 {
     Worksheet {
         inputs: inputs_in(sheet, 0),
@@ -90,7 +90,7 @@ pub(crate) fn load(sheet: &[u32; SHEET_WORDS]) -> Worksheet
 
 // The words of a set that is there.
 fn set_words(what: u32, i: Inputs) -> [u32; SET]
-    ensures { result ≡ setWords what i }
+    ensures { result ≡ set_words what i }
 {
     let fields = to_words(i);
     let mut set = [what; SET];
@@ -99,7 +99,7 @@ fn set_words(what: u32, i: Inputs) -> [u32; SET]
 }
 
 fn earlier_words(e: Earlier) -> [u32; SET]
-    ensures { result ≡ earlierWords e }
+    ensures { result ≡ earlier_words e }
 {
     match e {
         Earlier::Nothing => [0u32; SET],
@@ -108,7 +108,7 @@ fn earlier_words(e: Earlier) -> [u32; SET]
 }
 
 fn draft_words(d: Draft) -> [u32; SET]
-    ensures { result ≡ draftWords d }
+    ensures { result ≡ draft_words d }
 {
     match d {
         Draft::Closed => [0u32; SET],
@@ -119,7 +119,7 @@ fn draft_words(d: Draft) -> [u32; SET]
 
 // A worksheet's words. Of a set that is not there all are 0.
 fn words_of(w: Worksheet) -> [u32; SHEET_WORDS]
-    ensures { result ≡ sheetWords w }
+    ensures { result ≡ sheet_words w }
 {
     let i = w.inputs;
     let e = w.earlier;
@@ -147,7 +147,7 @@ fn words_of(w: Worksheet) -> [u32; SHEET_WORDS]
 // they stay.
 pub(crate) fn settle(sheet: &mut [u32; SHEET_WORDS], verdict: Verdict, w: Worksheet) -> Answer
     ensures answer { result ≡ answer_of verdict }
-    ensures sheet { sheet.new ≡ writtenOver verdict (sheetWords w) sheet.old }
+    ensures sheet { sheet.new ≡ written_over verdict (sheet_words w) sheet.old }
 {
     match verdict {
         Verdict::Accepted => {

@@ -9,66 +9,66 @@ use Rattle.listing.specs.declared.account.Became.{Became}
 use Rattle.listing.specs.declared.account.Became.TheVariants.{TakenBack, Cancelled, Never}
 use Rattle.listing.specs.declared.account.Balked.{Balked}
 use Rattle.listing.specs.declared.account.Balked.TheVariants.{No, At}
-use Rattle.listing.specs.Text.{decimalOf}
-use Rattle.listing.specs.Fields.{fieldText}
+use Rattle.listing.specs.Text.{decimal_of}
+use Rattle.listing.specs.Fields.{field_text}
 
 -- ` at line 12`, the number being that of the journal's line
-unfoldable pub atLine : ℕ → List ℕ
-atLine line = ascii " at line " ++ decimalOf line
+unfoldable pub at_line : ℕ → List ℕ
+at_line line = ascii " at line " ++ decimal_of line
 
 -- ---- where a field comes from
 
-unfoldable pub cameWords : Came → List ℕ
-cameWords (Opened line) = ascii "opened" ++ atLine line
-cameWords (Set desk line settled) =
-    ascii "set by desk " ++ (decimalOf desk ++ (atLine line ++ (ascii ", settled" ++ atLine settled)))
+unfoldable pub came_words : Came → List ℕ
+came_words (Opened line) = ascii "opened" ++ at_line line
+came_words (Set desk line settled) =
+    ascii "set by desk " ++ (decimal_of desk ++ (at_line line ++ (ascii ", settled" ++ at_line settled)))
 
 -- field k, from 1 to 15, after it two blanks and where it comes from
-unfoldable pub cameText : Inputs → ℕ → Came → List ℕ
-cameText i k came = fieldText i k ++ (ascii "  " ++ (cameWords came ++ ascii "\n"))
+unfoldable pub came_text : Inputs → ℕ → Came → List ℕ
+came_text i k came = field_text i k ++ (ascii "  " ++ (came_words came ++ ascii "\n"))
 
 -- the same for any k: there is no line of a field that is none
-unfoldable pub cameLine : Inputs → ℕ → Came → List ℕ
-cameLine i k came = cond (leb 1 k && leb k 15) (cameText i k came) []
+unfoldable pub came_line : Inputs → ℕ → Came → List ℕ
+came_line i k came = cond (leb 1 k && leb k 15) (came_text i k came) []
 
 -- ---- what became of a draft
 
-unfoldable pub becameWords : Became → List ℕ
-becameWords (TakenBack committed back) =
-    ascii "committed" ++ (atLine committed ++ (ascii ", taken back" ++ atLine back))
-becameWords (Cancelled line) = ascii "cancelled" ++ atLine line
-becameWords Never = ascii "not committed by then"
+unfoldable pub became_words : Became → List ℕ
+became_words (TakenBack committed back) =
+    ascii "committed" ++ (at_line committed ++ (ascii ", taken back" ++ at_line back))
+became_words (Cancelled line) = ascii "cancelled" ++ at_line line
+became_words Never = ascii "not committed by then"
 
 -- where a commit of it was refused: `refused at line 6, `
-unfoldable pub balkedWords : Balked → List ℕ
-balkedWords No = []
-balkedWords (At line) = ascii "refused" ++ (atLine line ++ ascii ", ")
+unfoldable pub balked_words : Balked → List ℕ
+balked_words No = []
+balked_words (At line) = ascii "refused" ++ (at_line line ++ ascii ", ")
 
 -- as `desk 2, begun at line 5: cancelled at line 7`
-unfoldable pub draftLine : ℕ → ℕ → Balked → Became → List ℕ
-draftLine desk begun balked became =
+unfoldable pub draft_line : ℕ → ℕ → Balked → Became → List ℕ
+draft_line desk begun balked became =
     ascii "desk "
-    ++ (decimalOf desk
+    ++ (decimal_of desk
     ++ (ascii ", begun"
-    ++ (atLine begun ++ (ascii ": " ++ (balkedWords balked ++ (becameWords became ++ ascii "\n"))))))
+    ++ (at_line begun ++ (ascii ": " ++ (balked_words balked ++ (became_words became ++ ascii "\n"))))))
 
 -- ---- the headings
 
 -- as `audit of line 9: the worksheet as it was shown there`, and over the fields
-unfoldable pub titleText : ℕ → List ℕ
-titleText line =
+unfoldable pub title_text : ℕ → List ℕ
+title_text line =
     ascii "audit of line "
-    ++ (decimalOf line ++ ascii ": the worksheet as it was shown there\n\nwhere its inputs come from:\n")
+    ++ (decimal_of line ++ ascii ": the worksheet as it was shown there\n\nwhere its inputs come from:\n")
 
-abbrev pub draftsHead : List ℕ
-draftsHead = ascii "\ndrafts that are not in it:\n"
+abbrev pub drafts_head : List ℕ
+drafts_head = ascii "\ndrafts that are not in it:\n"
 
 -- in the place of the drafts' lines, where there is none
-abbrev pub noneLine : List ℕ
-noneLine = ascii "none\n"
+abbrev pub none_line : List ℕ
+none_line = ascii "none\n"
 
-abbrev pub shorterHead : List ℕ
-shorterHead = ascii "\nthe shorter journal, which gives the same sheet:\n"
+abbrev pub shorter_head : List ℕ
+shorter_head = ascii "\nthe shorter journal, which gives the same sheet:\n"
 
-abbrev pub sheetHead : List ℕ
-sheetHead = ascii "\nthe sheet:\n"
+abbrev pub sheet_head : List ℕ
+sheet_head = ascii "\nthe sheet:\n"

@@ -5,36 +5,36 @@ use Rattle.std.specs.Float.Ieee.{to_bits}
 use Rattle.base.specs.declared.refusal.Refusal.{Refusal}
 use Rattle.base.specs.declared.refusal.Verdict.{Verdict}
 use Rattle.base.specs.declared.refusal.Verdict.TheVariants.{Accepted, Refused}
-use Rattle.base.specs.Refusal.{reportOf}
+use Rattle.base.specs.Refusal.{report_of}
 use Rattle.maps.specs.declared.geometry.Uses.{Uses}
 use Rattle.maps.specs.declared.figures.Shown.{Shown}
 use Rattle.maps.specs.declared.figures.Shown.TheVariants as shown
 use Rattle.wording.specs.Token.{ascii}
-use Rattle.listing.specs.Text.{decimalOf}
-use Rattle.listing.specs.Uses.{usesText}
+use Rattle.listing.specs.Text.{decimal_of}
+use Rattle.listing.specs.Uses.{uses_text}
 
 -- ---- the lines of a sheet
 
 -- a hexadecimal digit in ASCII: 0 to 9, then a to f
-unfoldable pub glyphOf : ℕ → ℕ
-glyphOf d = cond (ltb (d % 16) 10) (48 + d % 16) (87 + d % 16)
+unfoldable pub glyph_of : ℕ → ℕ
+glyph_of d = cond (ltb (d % 16) 10) (48 + d % 16) (87 + d % 16)
 
 -- the eight hexadecimal digits of a word, the highest first
-unfoldable pub hexOf : ℕ → List ℕ
-hexOf w =
-    glyphOf (w / 16 ^ 7)
-    ∷ glyphOf (w / 16 ^ 6)
-    ∷ glyphOf (w / 16 ^ 5)
-    ∷ glyphOf (w / 16 ^ 4)
-    ∷ glyphOf (w / 16 ^ 3)
-    ∷ glyphOf (w / 16 ^ 2)
-    ∷ glyphOf (w / 16)
-    ∷ glyphOf w
+unfoldable pub hex_of : ℕ → List ℕ
+hex_of w =
+    glyph_of (w / 16 ^ 7)
+    ∷ glyph_of (w / 16 ^ 6)
+    ∷ glyph_of (w / 16 ^ 5)
+    ∷ glyph_of (w / 16 ^ 4)
+    ∷ glyph_of (w / 16 ^ 3)
+    ∷ glyph_of (w / 16 ^ 2)
+    ∷ glyph_of (w / 16)
+    ∷ glyph_of w
     ∷ []
 
 -- 'lines of eight lowercase hexadecimal digits, the f32 bits, any NaN as 7fc00000'
 unfoldable pub line_of : Float → List ℕ
-line_of x = hexOf (to_bits binary32 x) ++ ascii "\n"
+line_of x = hex_of (to_bits binary32 x) ++ ascii "\n"
 
 -- a line for each number
 unfoldable pub lines_of : List Float → List ℕ
@@ -44,31 +44,31 @@ lines_of (x ∷ xs) = line_of x ++ lines_of xs
 -- ---- the answers
 
 -- 'refused', number, place
-unfoldable pub refusalText : Refusal → List ℕ
-refusalText why =
-    let p = reportOf why in
-    ascii "refused " ++ (decimalOf p.0 ++ (ascii " " ++ (decimalOf p.1 ++ ascii "\n")))
+unfoldable pub refusal_text : Refusal → List ℕ
+refusal_text why =
+    let p = report_of why in
+    ascii "refused " ++ (decimal_of p.0 ++ (ascii " " ++ (decimal_of p.1 ++ ascii "\n")))
 
 -- of a call that shows nothing
-unfoldable pub verdictText : Verdict → List ℕ
-verdictText Accepted = ascii "accepted\n"
-verdictText (Refused why) = refusalText why
+unfoldable pub verdict_text : Verdict → List ℕ
+verdict_text Accepted = ascii "accepted\n"
+verdict_text (Refused why) = refusal_text why
 
 -- 'points', number, what the five are used for, and the lines
-unfoldable pub pointsText : ℕ → Uses → List Float → List ℕ
-pointsText count uses figures =
-    ascii "points " ++ (decimalOf count ++ (usesText uses ++ (ascii "\n" ++ lines_of figures)))
+unfoldable pub points_text : ℕ → Uses → List Float → List ℕ
+points_text count uses figures =
+    ascii "points " ++ (decimal_of count ++ (uses_text uses ++ (ascii "\n" ++ lines_of figures)))
 
 -- of a showing in a journal
-unfoldable pub shownText : Shown → List Float → List ℕ
-shownText (shown.Points count uses) figures = pointsText count uses figures
-shownText (shown.Refused why) figures = refusalText why
+unfoldable pub shown_text : Shown → List Float → List ℕ
+shown_text (shown.Points count uses) figures = points_text count uses figures
+shown_text (shown.Refused why) figures = refusal_text why
 
 -- of a sheet by itself: no number of points and no uses
-unfoldable pub sheetText : Shown → List Float → List ℕ
-sheetText (shown.Points count uses) figures = lines_of figures
-sheetText (shown.Refused why) figures = refusalText why
+unfoldable pub sheet_text : Shown → List Float → List ℕ
+sheet_text (shown.Points count uses) figures = lines_of figures
+sheet_text (shown.Refused why) figures = refusal_text why
 
 -- of bytes that make no call: where they start
-unfoldable pub stoppedText : ℕ → List ℕ
-stoppedText at = ascii "stopped at " ++ (decimalOf at ++ ascii "\n")
+unfoldable pub stopped_text : ℕ → List ℕ
+stopped_text at = ascii "stopped at " ++ (decimal_of at ++ ascii "\n")

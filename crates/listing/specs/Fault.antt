@@ -5,39 +5,39 @@ use Rattle.wording.specs.declared.line.Wanted.{Wanted}
 use Rattle.wording.specs.declared.line.Wanted.TheVariants.{Start, Deed, Word, Number, Whole, Model, Nothing}
 use Rattle.wording.specs.declared.line.Fault.{Fault}
 use Rattle.wording.specs.Token.{ascii, names}
-use Rattle.listing.specs.Text.{decimalOf}
-use Rattle.listing.specs.Spoken.{lineMark}
+use Rattle.listing.specs.Text.{decimal_of}
+use Rattle.listing.specs.Spoken.{line_mark}
 
 -- the word of a number
-abbrev pub wordName : ℕ → String
-wordName k = get_or names k "another"
+abbrev pub word_name : ℕ → String
+word_name k = get_or names k "another"
 
-abbrev pub shouldBe : String → List ℕ
-shouldBe s = ascii "should be " ++ ascii s
+abbrev pub should_be : String → List ℕ
+should_be s = ascii "should be " ++ ascii s
 
 -- what is said of the word that does not fit, by what should have stood there
-unfoldable pub wantedText : Wanted → List ℕ
-wantedText Start = shouldBe "open, show, take back or a desk's number"
-wantedText Deed = shouldBe "begin, sunspot, hour, month, model, path, factors, pole, show, commit or cancel"
-wantedText (Word k) = shouldBe (wordName k)
-wantedText Number = shouldBe "a number: digits with sign and point, at most 18 of them"
-wantedText Whole = shouldBe "a whole number below 4294967296"
-wantedText Model = shouldBe "ccir or ursi"
-wantedText Nothing = ascii "is one too many"
+unfoldable pub wanted_text : Wanted → List ℕ
+wanted_text Start = should_be "open, show, take back or a desk's number"
+wanted_text Deed = should_be "begin, sunspot, hour, month, model, path, factors, pole, show, commit or cancel"
+wanted_text (Word k) = should_be (word_name k)
+wanted_text Number = should_be "a number: digits with sign and point, at most 18 of them"
+wanted_text Whole = should_be "a whole number below 4294967296"
+wanted_text Model = should_be "ccir or ursi"
+wanted_text Nothing = ascii "is one too many"
 
 -- as `line 7: no call: word 2 should be ccir or ursi`
-unfoldable pub faultText : ℕ → Fault → List ℕ
-faultText line f =
+unfoldable pub fault_text : ℕ → Fault → List ℕ
+fault_text line f =
     ascii "line "
-    ++ (decimalOf line
-    ++ (ascii ": no call: word " ++ (decimalOf f.word ++ (ascii " " ++ (wantedText f.wanted ++ ascii "\n")))))
+    ++ (decimal_of line
+    ++ (ascii ": no call: word " ++ (decimal_of f.word ++ (ascii " " ++ (wanted_text f.wanted ++ ascii "\n")))))
 
 -- of an open where the worksheet is open, and of a call before the open
-unfoldable pub againText : ℕ → List ℕ
-againText line = lineMark line ++ ascii "no call: the worksheet is open already\n"
+unfoldable pub again_text : ℕ → List ℕ
+again_text line = line_mark line ++ ascii "no call: the worksheet is open already\n"
 
-unfoldable pub unopenedText : ℕ → List ℕ
-unopenedText line = lineMark line ++ ascii "no call: a journal begins with open\n"
+unfoldable pub unopened_text : ℕ → List ℕ
+unopened_text line = line_mark line ++ ascii "no call: a journal begins with open\n"
 
 -- ---- on the way: nothing below need be believed
 
@@ -53,18 +53,18 @@ sayings =
     ∷ "is one too many"
     ∷ []
 
-abbrev pub sayingRow : Wanted → ℕ
-sayingRow Start = 0
-sayingRow Deed = 1
-sayingRow (Word k) = 2
-sayingRow Number = 3
-sayingRow Whole = 4
-sayingRow Model = 5
-sayingRow Nothing = 6
+abbrev pub saying_row : Wanted → ℕ
+saying_row Start = 0
+saying_row Deed = 1
+saying_row (Word k) = 2
+saying_row Number = 3
+saying_row Whole = 4
+saying_row Model = 5
+saying_row Nothing = 6
 
-abbrev pub sayingOf : Wanted → String
-sayingOf w = get_or sayings (sayingRow w) ""
+abbrev pub saying_of : Wanted → String
+saying_of w = get_or sayings (saying_row w) ""
 
 -- the row of a word's name, or of what stands for any other
-abbrev pub nameRow : ℕ → ℕ
-nameRow k = cond (ltb k 19) k 19
+abbrev pub name_row : ℕ → ℕ
+name_row k = cond (ltb k 19) k 19

@@ -6,16 +6,16 @@ use Rattle.std.specs.Float.{binary32}
 use Rattle.std.specs.Float.Ieee.{of_bits}
 use Rattle.maps.specs.declared.inputs.Inputs.{Inputs}
 use Rattle.wording.specs.Token.{ascii}
-use Rattle.listing.specs.Text.{decimalOf}
-use Rattle.listing.specs.Decimal.{decimalText}
-use Rattle.listing.specs.Page.{Row, row, unitText}
-use Rattle.listing.specs.Survey.{modelName}
+use Rattle.listing.specs.Text.{decimal_of}
+use Rattle.listing.specs.Decimal.{decimal_text}
+use Rattle.listing.specs.Page.{Row, row, unit_text}
+use Rattle.listing.specs.Survey.{model_name}
 
 -- ---- texts in order
 
 -- at the right end of 16 characters; a longer text as it is
-unfoldable pub atRight : List ℕ → List ℕ
-atRight l = replicate (16 - length l) 32 ++ l
+unfoldable pub at_right : List ℕ → List ℕ
+at_right l = replicate (16 - length l) 32 ++ l
 
 -- f 0, f 1, .., f (n - 1), one after the other
 unfoldable pub in_turn : (ℕ → List ℕ) → ℕ → List ℕ
@@ -25,8 +25,8 @@ in_turn f (suc k) = in_turn f k ++ f k
 -- ---- the table
 
 -- a field's name and unit, in the documents' order from field 1 on
-abbrev pub fieldRows : List Row
-fieldRows =
+abbrev pub field_rows : List Row
+field_rows =
     row "month" ""
     ∷ row "sunspot number" ""
     ∷ row "hour" "hours GMT"
@@ -44,52 +44,52 @@ fieldRows =
     ∷ row "F2 model" ""
     ∷ []
 
-abbrev pub fieldRow : ℕ → Row
-fieldRow k = get_or fieldRows (k - 1) (row "" "")
+abbrev pub field_row : ℕ → Row
+field_row k = get_or field_rows (k - 1) (row "" "")
 
 -- '0 is the short way'
-abbrev pub flagName : ℕ → String
-flagName flag = cond (eqb flag 0) "no" (cond (eqb flag 1) "yes" "neither 0 nor 1")
+abbrev pub flag_name : ℕ → String
+flag_name flag = cond (eqb flag 0) "no" (cond (eqb flag 1) "yes" "neither 0 nor 1")
 
 -- the values in the same order, each in 16 characters but for a number of 2 ^ 24 or more in size
-abbrev pub fieldValues : Inputs → List (List ℕ)
-fieldValues i =
-    atRight (decimalOf i.month)
-    ∷ decimalText i.ssn
-    ∷ decimalText i.gmt
-    ∷ decimalText i.route.tlat.0
-    ∷ decimalText i.route.tlong.0
-    ∷ decimalText i.route.rlat.0
-    ∷ decimalText i.route.rlong.0
-    ∷ atRight (ascii (flagName i.route.long_path))
-    ∷ decimalText i.psc.e
-    ∷ decimalText i.psc.f1
-    ∷ decimalText i.psc.f2
-    ∷ decimalText i.psc.es
-    ∷ decimalText i.pole.lat.0
-    ∷ decimalText i.pole.lon.0
-    ∷ atRight (ascii (modelName i.model))
+abbrev pub field_values : Inputs → List (List ℕ)
+field_values i =
+    at_right (decimal_of i.month)
+    ∷ decimal_text i.ssn
+    ∷ decimal_text i.gmt
+    ∷ decimal_text i.route.tlat.0
+    ∷ decimal_text i.route.tlong.0
+    ∷ decimal_text i.route.rlat.0
+    ∷ decimal_text i.route.rlong.0
+    ∷ at_right (ascii (flag_name i.route.long_path))
+    ∷ decimal_text i.psc.e
+    ∷ decimal_text i.psc.f1
+    ∷ decimal_text i.psc.f2
+    ∷ decimal_text i.psc.es
+    ∷ decimal_text i.pole.lat.0
+    ∷ decimal_text i.pole.lon.0
+    ∷ at_right (ascii (model_name i.model))
     ∷ []
 
-abbrev pub fieldValue : Inputs → ℕ → List ℕ
-fieldValue i k = get_or (fieldValues i) (k - 1) []
+abbrev pub field_value : Inputs → ℕ → List ℕ
+field_value i k = get_or (field_values i) (k - 1) []
 
 -- ---- the lines
 
 -- the name, in 24 characters
-unfoldable pub fieldName : Row → List ℕ
-fieldName w = take 24 (ascii w.name ++ replicate 24 32)
+unfoldable pub field_name : Row → List ℕ
+field_name w = take 24 (ascii w.name ++ replicate 24 32)
 
 -- field k, from 1 to 15, with no line feed
-unfoldable pub fieldText : Inputs → ℕ → List ℕ
-fieldText i k = fieldName (fieldRow k) ++ (fieldValue i k ++ unitText (fieldRow k).unit)
+unfoldable pub field_text : Inputs → ℕ → List ℕ
+field_text i k = field_name (field_row k) ++ (field_value i k ++ unit_text (field_row k).unit)
 
-abbrev pub fieldLine : Inputs → ℕ → List ℕ
-fieldLine i k = fieldText i k ++ ascii "\n"
+abbrev pub field_line : Inputs → ℕ → List ℕ
+field_line i k = field_text i k ++ ascii "\n"
 
 -- all 15
-unfoldable pub fieldsWords : Inputs → List ℕ
-fieldsWords i = in_turn (λ (k : ℕ). fieldLine i (k + 1)) 15
+unfoldable pub fields_words : Inputs → List ℕ
+fields_words i = in_turn (λ (k : ℕ). field_line i (k + 1)) 15
 
 -- ---- on the way: nothing below need be believed
 

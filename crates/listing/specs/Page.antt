@@ -5,13 +5,13 @@ use Rattle.std.specs.Float.{nan, binary32}
 use Rattle.std.specs.Float.Ieee.{to_bits}
 use Rattle.maps.specs.declared.geometry.Uses.{Uses}
 use Rattle.maps.specs.declared.inputs.Inputs.{Inputs}
-use Rattle.maps.specs.Geometry.{useAt}
-use Rattle.maps.specs.Inputs.{isLong}
+use Rattle.maps.specs.Geometry.{use_at}
+use Rattle.maps.specs.Inputs.{is_long}
 use Rattle.wording.specs.Token.{ascii}
-use Rattle.listing.specs.Text.{decimalOf}
-use Rattle.listing.specs.Uses.{useName}
-use Rattle.listing.specs.Answer.{hexOf}
-use Rattle.listing.specs.Decimal.{decimalText}
+use Rattle.listing.specs.Text.{decimal_of}
+use Rattle.listing.specs.Uses.{use_name}
+use Rattle.listing.specs.Answer.{hex_of}
+use Rattle.listing.specs.Decimal.{decimal_text}
 
 -- ---- the table
 
@@ -24,8 +24,8 @@ pub record Row : Type 0 where
 abbrev pub row : String → String → Row
 row name unit = record { name = name; unit = unit }
 
-abbrev pub pageRows : List Row
-pageRows =
+abbrev pub page_rows : List Row
+page_rows =
     -- 0 to 5: fields, after the month
     row "ssn" ""
     ∷ row "gmt" "hours"
@@ -79,86 +79,86 @@ pageRows =
     ∷ row "epsilon" ""
     ∷ []
 
-abbrev pub pageRow : ℕ → Row
-pageRow k = get_or pageRows k (row "" "")
+abbrev pub page_row : ℕ → Row
+page_row k = get_or page_rows k (row "" "")
 
 -- ---- a line
 
 -- the name, in twelve characters
-unfoldable pub nameText : Row → List ℕ
-nameText w = take 12 (ascii w.name ++ replicate 12 32)
+unfoldable pub name_text : Row → List ℕ
+name_text w = take 12 (ascii w.name ++ replicate 12 32)
 
 -- the unit after two blanks
-abbrev pub unitText : String → List ℕ
-unitText []ˢ = []
-unitText (c ∷ˢ s) = ascii "  " ++ ascii (c ∷ˢ s)
+abbrev pub unit_text : String → List ℕ
+unit_text []ˢ = []
+unit_text (c ∷ˢ s) = ascii "  " ++ ascii (c ∷ˢ s)
 
 -- decimals and bits
-unfoldable pub valueText : Float → List ℕ
-valueText x = decimalText x ++ (ascii "  " ++ hexOf (to_bits binary32 x))
+unfoldable pub value_text : Float → List ℕ
+value_text x = decimal_text x ++ (ascii "  " ++ hex_of (to_bits binary32 x))
 
 -- name, number, unit
-unfoldable pub rowText : Row → Float → List ℕ
-rowText w x = nameText w ++ (valueText x ++ (unitText w.unit ++ ascii "\n"))
+unfoldable pub row_text : Row → Float → List ℕ
+row_text w x = name_text w ++ (value_text x ++ (unit_text w.unit ++ ascii "\n"))
 
 -- n lines: the number of line k is the one at `at` + k, and has the row `first` + k
-unfoldable pub rowsText : ℕ → List Float → ℕ → ℕ → List ℕ
-rowsText first xs at zero = []
-rowsText first xs at (suc k) = rowsText first xs at k ++ rowText (pageRow (first + k)) (get_or xs (at + k) nan)
+unfoldable pub rows_text : ℕ → List Float → ℕ → ℕ → List ℕ
+rows_text first xs at zero = []
+rows_text first xs at (suc k) = rows_text first xs at k ++ row_text (page_row (first + k)) (get_or xs (at + k) nan)
 
 -- ---- the page
 
 -- the fields in document 01's order: the month, six numbers, the flag, six numbers
-abbrev pub earlyFields : Inputs → List Float
-earlyFields i =
+abbrev pub early_fields : Inputs → List Float
+early_fields i =
     let w = i.route in
     i.ssn ∷ i.gmt ∷ w.tlat.0 ∷ w.tlong.0 ∷ w.rlat.0 ∷ w.rlong.0 ∷ []
 
-abbrev pub lateFields : Inputs → List Float
-lateFields i =
+abbrev pub late_fields : Inputs → List Float
+late_fields i =
     let f = i.psc in
     f.e ∷ f.f1 ∷ f.f2 ∷ f.es ∷ i.pole.lat.0 ∷ i.pole.lon.0 ∷ []
 
-unfoldable pub longText : Bool → List ℕ
-longText long = cond long (ascii "the long way round\n") []
+unfoldable pub long_text : Bool → List ℕ
+long_text long = cond long (ascii "the long way round\n") []
 
-unfoldable pub fieldsText : Inputs → List ℕ
-fieldsText i =
-    let early = rowsText 0 (earlyFields i) 0 6 in
-    let late = rowsText 6 (lateFields i) 0 6 in
-    let long = longText (isLong i.route.long_path) in
-    ascii "month       " ++ (decimalOf i.month ++ (ascii "\n" ++ (early ++ (long ++ late))))
+unfoldable pub fields_text : Inputs → List ℕ
+fields_text i =
+    let early = rows_text 0 (early_fields i) 0 6 in
+    let late = rows_text 6 (late_fields i) 0 6 in
+    let long = long_text (is_long i.route.long_path) in
+    ascii "month       " ++ (decimal_of i.month ++ (ascii "\n" ++ (early ++ (long ++ late))))
 
 -- `point 1, used for: E layer`
-unfoldable pub pointHead : Uses → ℕ → List ℕ
-pointHead uses p =
-    ascii "point " ++ (decimalOf (p + 1) ++ (ascii ", used for: " ++ (ascii (useName (useAt uses p)) ++ ascii "\n")))
+unfoldable pub point_head : Uses → ℕ → List ℕ
+point_head uses p =
+    ascii "point " ++ (decimal_of (p + 1) ++ (ascii ", used for: " ++ (ascii (use_name (use_at uses p)) ++ ascii "\n")))
 
 -- the point of number p, from 0 on: number k of it stands at 6 + 29 p + k
-unfoldable pub pointText : Uses → List Float → ℕ → List ℕ
-pointText uses figures p = pointHead uses p ++ rowsText 18 figures (6 + 29 * p) 29
+unfoldable pub point_text : Uses → List Float → ℕ → List ℕ
+point_text uses figures p = point_head uses p ++ rows_text 18 figures (6 + 29 * p) 29
 
 -- where it is there
-unfoldable pub thereText : ℕ → Uses → List Float → ℕ → List ℕ
-thereText count uses figures p = cond (ltb p count) (pointText uses figures p) []
+unfoldable pub there_text : ℕ → Uses → List Float → ℕ → List ℕ
+there_text count uses figures p = cond (ltb p count) (point_text uses figures p) []
 
 -- the first n points
-unfoldable pub firstPoints : ℕ → Uses → List Float → ℕ → List ℕ
-firstPoints count uses figures zero = []
-firstPoints count uses figures (suc p) = firstPoints count uses figures p ++ thereText count uses figures p
+unfoldable pub first_points : ℕ → Uses → List Float → ℕ → List ℕ
+first_points count uses figures zero = []
+first_points count uses figures (suc p) = first_points count uses figures p ++ there_text count uses figures p
 
-unfoldable pub pageText : Inputs → ℕ → Uses → List Float → List ℕ
-pageText i count uses figures = fieldsText i ++ (rowsText 12 figures 0 6 ++ firstPoints count uses figures 5)
+unfoldable pub page_text : Inputs → ℕ → Uses → List Float → List ℕ
+page_text i count uses figures = fields_text i ++ (rows_text 12 figures 0 6 ++ first_points count uses figures 5)
 
 -- ---- on the way: nothing below need be believed
 
 -- Only private contracts and proofs use what follows.
 
 -- the letters before the first blank
-unfoldable pub lettersIn : List ℕ → List ℕ
-lettersIn [] = []
-lettersIn (c ∷ l) = cond (eqb c 32) [] (c ∷ lettersIn l)
+unfoldable pub letters_in : List ℕ → List ℕ
+letters_in [] = []
+letters_in (c ∷ l) = cond (eqb c 32) [] (c ∷ letters_in l)
 
 -- after two blanks, where there are any
-unfoldable pub unitIn : List ℕ → List ℕ
-unitIn l = cond (eqb (get_or l 0 0) 32) [] (ascii "  " ++ lettersIn l)
+unfoldable pub unit_in : List ℕ → List ℕ
+unit_in l = cond (eqb (get_or l 0 0) 32) [] (ascii "  " ++ letters_in l)

@@ -3,40 +3,40 @@ use Rattle.std.specs.Prelude.{ℕ, List, [], ◌∷◌, ◌++◌}
 use Prim.Native.String.{String}
 use Rattle.base.specs.declared.refusal.Refusal.{Refusal}
 use Rattle.base.specs.declared.refusal.Refusal.TheVariants.{Month, Sunspot, Hour, Latitude, Longitude, Factor, Flag, Model, Record, Ended, Marker, RecordWord, MonthWord, Index, Figures, Table, Desk, Drafted, NoDraft, Stale, NothingEarlier, Year}
-use Rattle.base.specs.Refusal.{reportOf}
+use Rattle.base.specs.Refusal.{report_of}
 use Rattle.wording.specs.Token.{ascii}
-use Rattle.listing.specs.Text.{decimalOf}
+use Rattle.listing.specs.Text.{decimal_of}
 
-abbrev pub reasonOf : Refusal → String
-reasonOf Month = "the month is not 1 to 12"
-reasonOf Sunspot = "the sunspot number is not 0 to 300"
-reasonOf Hour = "the hour is not 0 to 24"
-reasonOf (Latitude field) = "a latitude is not -90 to 90 degrees"
-reasonOf (Longitude field) = "a longitude is not -180 to 180 degrees"
-reasonOf (Factor field) = "a factor is not 0.125 to 8"
-reasonOf Flag = "the long-path flag is neither 0 nor 1"
-reasonOf Model = "the F2 model is neither CCIR nor URSI"
-reasonOf Record = "the F2 record of the month is not whole"
-reasonOf (Ended at) = "the month file ends too early"
-reasonOf (Marker at) = "the month file has a wrong marker at this byte"
-reasonOf (RecordWord at) = "the F2 planes have no finite number at this byte"
-reasonOf (MonthWord at) = "the month file has no finite number at this byte"
-reasonOf (Index map) = "the month file has a bad index table for this map"
-reasonOf Figures = "the buffer has not 151 numbers"
-reasonOf Table = "there is no such table"
-reasonOf Desk = "there is no such desk"
-reasonOf Drafted = "the desk has a draft already"
-reasonOf NoDraft = "the desk has no draft"
-reasonOf Stale = "the worksheet has moved since the draft began"
-reasonOf NothingEarlier = "there is nothing to take back"
-reasonOf (Year pair) = "the year file has a bad directory at this pair"
+abbrev pub reason_of : Refusal → String
+reason_of Month = "the month is not 1 to 12"
+reason_of Sunspot = "the sunspot number is not 0 to 300"
+reason_of Hour = "the hour is not 0 to 24"
+reason_of (Latitude field) = "a latitude is not -90 to 90 degrees"
+reason_of (Longitude field) = "a longitude is not -180 to 180 degrees"
+reason_of (Factor field) = "a factor is not 0.125 to 8"
+reason_of Flag = "the long-path flag is neither 0 nor 1"
+reason_of Model = "the F2 model is neither CCIR nor URSI"
+reason_of Record = "the F2 record of the month is not whole"
+reason_of (Ended at) = "the month file ends too early"
+reason_of (Marker at) = "the month file has a wrong marker at this byte"
+reason_of (RecordWord at) = "the F2 planes have no finite number at this byte"
+reason_of (MonthWord at) = "the month file has no finite number at this byte"
+reason_of (Index map) = "the month file has a bad index table for this map"
+reason_of Figures = "the buffer has not 151 numbers"
+reason_of Table = "there is no such table"
+reason_of Desk = "there is no such desk"
+reason_of Drafted = "the desk has a draft already"
+reason_of NoDraft = "the desk has no draft"
+reason_of Stale = "the worksheet has moved since the draft began"
+reason_of NothingEarlier = "there is nothing to take back"
+reason_of (Year pair) = "the year file has a bad directory at this pair"
 
 -- number, place and reason, as `refused 8 0: the F2 record of the month is not whole`
-unfoldable pub refusedWords : Refusal → List ℕ
-refusedWords why =
+unfoldable pub refused_words : Refusal → List ℕ
+refused_words why =
     ascii "refused "
-    ++ (decimalOf (reportOf why).0
-    ++ (ascii " " ++ (decimalOf (reportOf why).1 ++ (ascii ": " ++ ascii (reasonOf why)))))
+    ++ (decimal_of (report_of why).0
+    ++ (ascii " " ++ (decimal_of (report_of why).1 ++ (ascii ": " ++ ascii (reason_of why)))))
 
 -- ---- on the way: nothing below need be believed
 
@@ -70,26 +70,26 @@ reasons =
     ∷ []
 
 -- which of them is a refusal's
-abbrev pub reasonRow : Refusal → ℕ
-reasonRow Month = 0
-reasonRow Sunspot = 1
-reasonRow Hour = 2
-reasonRow (Latitude field) = 3
-reasonRow (Longitude field) = 4
-reasonRow (Factor field) = 5
-reasonRow Flag = 6
-reasonRow Model = 7
-reasonRow Record = 8
-reasonRow (Ended at) = 9
-reasonRow (Marker at) = 10
-reasonRow (RecordWord at) = 11
-reasonRow (MonthWord at) = 12
-reasonRow (Index map) = 13
-reasonRow Figures = 14
-reasonRow Table = 15
-reasonRow Desk = 16
-reasonRow Drafted = 17
-reasonRow NoDraft = 18
-reasonRow Stale = 19
-reasonRow NothingEarlier = 20
-reasonRow (Year pair) = 21
+abbrev pub reason_row : Refusal → ℕ
+reason_row Month = 0
+reason_row Sunspot = 1
+reason_row Hour = 2
+reason_row (Latitude field) = 3
+reason_row (Longitude field) = 4
+reason_row (Factor field) = 5
+reason_row Flag = 6
+reason_row Model = 7
+reason_row Record = 8
+reason_row (Ended at) = 9
+reason_row (Marker at) = 10
+reason_row (RecordWord at) = 11
+reason_row (MonthWord at) = 12
+reason_row (Index map) = 13
+reason_row Figures = 14
+reason_row Table = 15
+reason_row Desk = 16
+reason_row Drafted = 17
+reason_row NoDraft = 18
+reason_row Stale = 19
+reason_row NothingEarlier = 20
+reason_row (Year pair) = 21

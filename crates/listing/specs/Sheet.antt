@@ -4,24 +4,24 @@ use Rattle.std.specs.Prelude.{ℕ, List, Float}
 use Rattle.maps.specs.declared.figures.Shown.{Shown}
 use Rattle.maps.specs.declared.figures.Shown.TheVariants.{Points, Refused}
 use Rattle.maps.specs.declared.inputs.Inputs.{Inputs}
-use Rattle.worksheet.specs.Desks.{sheetOpenedOf}
-use Rattle.worksheet.specs.Showing.{pair, showOf, showBuffer}
-use Rattle.listing.specs.Answer.{refusalText, sheetText}
-use Rattle.listing.specs.Page.{pageText}
+use Rattle.worksheet.specs.Desks.{sheet_opened_of}
+use Rattle.worksheet.specs.Showing.{pair, show_of, show_buffer}
+use Rattle.listing.specs.Answer.{refusal_text, sheet_text}
+use Rattle.listing.specs.Page.{page_text}
 use Rattle.listing.specs.Turn.{blank}
 
 -- 'It prints 151 lines ..; a refusal is one line'
-unfoldable pub sheetAnswer : List ℕ → List ℕ → List ℕ → List ℕ
-sheetAnswer words f2 file =
-    let w = (sheetOpenedOf words).sheet in
-    sheetText (showOf (pair f2 file) 0 blank w) (showBuffer (pair f2 file) 0 blank w)
+unfoldable pub sheet_answer : List ℕ → List ℕ → List ℕ → List ℕ
+sheet_answer words f2 file =
+    let w = (sheet_opened_of words).sheet in
+    sheet_text (show_of (pair f2 file) 0 blank w) (show_buffer (pair f2 file) 0 blank w)
 
-unfoldable pub pageFor : Inputs → Shown → List Float → List ℕ
-pageFor i (Points count uses) figures = pageText i count uses figures
-pageFor i (Refused why) figures = refusalText why
+unfoldable pub page_for : Inputs → Shown → List Float → List ℕ
+page_for i (Points count uses) figures = page_text i count uses figures
+page_for i (Refused why) figures = refusal_text why
 
 -- the page, or the line of the refusal
-unfoldable pub pageAnswer : List ℕ → List ℕ → List ℕ → List ℕ
-pageAnswer words f2 file =
-    let w = (sheetOpenedOf words).sheet in
-    pageFor w.inputs (showOf (pair f2 file) 0 blank w) (showBuffer (pair f2 file) 0 blank w)
+unfoldable pub page_answer : List ℕ → List ℕ → List ℕ → List ℕ
+page_answer words f2 file =
+    let w = (sheet_opened_of words).sheet in
+    page_for w.inputs (show_of (pair f2 file) 0 blank w) (show_buffer (pair f2 file) 0 blank w)

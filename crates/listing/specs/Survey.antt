@@ -4,28 +4,28 @@ use Prim.Native.String.{String}
 use Rattle.base.specs.declared.refusal.Refusal.{Refusal}
 use Rattle.base.specs.declared.refusal.Verdict.{Verdict}
 use Rattle.base.specs.declared.refusal.Verdict.TheVariants.{Accepted, Refused}
-use Rattle.worksheet.specs.Showing.{yearFilesCheck}
+use Rattle.worksheet.specs.Showing.{year_files_check}
 use Rattle.wording.specs.Token.{ascii}
-use Rattle.listing.specs.Text.{decimalOf}
-use Rattle.listing.specs.Reason.{refusedWords}
+use Rattle.listing.specs.Text.{decimal_of}
+use Rattle.listing.specs.Reason.{refused_words}
 
 -- '(0 CCIR, 1 URSI)'
-abbrev pub modelName : ℕ → String
-modelName model = cond (eqb model 0) "CCIR" (cond (eqb model 1) "URSI" "no model")
+abbrev pub model_name : ℕ → String
+model_name model = cond (eqb model 0) "CCIR" (cond (eqb model 1) "URSI" "no model")
 
-abbrev pub foundText : Verdict → List ℕ
-foundText Accepted = ascii "can be shown"
-foundText (Refused why) = refusedWords why
+abbrev pub found_text : Verdict → List ℕ
+found_text Accepted = ascii "can be shown"
+found_text (Refused why) = refused_words why
 
 -- the line of a refusal by itself
-unfoldable pub refusedLine : Refusal → List ℕ
-refusedLine why = refusedWords why ++ ascii "\n"
+unfoldable pub refused_line : Refusal → List ℕ
+refused_line why = refused_words why ++ ascii "\n"
 
 -- as `month 6, URSI: can be shown`
-unfoldable pub surveyLine : List ℕ → ℕ → ℕ → List ℕ
-surveyLine s month model =
+unfoldable pub survey_line : List ℕ → ℕ → ℕ → List ℕ
+survey_line s month model =
     ascii "month "
-    ++ (decimalOf month
+    ++ (decimal_of month
     ++ (ascii ", "
-    ++ (ascii (modelName model)
-    ++ (ascii ": " ++ (foundText (yearFilesCheck s month model) ++ ascii "\n")))))
+    ++ (ascii (model_name model)
+    ++ (ascii ": " ++ (found_text (year_files_check s month model) ++ ascii "\n")))))

@@ -5,25 +5,25 @@ use Rattle.std.specs.Prelude.{ℕ, zero, suc, ◌+◌, ◌/◌, ◌%◌, ◌^◌
 -- ---- decimal digits
 
 -- the digit of n for 10 ^ k, in ASCII
-unfoldable pub digitOf : ℕ → ℕ → ℕ
-digitOf n k = 48 + n / 10 ^ k % 10
+unfoldable pub digit_of : ℕ → ℕ → ℕ
+digit_of n k = 48 + n / 10 ^ k % 10
 
 -- whether the whole number n is written with a digit for 10 ^ k: its lowest is always there
-unfoldable pub hasDigit : ℕ → ℕ → Bool
-hasDigit n k = cond (eqb k 0) true (ltb 0 (n / 10 ^ k))
+unfoldable pub has_digit : ℕ → ℕ → Bool
+has_digit n k = cond (eqb k 0) true (ltb 0 (n / 10 ^ k))
 
 -- that digit, where there is one
-unfoldable pub digitAt : ℕ → ℕ → List ℕ
-digitAt n k = cond (hasDigit n k) (digitOf n k ∷ []) []
+unfoldable pub digit_at : ℕ → ℕ → List ℕ
+digit_at n k = cond (has_digit n k) (digit_of n k ∷ []) []
 
 -- the digits for 10 ^ (k - 1) down to 1
-unfoldable pub digitsBelow : ℕ → ℕ → List ℕ
-digitsBelow n zero = []
-digitsBelow n (suc k) = digitAt n k ++ digitsBelow n k
+unfoldable pub digits_below : ℕ → ℕ → List ℕ
+digits_below n zero = []
+digits_below n (suc k) = digit_at n k ++ digits_below n k
 
 -- a number of at most 20 digits, as every `u64` is
-abbrev pub decimalOf : ℕ → List ℕ
-decimalOf n = digitsBelow n 20
+abbrev pub decimal_of : ℕ → List ℕ
+decimal_of n = digits_below n 20
 
 -- ---- on the way: nothing below need be believed
 

@@ -7,24 +7,24 @@ use Rattle.maps.specs.declared.geometry.Use.TheVariants.{NoLayer, ELayer, FLayer
 use Rattle.maps.specs.declared.geometry.Uses.{Uses}
 use Rattle.wording.specs.Token.{ascii}
 
-unfoldable pub useWord : Use → String
-useWord NoLayer = "none"
-useWord ELayer = "E"
-useWord FLayer = "F"
-useWord AllLayers = "all"
+unfoldable pub use_word : Use → String
+use_word NoLayer = "none"
+use_word ELayer = "E"
+use_word FLayer = "F"
+use_word AllLayers = "all"
 
 -- 'E layer, F layer, all layers, or none where the point is absent'
-unfoldable pub useName : Use → String
-useName NoLayer = "none"
-useName ELayer = "E layer"
-useName FLayer = "F layer"
-useName AllLayers = "all layers"
+unfoldable pub use_name : Use → String
+use_name NoLayer = "none"
+use_name ELayer = "E layer"
+use_name FLayer = "F layer"
+use_name AllLayers = "all layers"
 
 -- a word after a blank
-abbrev pub useText : Use → List ℕ
-useText u = ascii " " ++ ascii (useWord u)
+abbrev pub use_text : Use → List ℕ
+use_text u = ascii " " ++ ascii (use_word u)
 
 -- the words of all five points
-unfoldable pub usesText : Uses → List ℕ
-usesText u =
-    useText u.p1 ++ (useText u.p2 ++ (useText u.p3 ++ (useText u.p4 ++ useText u.p5)))
+unfoldable pub uses_text : Uses → List ℕ
+uses_text u =
+    use_text u.p1 ++ (use_text u.p2 ++ (use_text u.p3 ++ (use_text u.p4 ++ use_text u.p5)))

@@ -13,108 +13,108 @@ use Rattle.wording.specs.declared.written.WrittenCall.{WrittenCall}
 use Rattle.wording.specs.declared.written.WrittenCall.TheVariants.{Begin, Change, Commit, Cancel, TakeBack, Show}
 use Rattle.wording.specs.Number.{is_written}
 use Rattle.wording.specs.Token.{ascii}
-use Rattle.listing.specs.Text.{digitOf, decimalOf}
-use Rattle.listing.specs.Decimal.{minusOf}
+use Rattle.listing.specs.Text.{digit_of, decimal_of}
+use Rattle.listing.specs.Decimal.{minus_of}
 
 -- ---- numbers, digit for digit as they were written, zeros in front left out
 
 -- the digits of n for 10 ^ (k - 1) down to 1
-unfoldable pub placesText : ℕ → ℕ → List ℕ
-placesText n zero = []
-placesText n (suc k) = digitOf n k ∷ placesText n k
+unfoldable pub places_text : ℕ → ℕ → List ℕ
+places_text n zero = []
+places_text n (suc k) = digit_of n k ∷ places_text n k
 
 -- a point and the digits after it, where there are any
-unfoldable pub fractionText : Decimal → List ℕ
-fractionText d = cond (eqb d.places 0) [] (ascii "." ++ placesText d.digits d.places)
+unfoldable pub fraction_text : Decimal → List ℕ
+fraction_text d = cond (eqb d.places 0) [] (ascii "." ++ places_text d.digits d.places)
 
 -- as `-21.90`
-unfoldable pub digitsText : Decimal → List ℕ
-digitsText d = minusOf d.negative ++ (decimalOf (d.digits / 10 ^ d.places) ++ fractionText d)
+unfoldable pub digits_text : Decimal → List ℕ
+digits_text d = minus_of d.negative ++ (decimal_of (d.digits / 10 ^ d.places) ++ fraction_text d)
 
 -- a line that was read has no other number
-unfoldable pub numberText : Decimal → List ℕ
-numberText d = cond (is_written d) (digitsText d) (ascii "no number")
+unfoldable pub number_text : Decimal → List ℕ
+number_text d = cond (is_written d) (digits_text d) (ascii "no number")
 
 -- two numbers with a blank between
-unfoldable pub pairText : Decimal → Decimal → List ℕ
-pairText a b = numberText a ++ (ascii " " ++ numberText b)
+unfoldable pub pair_text : Decimal → Decimal → List ℕ
+pair_text a b = number_text a ++ (ascii " " ++ number_text b)
 
 -- ---- the parts of the inputs
 
-unfoldable pub longWord : ℕ → List ℕ
-longWord flag = cond (eqb flag 0) [] (ascii " long")
+unfoldable pub long_word : ℕ → List ℕ
+long_word flag = cond (eqb flag 0) [] (ascii " long")
 
 -- as `from 62.47 6.15 to 64.13 -21.9 long`
-unfoldable pub routeText : WrittenRoute → List ℕ
-routeText p =
+unfoldable pub route_text : WrittenRoute → List ℕ
+route_text p =
     ascii "from "
-    ++ (pairText p.tlat p.tlong
-    ++ (ascii " to " ++ (pairText p.rlat p.rlong ++ longWord p.long_path)))
+    ++ (pair_text p.tlat p.tlong
+    ++ (ascii " to " ++ (pair_text p.rlat p.rlong ++ long_word p.long_path)))
 
-unfoldable pub factorsText : WrittenFactors → List ℕ
-factorsText p = ascii "factors " ++ (pairText p.e p.f1 ++ (ascii " " ++ pairText p.f2 p.es))
+unfoldable pub factors_text : WrittenFactors → List ℕ
+factors_text p = ascii "factors " ++ (pair_text p.e p.f1 ++ (ascii " " ++ pair_text p.f2 p.es))
 
-unfoldable pub poleText : WrittenPole → List ℕ
-poleText p = ascii "pole " ++ pairText p.lat p.lon
+unfoldable pub pole_text : WrittenPole → List ℕ
+pole_text p = ascii "pole " ++ pair_text p.lat p.lon
 
-unfoldable pub modelText : ℕ → List ℕ
-modelText m = ascii "model " ++ cond (eqb m 0) (ascii "ccir") (ascii "ursi")
+unfoldable pub model_text : ℕ → List ℕ
+model_text m = ascii "model " ++ cond (eqb m 0) (ascii "ccir") (ascii "ursi")
 
 -- ---- calls
 
 -- as `open month 6 sunspot 80 hour 12 from 62.47 6.15 to 64.13 -21.9 factors 1 1 1 1 pole 78.5 -69
 -- model ccir`: all that an open can say
-unfoldable pub openText : WrittenInputs → List ℕ
-openText o =
+unfoldable pub open_text : WrittenInputs → List ℕ
+open_text o =
     ascii "open month "
-    ++ (decimalOf o.month
+    ++ (decimal_of o.month
     ++ (ascii " sunspot "
-    ++ (numberText o.ssn
+    ++ (number_text o.ssn
     ++ (ascii " hour "
-    ++ (numberText o.gmt
+    ++ (number_text o.gmt
     ++ (ascii " "
-    ++ (routeText o.route
+    ++ (route_text o.route
     ++ (ascii " "
-    ++ (factorsText o.psc ++ (ascii " " ++ (poleText o.pole ++ (ascii " " ++ modelText o.model))))))))))))
+    ++ (factors_text o.psc ++ (ascii " " ++ (pole_text o.pole ++ (ascii " " ++ model_text o.model))))))))))))
 
 -- what is changed, as `sunspot 92.5`
-unfoldable pub editText : WrittenEdit → List ℕ
-editText (Sunspot d) = ascii "sunspot " ++ numberText d
-editText (Hour d) = ascii "hour " ++ numberText d
-editText (Path p) = ascii "path " ++ routeText p
-editText (Psc p) = factorsText p
-editText (Pole p) = poleText p
-editText (Month m) = ascii "month " ++ decimalOf m
-editText (Model m) = modelText m
+unfoldable pub edit_text : WrittenEdit → List ℕ
+edit_text (Sunspot d) = ascii "sunspot " ++ number_text d
+edit_text (Hour d) = ascii "hour " ++ number_text d
+edit_text (Path p) = ascii "path " ++ route_text p
+edit_text (Psc p) = factors_text p
+edit_text (Pole p) = pole_text p
+edit_text (Month m) = ascii "month " ++ decimal_of m
+edit_text (Model m) = model_text m
 
 -- desk and deed, as `1 begin`
-unfoldable pub deedText : ℕ → List ℕ → List ℕ
-deedText n deed = decimalOf n ++ (ascii " " ++ deed)
+unfoldable pub deed_text : ℕ → List ℕ → List ℕ
+deed_text n deed = decimal_of n ++ (ascii " " ++ deed)
 
-unfoldable pub callText : WrittenCall → List ℕ
-callText (Begin n) = deedText n (ascii "begin")
-callText (Change n e) = deedText n (editText e)
-callText (Commit n) = deedText n (ascii "commit")
-callText (Cancel n) = deedText n (ascii "cancel")
-callText TakeBack = ascii "take back"
-callText (Show n) = cond (eqb n 0) (ascii "show") (deedText n (ascii "show"))
+unfoldable pub call_text : WrittenCall → List ℕ
+call_text (Begin n) = deed_text n (ascii "begin")
+call_text (Change n e) = deed_text n (edit_text e)
+call_text (Commit n) = deed_text n (ascii "commit")
+call_text (Cancel n) = deed_text n (ascii "cancel")
+call_text TakeBack = ascii "take back"
+call_text (Show n) = cond (eqb n 0) (ascii "show") (deed_text n (ascii "show"))
 
 -- ---- a line, written anew as it is kept: nothing for one that is no call
 
-abbrev pub lineText : Line → List ℕ
-lineText Blank = []
-lineText (Open o) = openText o ++ ascii "\n"
-lineText (Call c) = callText c ++ ascii "\n"
-lineText (Wrong f) = []
+abbrev pub line_text : Line → List ℕ
+line_text Blank = []
+line_text (Open o) = open_text o ++ ascii "\n"
+line_text (Call c) = call_text c ++ ascii "\n"
+line_text (Wrong f) = []
 
 -- ---- on the way: nothing below need be believed
 
 -- how an open begins, up to its route, and what comes after that
-unfoldable pub headText : WrittenInputs → List ℕ
-headText o =
+unfoldable pub head_text : WrittenInputs → List ℕ
+head_text o =
     ascii "open month "
-    ++ (decimalOf o.month ++ (ascii " sunspot " ++ (numberText o.ssn ++ (ascii " hour " ++ numberText o.gmt))))
+    ++ (decimal_of o.month ++ (ascii " sunspot " ++ (number_text o.ssn ++ (ascii " hour " ++ number_text o.gmt))))
 
-unfoldable pub tailText : WrittenInputs → List ℕ
-tailText o =
-    ascii " " ++ (factorsText o.psc ++ (ascii " " ++ (poleText o.pole ++ (ascii " " ++ modelText o.model))))
+unfoldable pub tail_text : WrittenInputs → List ℕ
+tail_text o =
+    ascii " " ++ (factors_text o.psc ++ (ascii " " ++ (pole_text o.pole ++ (ascii " " ++ model_text o.model))))

@@ -6,7 +6,7 @@ ghost use Rattle.listing.specs.declared.account.Came.TheVariants.{Set};
 ghost use Rattle.listing.specs.declared.account.Became.TheVariants.{TakenBack};
 ghost use Rattle.listing.specs.declared.account.Balked.TheVariants.{At};
 ghost use Rattle.listing.specs.Text.{Put};
-ghost use Rattle.listing.specs.Account.{atLine, cameWords, cameText, cameLine, becameWords, balkedWords, draftLine, titleText};
+ghost use Rattle.listing.specs.Account.{at_line, came_words, came_text, came_line, became_words, balked_words, draft_line, title_text};
 
 use crate::columns::COLUMNS;
 use crate::fields::put_field;
@@ -44,7 +44,7 @@ pub enum Balked {
 
 fn put_at_line(out: &mut [u8], at: usize, line: u64) -> usize
     requires { at + 29 ≤ length out.old }
-    ensures { Put out.old at (atLine line) out.new result }
+    ensures { Put out.old at (at_line line) out.new result }
 {
     let next = put(out, at, b" at line ");
     put_number(out, next, line)
@@ -53,7 +53,7 @@ fn put_at_line(out: &mut [u8], at: usize, line: u64) -> usize
 // Puts what was done and the line at which it was.
 fn put_done(out: &mut [u8], at: usize, done: &[u8], line: u64) -> usize
     requires { at + length done.now + 29 ≤ length out.old }
-    ensures { Put out.old at (done.now ++ atLine line) out.new result }
+    ensures { Put out.old at (done.now ++ at_line line) out.new result }
 {
     let next = put(out, at, done);
     put_at_line(out, next, line)
@@ -61,7 +61,7 @@ fn put_done(out: &mut [u8], at: usize, done: &[u8], line: u64) -> usize
 
 fn put_set(out: &mut [u8], at: usize, desk: u32, line: u64, settled: u64) -> usize
     requires { at + 99 ≤ length out.old }
-    ensures { Put out.old at (cameWords (Set desk line settled)) out.new result }
+    ensures { Put out.old at (came_words (Set desk line settled)) out.new result }
 {
     let next = put(out, at, b"set by desk ");
     let next = put_number(out, next, desk as u64);
@@ -71,7 +71,7 @@ fn put_set(out: &mut [u8], at: usize, desk: u32, line: u64, settled: u64) -> usi
 
 fn put_came(out: &mut [u8], at: usize, came: Came) -> usize
     requires { at + 99 ≤ length out.old }
-    ensures { Put out.old at (cameWords came) out.new result }
+    ensures { Put out.old at (came_words came) out.new result }
 {
     match came {
         Came::Opened(line) => put_done(out, at, b"opened", line),
@@ -84,7 +84,7 @@ fn put_came_line(out: &mut [u8], at: usize, i: Inputs, k: u32, came: Came) -> us
     requires le_k { 1 ≤ k }
     requires k_bound { k ≤ 15 }
     requires at_in_bounds { at + 181 ≤ length out.old }
-    ensures { Put out.old at (cameText i k came) out.new result }
+    ensures { Put out.old at (came_text i k came) out.new result }
 {
     let next = put_field(out, at, i, k);
     let next = put(out, next, b"  ");
@@ -94,7 +94,7 @@ fn put_came_line(out: &mut [u8], at: usize, i: Inputs, k: u32, came: Came) -> us
 
 fn put_taken_back(out: &mut [u8], at: usize, committed: u64, back: u64) -> usize
     requires { at + 79 ≤ length out.old }
-    ensures { Put out.old at (becameWords (TakenBack committed back)) out.new result }
+    ensures { Put out.old at (became_words (TakenBack committed back)) out.new result }
 {
     let next = put_done(out, at, b"committed", committed);
     put_done(out, next, b", taken back", back)
@@ -102,7 +102,7 @@ fn put_taken_back(out: &mut [u8], at: usize, committed: u64, back: u64) -> usize
 
 fn put_became(out: &mut [u8], at: usize, became: Became) -> usize
     requires { at + 79 ≤ length out.old }
-    ensures { Put out.old at (becameWords became) out.new result }
+    ensures { Put out.old at (became_words became) out.new result }
 {
     match became {
         Became::TakenBack(committed, back) => put_taken_back(out, at, committed, back),
@@ -113,7 +113,7 @@ fn put_became(out: &mut [u8], at: usize, became: Became) -> usize
 
 fn put_refusal_line(out: &mut [u8], at: usize, line: u64) -> usize
     requires { at + 38 ≤ length out.old }
-    ensures { Put out.old at (balkedWords (At line)) out.new result }
+    ensures { Put out.old at (balked_words (At line)) out.new result }
 {
     let next = put_done(out, at, b"refused", line);
     put(out, next, b", ")
@@ -121,7 +121,7 @@ fn put_refusal_line(out: &mut [u8], at: usize, line: u64) -> usize
 
 fn put_balked(out: &mut [u8], at: usize, balked: Balked) -> usize
     requires { at + 38 ≤ length out.old }
-    ensures { Put out.old at (balkedWords balked) out.new result }
+    ensures { Put out.old at (balked_words balked) out.new result }
 {
     match balked {
         Balked::No => at,
@@ -132,7 +132,7 @@ fn put_balked(out: &mut [u8], at: usize, balked: Balked) -> usize
 // Writes the line of field k with where it comes from, or nothing where k is not 1 to 15, and gives
 // its length in bytes.
 pub fn came_line(i: Inputs, k: u32, came: Came, out: &mut [u8; ACCOUNT]) -> usize
-    ensures text { take result out.new ≡ cameLine i k came }
+    ensures text { take result out.new ≡ came_line i k came }
     ensures count { IsPrefixLen result out.new }
 {
     if k < 1 {
@@ -152,7 +152,7 @@ pub fn draft_line(
     became: Became,
     out: &mut [u8; ACCOUNT],
 ) -> usize
-    ensures text { take result out.new ≡ draftLine desk begun balked became }
+    ensures text { take result out.new ≡ draft_line desk begun balked became }
     ensures count { IsPrefixLen result out.new }
 {
     let next = put(out, 0, b"desk ");
@@ -166,7 +166,7 @@ pub fn draft_line(
 
 // Writes the page's first line and the heading of its fields, and gives their length in bytes.
 pub fn title_text(line: u64, out: &mut [u8; ACCOUNT]) -> usize
-    ensures text { take result out.new ≡ titleText line }
+    ensures text { take result out.new ≡ title_text line }
     ensures count { IsPrefixLen result out.new }
 {
     let next = put(out, 0, b"audit of line ");

@@ -2,7 +2,7 @@
 ghost use Rattle.std.specs.Prelude.{◌≡◌, ◌+◌, ◌≤◌, length, take};
 ghost use Rattle.io.specs.Counts.{IsPrefixLen};
 ghost use Rattle.listing.specs.Text.{Put};
-ghost use Rattle.listing.specs.Answer.{glyphOf, hexOf, line_of, lines_of, refusalText, verdictText, pointsText, shownText, sheetText, stoppedText};
+ghost use Rattle.listing.specs.Answer.{glyph_of, hex_of, line_of, lines_of, refusal_text, verdict_text, points_text, shown_text, sheet_text, stopped_text};
 
 use crate::text::{put, put_number};
 use crate::uses::put_uses;
@@ -17,7 +17,7 @@ pub const ANSWER: usize = 43 + 9 * FIGURES;
 
 // The lowercase hexadecimal digit of d as a byte of text, of its last one where d has more.
 pub fn glyph(d: u32) -> u8
-    ensures { result ≡ glyphOf d }
+    ensures { result ≡ glyph_of d }
 {
     let d = d % 16;
     if d < 10 { 48 + d as u8 } else { 87 + d as u8 }
@@ -25,7 +25,7 @@ pub fn glyph(d: u32) -> u8
 
 // A word's eight hexadecimal digits, the highest first.
 pub(crate) fn hex(w: u32) -> [u8; 8]
-    ensures { result ≡ hexOf w }
+    ensures { result ≡ hex_of w }
 {
     [
         glyph(w / 0x1000_0000),
@@ -64,7 +64,7 @@ fn put_lines(out: &mut [u8], at: usize, figures: &[f32]) -> usize
 
 // Writes the line of a refusal, `refused`, number, place, and gives its length in bytes.
 pub fn refusal_text(why: Refusal, out: &mut [u8; ANSWER]) -> usize
-    ensures text { take result out.new ≡ refusalText why }
+    ensures text { take result out.new ≡ refusal_text why }
     ensures count { IsPrefixLen result out.new }
 {
     let next = put(out, 0, b"refused ");
@@ -77,7 +77,7 @@ pub fn refusal_text(why: Refusal, out: &mut [u8; ANSWER]) -> usize
 // Writes the line of a call that shows nothing, `accepted` or the refusal's, and gives its length
 // in bytes.
 pub fn verdict_text(v: Verdict, out: &mut [u8; ANSWER]) -> usize
-    ensures text { take result out.new ≡ verdictText v }
+    ensures text { take result out.new ≡ verdict_text v }
     ensures count { IsPrefixLen result out.new }
 {
     match v {
@@ -88,7 +88,7 @@ pub fn verdict_text(v: Verdict, out: &mut [u8; ANSWER]) -> usize
 
 // The line `points`, number, uses, and the lines of the figures.
 fn points_text(count: u32, uses: Uses, figures: &[f32; FIGURES], out: &mut [u8; ANSWER]) -> usize
-    ensures text { take result out.new ≡ pointsText count uses figures.now }
+    ensures text { take result out.new ≡ points_text count uses figures.now }
     ensures count { IsPrefixLen result out.new }
 {
     let next = put(out, 0, b"points ");
@@ -101,7 +101,7 @@ fn points_text(count: u32, uses: Uses, figures: &[f32; FIGURES], out: &mut [u8; 
 // Writes what a showing in a journal answers, `points` with their number and uses and the figures'
 // lines, or the refusal's line, and gives its length in bytes.
 pub fn shown_text(s: Shown, figures: &[f32; FIGURES], out: &mut [u8; ANSWER]) -> usize
-    ensures text { take result out.new ≡ shownText s figures.now }
+    ensures text { take result out.new ≡ shown_text s figures.now }
     ensures count { IsPrefixLen result out.new }
 {
     match s {
@@ -113,7 +113,7 @@ pub fn shown_text(s: Shown, figures: &[f32; FIGURES], out: &mut [u8; ANSWER]) ->
 // Writes what a sheet by itself answers, the figures' lines alone or the refusal's line, and gives
 // its length in bytes.
 pub fn sheet_text(s: Shown, figures: &[f32; FIGURES], out: &mut [u8; ANSWER]) -> usize
-    ensures text { take result out.new ≡ sheetText s figures.now }
+    ensures text { take result out.new ≡ sheet_text s figures.now }
     ensures count { IsPrefixLen result out.new }
 {
     match s {
@@ -125,7 +125,7 @@ pub fn sheet_text(s: Shown, figures: &[f32; FIGURES], out: &mut [u8; ANSWER]) ->
 // Writes the line where bytes make no call, with the place of the first of them, and gives its
 // length in bytes.
 pub fn stopped_text(at: u64, out: &mut [u8; ANSWER]) -> usize
-    ensures text { take result out.new ≡ stoppedText at }
+    ensures text { take result out.new ≡ stopped_text at }
     ensures count { IsPrefixLen result out.new }
 {
     let next = put(out, 0, b"stopped at ");

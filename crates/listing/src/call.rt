@@ -1,7 +1,7 @@
 // A call as a run of little-endian words: the operation's number, the desk (take-back has none) and
 // the numbers of a change.
 ghost use Rattle.std.specs.Prelude.{◌≡◌, ◌≤◌};
-ghost use Rattle.listing.specs.Calls.{pathEdit, pscEdit, poleEdit, changeIn, pairOperation, operationIn, size_of, call_in};
+ghost use Rattle.listing.specs.Calls.{path_edit, psc_edit, pole_edit, change_in, pair_operation, operation_in, size_of, call_in};
 
 use base::angle::Degrees;
 use base::month_file::{MONTH_FILE, RECORD};
@@ -33,7 +33,7 @@ const SIZES: [usize; 13] = [0, 4, 8, 8, 24, 20, 12, 4, 4, 0, 4, 8, 8];
 // An operation's number as a journal knows it: over a pair of files every number above 10
 // counts as 0, which is none.
 pub fn operation_in(lent: Lent, operation: u32) -> u32
-    ensures { result ≡ operationIn lent operation }
+    ensures { result ≡ operation_in lent operation }
 {
     match lent {
         Lent::Pair => pair_operation(operation),
@@ -42,7 +42,7 @@ pub fn operation_in(lent: Lent, operation: u32) -> u32
 }
 
 fn pair_operation(operation: u32) -> u32
-    ensures { result ≡ pairOperation operation }
+    ensures { result ≡ pair_operation operation }
 {
     if 10 < operation { 0 } else { operation }
 }
@@ -59,7 +59,7 @@ pub fn size_of(operation: u32) -> usize
 }
 
 fn path_in(s: &[u8]) -> Edit
-    ensures { result ≡ pathEdit s.now }
+    ensures { result ≡ path_edit s.now }
 {
     Edit::Path(Route {
         tlat: Degrees(float(s, 4)),
@@ -71,7 +71,7 @@ fn path_in(s: &[u8]) -> Edit
 }
 
 fn psc_in(s: &[u8]) -> Edit
-    ensures { result ≡ pscEdit s.now }
+    ensures { result ≡ psc_edit s.now }
 {
     Edit::Psc(Factors {
         e: float(s, 4),
@@ -82,7 +82,7 @@ fn psc_in(s: &[u8]) -> Edit
 }
 
 fn pole_in(s: &[u8]) -> Edit
-    ensures { result ≡ poleEdit s.now }
+    ensures { result ≡ pole_edit s.now }
 {
     Edit::Pole(MagneticPole {
         lat: Degrees(float(s, 4)),
@@ -91,7 +91,7 @@ fn pole_in(s: &[u8]) -> Edit
 }
 
 fn change_in(s: &[u8], e: Edit) -> Read
-    ensures { result ≡ changeIn s.now e }
+    ensures { result ≡ change_in s.now e }
 {
     Read::Call(Call::Change(word(s, 0), e))
 }

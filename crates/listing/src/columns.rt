@@ -1,12 +1,12 @@
 // A sheet's page with its points side by side, for people who read no hexadecimal digits.
 ghost use Rattle.std.specs.Prelude.{◌≡◌, ◌+◌, ◌-◌, ◌*◌, ◌≤◌, ◌<◌, length, take};
 ghost use Rattle.io.specs.Counts.{IsPrefixLen};
-ghost use Rattle.listing.specs.Text.{Put, decimalOf};
-ghost use Rattle.listing.specs.Decimal.{decimalText};
+ghost use Rattle.listing.specs.Text.{Put, decimal_of};
+ghost use Rattle.listing.specs.Decimal.{decimal_text};
 ghost use Rattle.wording.specs.Token.{ascii};
-ghost use Rattle.listing.specs.Uses.{useName};
-ghost use Rattle.listing.specs.Page.{pageRow};
-ghost use Rattle.listing.specs.Columns.{abreast, cell, cellsText, sideRow, sideRows, pointNumbers, pointUses, pointsHead, columnsText};
+ghost use Rattle.listing.specs.Uses.{use_name};
+ghost use Rattle.listing.specs.Page.{page_row};
+ghost use Rattle.listing.specs.Columns.{abreast, cell, cells_text, side_row, side_rows, point_numbers, point_uses, points_head, columns_text};
 
 use crate::decimal::put_float;
 use crate::fields::{put_fields_words, put_whole};
@@ -50,7 +50,7 @@ fn put_cell(out: &mut [u8], at: usize, piece: &[u8]) -> usize
 
 fn put_figure(out: &mut [u8], at: usize, x: f32) -> usize
     requires { at + 45 ≤ length out.old }
-    ensures { Put out.old at (cell (decimalText x)) out.new result }
+    ensures { Put out.old at (cell (decimal_text x)) out.new result }
 {
     let mut text = [0u8; 44];
     let size = put_float(&mut text, 0, x);
@@ -62,7 +62,7 @@ fn put_cells(out: &mut [u8], at: usize, figures: &[f32; FIGURES], from: usize, n
     requires n_bound { n ≤ 5 }
     requires from_bound { from < 35 }
     requires n_in_bounds { at + 45 * n ≤ length out.old }
-    ensures { Put out.old at (cellsText figures.now from n) out.new result }
+    ensures { Put out.old at (cells_text figures.now from n) out.new result }
 {
     let mut next = at;
     let mut p: usize = 0;
@@ -86,7 +86,7 @@ fn put_side_row(
     requires n_bound { n ≤ 5 }
     requires from_bound { from < 35 }
     requires at_in_bounds { at + 247 ≤ length out.old }
-    ensures { Put out.old at (sideRow (pageRow k) (cellsText figures.now from n)) out.new result }
+    ensures { Put out.old at (side_row (page_row k) (cells_text figures.now from n)) out.new result }
 {
     let letters = name(k);
     let unit = unit(k);
@@ -110,7 +110,7 @@ fn put_side_rows(
     requires n_bound { n ≤ 5 }
     requires m_bound_2 { from + m ≤ 35 }
     requires m_in_bounds { at + 247 * m ≤ length out.old }
-    ensures { Put out.old at (sideRows first figures.now from n m) out.new result }
+    ensures { Put out.old at (side_rows first figures.now from n m) out.new result }
 {
     let mut next = at;
     let mut k: usize = 0;
@@ -123,7 +123,7 @@ fn put_side_rows(
 
 fn put_point_number(out: &mut [u8], at: usize, n: u32) -> usize
     requires { at + 17 ≤ length out.old }
-    ensures { Put out.old at (cell (decimalOf n)) out.new result }
+    ensures { Put out.old at (cell (decimal_of n)) out.new result }
 {
     let next = put(out, at, b" ");
     put_whole(out, next, n)
@@ -132,7 +132,7 @@ fn put_point_number(out: &mut [u8], at: usize, n: u32) -> usize
 fn put_point_numbers(out: &mut [u8], at: usize, n: usize) -> usize
     requires n_bound { n ≤ 5 }
     requires n_in_bounds { at + 21 * n ≤ length out.old }
-    ensures { Put out.old at (pointNumbers n) out.new result }
+    ensures { Put out.old at (point_numbers n) out.new result }
 {
     let mut next = at;
     let mut p: usize = 0;
@@ -145,7 +145,7 @@ fn put_point_numbers(out: &mut [u8], at: usize, n: usize) -> usize
 
 fn put_point_use(out: &mut [u8], at: usize, u: Use) -> usize
     requires { at + 45 ≤ length out.old }
-    ensures { Put out.old at (cell (ascii (useName u))) out.new result }
+    ensures { Put out.old at (cell (ascii (use_name u))) out.new result }
 {
     let mut text = [0u8; 10];
     let size = put_use_name(&mut text, 0, u);
@@ -155,7 +155,7 @@ fn put_point_use(out: &mut [u8], at: usize, u: Use) -> usize
 fn put_point_uses(out: &mut [u8], at: usize, uses: Uses, n: usize) -> usize
     requires n_bound { n ≤ 5 }
     requires n_in_bounds { at + 45 * n ≤ length out.old }
-    ensures { Put out.old at (pointUses uses n) out.new result }
+    ensures { Put out.old at (point_uses uses n) out.new result }
 {
     let mut next = at;
     let mut p: usize = 0;
@@ -170,7 +170,7 @@ fn put_point_uses(out: &mut [u8], at: usize, uses: Uses, n: usize) -> usize
 fn put_points_head(out: &mut [u8], at: usize, uses: Uses, n: usize) -> usize
     requires n_bound { n ≤ 5 }
     requires at_in_bounds { at + 356 ≤ length out.old }
-    ensures { Put out.old at (pointsHead uses n) out.new result }
+    ensures { Put out.old at (points_head uses n) out.new result }
 {
     let next = put(out, at, b"point       ");
     let next = put_point_numbers(out, next, n);
@@ -189,7 +189,7 @@ pub(crate) fn put_columns(
     figures: &[f32; FIGURES],
 ) -> usize
     requires { at + 10200 ≤ length out.old }
-    ensures { Put out.old at (columnsText i count uses figures.now) out.new result }
+    ensures { Put out.old at (columns_text i count uses figures.now) out.new result }
 {
     let n = points_abreast(count);
     let next = put_fields_words(out, at, i);
@@ -208,7 +208,7 @@ pub fn columns_text(
     figures: &[f32; FIGURES],
     out: &mut [u8; COLUMNS],
 ) -> usize
-    ensures text { take result out.new ≡ columnsText i count uses figures.now }
+    ensures text { take result out.new ≡ columns_text i count uses figures.now }
     ensures count { IsPrefixLen result out.new }
 {
     put_columns(out, 0, i, count, uses, figures)

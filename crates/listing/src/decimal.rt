@@ -3,14 +3,14 @@ ghost use Rattle.std.specs.Prelude.{◌≡◌, ◌+◌, ◌^◌, ◌≤◌, ◌<
 ghost use Rattle.std.specs.Float.{binary32};
 ghost use Rattle.std.specs.Float.Ieee.{of_fields};
 ghost use Rattle.listing.specs.Text.{Put};
-ghost use Rattle.listing.specs.Decimal.{nearestOf, signText, leadingOf, textOf, scaledText, decimalText};
+ghost use Rattle.listing.specs.Decimal.{nearest_of, sign_text, leading_of, text_of, scaled_text, decimal_text};
 
 use crate::text::{digit, divided, has_digit, put, put_if, put_number};
 use base::number;
 
 // n / 2^s, to the nearest whole number.
 fn halved(n: u64, s: u32) -> u64
-    ensures { result ≡ nearestOf n (2 ^ s) }
+    ensures { result ≡ nearest_of n (2 ^ s) }
 {
     if s == 0 {
         return n;
@@ -20,7 +20,7 @@ fn halved(n: u64, s: u32) -> u64
 }
 
 fn sign(negative: bool) -> u8
-    ensures { result ≡ signText negative }
+    ensures { result ≡ sign_text negative }
 {
     if negative { b'-' } else { b' ' }
 }
@@ -28,7 +28,7 @@ fn sign(negative: bool) -> u8
 // What stands before the place of 10^k.
 fn leading(n: u64, negative: bool, k: u32) -> u8
     requires { k ≤ 7 }
-    ensures { result ≡ leadingOf n negative k }
+    ensures { result ≡ leading_of n negative k }
 {
     if has_digit(n, k + 1) {
         return digit(n, k + 1);
@@ -42,7 +42,7 @@ fn leading(n: u64, negative: bool, k: u32) -> u8
 // The digits of a number of millionths, at the end of 16 bytes: at least one before the point, and
 // the sign just before the first.
 fn text_of(millionths: u64, negative: bool) -> [u8; 16]
-    ensures { result ≡ textOf millionths negative }
+    ensures { result ≡ text_of millionths negative }
 {
     let n = millionths / 1000000;
     [
@@ -70,7 +70,7 @@ fn text_of(millionths: u64, negative: bool) -> [u8; 16]
 fn small(negative: bool, exponent: u32, fraction: u32) -> [u8; 16]
     requires exponent_bound { exponent ≤ 150 }
     requires fraction_bound { fraction < 8388608 }
-    ensures { result ≡ decimalText (of_fields binary32 negative exponent fraction) }
+    ensures { result ≡ decimal_text (of_fields binary32 negative exponent fraction) }
 {
     if exponent == 0 {
         return text_of(halved((fraction as u64) * 1000000, 149), negative);
@@ -84,7 +84,7 @@ fn small(negative: bool, exponent: u32, fraction: u32) -> [u8; 16]
 // A number of 2^24 or more in size is a whole number: its 24 bits times a power of two.
 fn put_scaled(out: &mut [u8], at: usize, negative: bool, q: u32, k: u32) -> usize
     requires { at + 44 ≤ length out.old }
-    ensures { Put out.old at (scaledText negative q k) out.new result }
+    ensures { Put out.old at (scaled_text negative q k) out.new result }
 {
     let next = put_if(out, at, negative, b"-");
     let next = put_number(out, next, q as u64);
@@ -98,7 +98,7 @@ fn put_parts(out: &mut [u8], at: usize, negative: bool, exponent: u32, fraction:
     requires fraction_bound { fraction < 8388608 }
     requires at_in_bounds { at + 44 ≤ length out.old }
     ensures { Put out.old at
-        (decimalText (of_fields binary32 negative exponent fraction)) out.new result }
+        (decimal_text (of_fields binary32 negative exponent fraction)) out.new result }
 {
     if exponent <= 150 {
         let text = small(negative, exponent, fraction);
@@ -119,7 +119,7 @@ fn put_parts(out: &mut [u8], at: usize, negative: bool, exponent: u32, fraction:
 // A float, in 16 bytes but for the largest.
 pub(crate) fn put_float(out: &mut [u8], at: usize, x: f32) -> usize
     requires { at + 44 ≤ length out.old }
-    ensures { Put out.old at (decimalText x) out.new result }
+    ensures { Put out.old at (decimal_text x) out.new result }
 {
     let w = number::bits32(x);
     put_parts(

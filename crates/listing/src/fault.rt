@@ -2,8 +2,8 @@
 ghost use Rattle.std.specs.Prelude.{◌≡◌, ◌++◌, ◌+◌, ◌≤◌, ◌<◌, length, take};
 ghost use Rattle.io.specs.Counts.{IsPrefixLen};
 ghost use Rattle.wording.specs.Token.{ascii};
-ghost use Rattle.listing.specs.Text.{Put, decimalOf};
-ghost use Rattle.listing.specs.Fault.{wordName, wantedText, faultText, againText, unopenedText, sayingRow, sayingOf, nameRow};
+ghost use Rattle.listing.specs.Text.{Put, decimal_of};
+ghost use Rattle.listing.specs.Fault.{word_name, wanted_text, fault_text, again_text, unopened_text, saying_row, saying_of, name_row};
 
 use crate::spoken::{SPOKEN, put_line_mark};
 use crate::text::{put, put_number};
@@ -53,7 +53,7 @@ const NAME_LETTERS: [usize; 20] = [4, 5, 7, 4, 4, 2, 4, 7, 4, 5, 4, 4, 5, 4, 6, 
 
 // Which of the sayings is meant.
 fn row_of(w: Wanted) -> usize
-    ensures answer { result ≡ sayingRow w }
+    ensures answer { result ≡ saying_row w }
     ensures bound { result < 7 }
 {
     match w {
@@ -70,7 +70,7 @@ fn row_of(w: Wanted) -> usize
 // Puts what is said, but for the name of a word.
 fn put_saying(out: &mut [u8], at: usize, w: Wanted) -> usize
     requires { at + 89 ≤ length out.old }
-    ensures text { Put out.old at (ascii (sayingOf w)) out.new result }
+    ensures text { Put out.old at (ascii (saying_of w)) out.new result }
     ensures bound { result ≤ at + 89 }
 {
     let k = row_of(w);
@@ -81,7 +81,7 @@ fn put_saying(out: &mut [u8], at: usize, w: Wanted) -> usize
 
 // Which of the names is the word of this number.
 fn name_row(k: u32) -> usize
-    ensures answer { result ≡ nameRow k }
+    ensures answer { result ≡ name_row k }
     ensures bound { result < 20 }
 {
     if k < 19 { k as usize } else { 19 }
@@ -90,7 +90,7 @@ fn name_row(k: u32) -> usize
 // Puts the word of a number.
 fn put_name(out: &mut [u8], at: usize, k: u32) -> usize
     requires { at + 7 ≤ length out.old }
-    ensures text { Put out.old at (ascii (wordName k)) out.new result }
+    ensures text { Put out.old at (ascii (word_name k)) out.new result }
     ensures bound { result ≤ at + 7 }
 {
     let k = name_row(k);
@@ -101,7 +101,7 @@ fn put_name(out: &mut [u8], at: usize, k: u32) -> usize
 
 fn put_wanted(out: &mut [u8], at: usize, w: Wanted) -> usize
     requires { at + 96 ≤ length out.old }
-    ensures text { Put out.old at (wantedText w) out.new result }
+    ensures text { Put out.old at (wanted_text w) out.new result }
     ensures bound { result ≤ at + 96 }
 {
     let next = put_saying(out, at, w);
@@ -115,7 +115,7 @@ fn put_wanted(out: &mut [u8], at: usize, w: Wanted) -> usize
 fn put_line_number(out: &mut [u8], at: usize, line: u64) -> usize
     requires { at + 25 ≤ length out.old }
     ensures text { Put out.old at
-        (ascii "line " ++ decimalOf line) out.new result }
+        (ascii "line " ++ decimal_of line) out.new result }
     ensures bound { result ≤ at + 25 }
 {
     let next = put(out, at, b"line ");
@@ -124,7 +124,7 @@ fn put_line_number(out: &mut [u8], at: usize, line: u64) -> usize
 
 // Writes what is wrong with a line, and gives its length in bytes.
 pub fn fault_text(line: u64, f: Fault, out: &mut [u8; SPOKEN]) -> usize
-    ensures text { take result out.new ≡ faultText line f }
+    ensures text { take result out.new ≡ fault_text line f }
     ensures count { IsPrefixLen result out.new }
 {
     let wanted = f.wanted;
@@ -138,7 +138,7 @@ pub fn fault_text(line: u64, f: Fault, out: &mut [u8; SPOKEN]) -> usize
 
 // Writes that an open stands where the worksheet is open, and gives the length in bytes.
 pub fn again_text(line: u64, out: &mut [u8; SPOKEN]) -> usize
-    ensures text { take result out.new ≡ againText line }
+    ensures text { take result out.new ≡ again_text line }
     ensures count { IsPrefixLen result out.new }
 {
     let next = put_line_mark(out, 0, line);
@@ -147,7 +147,7 @@ pub fn again_text(line: u64, out: &mut [u8; SPOKEN]) -> usize
 
 // Writes that a call stands before the open, and gives the length in bytes.
 pub fn unopened_text(line: u64, out: &mut [u8; SPOKEN]) -> usize
-    ensures text { take result out.new ≡ unopenedText line }
+    ensures text { take result out.new ≡ unopened_text line }
     ensures count { IsPrefixLen result out.new }
 {
     let next = put_line_mark(out, 0, line);

@@ -3,10 +3,10 @@ ghost use Rattle.std.specs.Prelude.{◌≡◌, ◌+◌, ◌-◌, ◌≤◌, leng
 ghost use Rattle.std.specs.Float.{nan};
 ghost use Rattle.io.specs.Counts.{IsPrefixLen};
 ghost use Rattle.wording.specs.Token.{ascii};
-ghost use Rattle.listing.specs.Text.{Put, decimalOf};
-ghost use Rattle.listing.specs.Page.{unitText};
-ghost use Rattle.listing.specs.Survey.{modelName};
-ghost use Rattle.listing.specs.Fields.{atRight, fieldRow, flagName, fieldValue, fieldName, fieldText, fieldLine, fieldsWords, singles};
+ghost use Rattle.listing.specs.Text.{Put, decimal_of};
+ghost use Rattle.listing.specs.Page.{unit_text};
+ghost use Rattle.listing.specs.Survey.{model_name};
+ghost use Rattle.listing.specs.Fields.{at_right, field_row, flag_name, field_value, field_name, field_text, field_line, fields_words, singles};
 
 use crate::decimal::put_float;
 use crate::survey::put_model;
@@ -57,7 +57,7 @@ const UNIT_LETTERS: [usize; FIELDS] = [0, 0, 11, 9, 9, 9, 9, 0, 0, 0, 0, 0, 9, 9
 fn put_right(out: &mut [u8], at: usize, piece: &[u8]) -> usize
     requires piece_len_bound { length piece.now ≤ 16 }
     requires at_in_bounds { at + 16 ≤ length out.old }
-    ensures { Put out.old at (atRight piece.now) out.new result }
+    ensures { Put out.old at (at_right piece.now) out.new result }
 {
     let blanks = [b' '; 16];
     let n = 16 - piece.len();
@@ -68,7 +68,7 @@ fn put_right(out: &mut [u8], at: usize, piece: &[u8]) -> usize
 // Puts a whole number so.
 pub(crate) fn put_whole(out: &mut [u8], at: usize, n: u32) -> usize
     requires { at + 16 ≤ length out.old }
-    ensures { Put out.old at (atRight (decimalOf n)) out.new result }
+    ensures { Put out.old at (at_right (decimal_of n)) out.new result }
 {
     let mut digits = [0u8; 10];
     let size = put_number(&mut digits, 0, n as u64);
@@ -77,7 +77,7 @@ pub(crate) fn put_whole(out: &mut [u8], at: usize, n: u32) -> usize
 
 fn put_flag(out: &mut [u8], at: usize, flag: u32) -> usize
     requires { at + 16 ≤ length out.old }
-    ensures { Put out.old at (atRight (ascii (flagName flag))) out.new result }
+    ensures { Put out.old at (at_right (ascii (flag_name flag))) out.new result }
 {
     if flag == 0 {
         return put_right(out, at, b"no");
@@ -90,7 +90,7 @@ fn put_flag(out: &mut [u8], at: usize, flag: u32) -> usize
 
 fn put_model_right(out: &mut [u8], at: usize, model: u32) -> usize
     requires { at + 16 ≤ length out.old }
-    ensures { Put out.old at (atRight (ascii (modelName model))) out.new result }
+    ensures { Put out.old at (at_right (ascii (model_name model))) out.new result }
 {
     let mut name = [0u8; 8];
     let size = put_model(&mut name, 0, model);
@@ -123,7 +123,7 @@ fn put_field_value(out: &mut [u8], at: usize, i: Inputs, k: u32) -> usize
     requires le_k { 1 ≤ k }
     requires k_bound { k ≤ 15 }
     requires at_in_bounds { at + 44 ≤ length out.old }
-    ensures { Put out.old at (fieldValue i k) out.new result }
+    ensures { Put out.old at (field_value i k) out.new result }
 {
     let route = i.route;
     if k == 1 {
@@ -141,7 +141,7 @@ fn put_field_value(out: &mut [u8], at: usize, i: Inputs, k: u32) -> usize
 fn field_name(k: u32) -> [u8; 24]
     requires le_k { 1 ≤ k }
     requires k_bound { k ≤ 15 }
-    ensures { result ≡ fieldName (fieldRow k) }
+    ensures { result ≡ field_name (field_row k) }
 {
     FIELD_NAMES[(k - 1) as usize]
 }
@@ -150,7 +150,7 @@ fn put_field_unit(out: &mut [u8], at: usize, k: u32) -> usize
     requires le_k { 1 ≤ k }
     requires k_bound { k ≤ 15 }
     requires at_in_bounds { at + 11 ≤ length out.old }
-    ensures { Put out.old at (unitText (fieldRow k).unit) out.new result }
+    ensures { Put out.old at (unit_text (field_row k).unit) out.new result }
 {
     let k = (k - 1) as usize;
     let row = FIELD_UNITS[k];
@@ -163,7 +163,7 @@ pub(crate) fn put_field(out: &mut [u8], at: usize, i: Inputs, k: u32) -> usize
     requires le_k { 1 ≤ k }
     requires k_bound { k ≤ 15 }
     requires at_in_bounds { at + 79 ≤ length out.old }
-    ensures { Put out.old at (fieldText i k) out.new result }
+    ensures { Put out.old at (field_text i k) out.new result }
 {
     let name = field_name(k);
     let next = put(out, at, &name);
@@ -175,7 +175,7 @@ fn put_field_line(out: &mut [u8], at: usize, i: Inputs, k: u32) -> usize
     requires le_k { 1 ≤ k }
     requires k_bound { k ≤ 15 }
     requires at_in_bounds { at + 80 ≤ length out.old }
-    ensures { Put out.old at (fieldLine i k) out.new result }
+    ensures { Put out.old at (field_line i k) out.new result }
 {
     let next = put_field(out, at, i, k);
     put(out, next, b"\n")
@@ -184,7 +184,7 @@ fn put_field_line(out: &mut [u8], at: usize, i: Inputs, k: u32) -> usize
 // Puts the lines of all fields.
 pub(crate) fn put_fields_words(out: &mut [u8], at: usize, i: Inputs) -> usize
     requires { at + 1200 ≤ length out.old }
-    ensures { Put out.old at (fieldsWords i) out.new result }
+    ensures { Put out.old at (fields_words i) out.new result }
 {
     let mut next = at;
     let mut k: u32 = 0;

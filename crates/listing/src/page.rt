@@ -2,7 +2,7 @@
 ghost use Rattle.std.specs.Prelude.{◌≡◌, ◌+◌, ◌*◌, ◌≤◌, ◌<◌, length, take};
 ghost use Rattle.io.specs.Counts.{IsPrefixLen};
 ghost use Rattle.listing.specs.Text.{Put};
-ghost use Rattle.listing.specs.Page.{pageRow, nameText, lettersIn, unitIn, unitText, valueText, rowText, rowsText, fieldsText, pointHead, pointText, thereText, firstPoints, pageText};
+ghost use Rattle.listing.specs.Page.{page_row, name_text, letters_in, unit_in, unit_text, value_text, row_text, rows_text, fields_text, point_head, point_text, there_text, first_points, page_text};
 
 use crate::answer::hex;
 use crate::decimal::put_float;
@@ -120,14 +120,14 @@ const UNITS: [[u8; 7]; 47] = [
 
 pub(crate) fn name(k: usize) -> [u8; 12]
     requires { k < 47 }
-    ensures { result ≡ nameText (pageRow k) }
+    ensures { result ≡ name_text (page_row k) }
 {
     NAMES[k]
 }
 
 pub(crate) fn unit(k: usize) -> [u8; 7]
     requires { k < 47 }
-    ensures { unitIn result ≡ unitText (pageRow k).unit }
+    ensures { unit_in result ≡ unit_text (page_row k).unit }
 {
     UNITS[k]
 }
@@ -135,7 +135,7 @@ pub(crate) fn unit(k: usize) -> [u8; 7]
 // Puts the letters before the first blank.
 fn put_word(out: &mut [u8], at: usize, word: &[u8]) -> usize
     requires { at + length word.now ≤ length out.old }
-    ensures { Put out.old at (lettersIn word.now) out.new result }
+    ensures { Put out.old at (letters_in word.now) out.new result }
 {
     let mut next = at;
     let mut k: usize = 0;
@@ -153,7 +153,7 @@ fn put_word(out: &mut [u8], at: usize, word: &[u8]) -> usize
 // Puts a unit after two blanks, where there is one.
 pub(crate) fn put_unit(out: &mut [u8], at: usize, unit: &[u8; 7]) -> usize
     requires { at + 9 ≤ length out.old }
-    ensures { Put out.old at (unitIn unit.now) out.new result }
+    ensures { Put out.old at (unit_in unit.now) out.new result }
 {
     if unit[0] == b' ' {
         return at;
@@ -165,7 +165,7 @@ pub(crate) fn put_unit(out: &mut [u8], at: usize, unit: &[u8; 7]) -> usize
 // A number: its decimals and its bits.
 fn put_value(out: &mut [u8], at: usize, x: f32) -> usize
     requires { at + 54 ≤ length out.old }
-    ensures { Put out.old at (valueText x) out.new result }
+    ensures { Put out.old at (value_text x) out.new result }
 {
     let digits = hex(number::bits32(x));
     let next = put_float(out, at, x);
@@ -177,7 +177,7 @@ fn put_value(out: &mut [u8], at: usize, x: f32) -> usize
 fn put_row(out: &mut [u8], at: usize, k: usize, x: f32) -> usize
     requires k_bound { k < 47 }
     requires at_in_bounds { at + 76 ≤ length out.old }
-    ensures { Put out.old at (rowText (pageRow k) x) out.new result }
+    ensures { Put out.old at (row_text (page_row k) x) out.new result }
 {
     let letters = name(k);
     let unit = unit(k);
@@ -192,7 +192,7 @@ fn put_rows(out: &mut [u8], at: usize, first: usize, xs: &[f32], from: usize, n:
     requires n_bound { first + n ≤ 47 }
     requires n_in_bounds { from + n ≤ length xs.now }
     requires n_in_bounds_2 { at + 76 * n ≤ length out.old }
-    ensures { Put out.old at (rowsText first xs.now from n) out.new result }
+    ensures { Put out.old at (rows_text first xs.now from n) out.new result }
 {
     let mut next = at;
     let mut k: usize = 0;
@@ -205,7 +205,7 @@ fn put_rows(out: &mut [u8], at: usize, first: usize, xs: &[f32], from: usize, n:
 
 // The 14 fields that a sheet is of, so that a page stands for itself.
 fn put_fields(out: &mut [u8; PAGE], i: Inputs) -> usize
-    ensures { Put out.old 0 (fieldsText i) out.new result }
+    ensures { Put out.old 0 (fields_text i) out.new result }
 {
     let route = i.route;
     let tlat = route.tlat;
@@ -231,7 +231,7 @@ fn put_fields(out: &mut [u8; PAGE], i: Inputs) -> usize
 fn put_point_head(out: &mut [u8], at: usize, uses: Uses, p: u32) -> usize
     requires p_bound { p < 5 }
     requires at_in_bounds { at + 49 ≤ length out.old }
-    ensures { Put out.old at (pointHead uses p) out.new result }
+    ensures { Put out.old at (point_head uses p) out.new result }
 {
     let next = put(out, at, b"point ");
     let next = put_number(out, next, (p + 1) as u64);
@@ -243,7 +243,7 @@ fn put_point_head(out: &mut [u8], at: usize, uses: Uses, p: u32) -> usize
 fn put_point(out: &mut [u8], at: usize, uses: Uses, figures: &[f32; FIGURES], p: u32) -> usize
     requires p_bound { p < 5 }
     requires at_in_bounds { at + 2253 ≤ length out.old }
-    ensures { Put out.old at (pointText uses figures.now p) out.new result }
+    ensures { Put out.old at (point_text uses figures.now p) out.new result }
 {
     let next = put_point_head(out, at, uses, p);
     put_rows(out, next, 18, figures, 6 + 29 * (p as usize), 29)
@@ -259,7 +259,7 @@ fn put_point_there(
 ) -> usize
     requires p_bound { p < 5 }
     requires at_in_bounds { at + 2253 ≤ length out.old }
-    ensures { Put out.old at (thereText count uses figures.now p) out.new result }
+    ensures { Put out.old at (there_text count uses figures.now p) out.new result }
 {
     if p < count {
         return put_point(out, at, uses, figures, p);
@@ -270,7 +270,7 @@ fn put_point_there(
 // Each point that is there.
 fn put_points(out: &mut [u8], at: usize, count: u32, uses: Uses, figures: &[f32; FIGURES]) -> usize
     requires { at + 11265 ≤ length out.old }
-    ensures { Put out.old at (firstPoints count uses figures.now 5) out.new result }
+    ensures { Put out.old at (first_points count uses figures.now 5) out.new result }
 {
     let mut next = at;
     let mut p: u32 = 0;
@@ -290,7 +290,7 @@ pub fn page_text(
     figures: &[f32; FIGURES],
     out: &mut [u8; PAGE],
 ) -> usize
-    ensures text { take result out.new ≡ pageText i count uses figures.now }
+    ensures text { take result out.new ≡ page_text i count uses figures.now }
     ensures count { IsPrefixLen result out.new }
 {
     let next = put_fields(out, i);

@@ -2,7 +2,7 @@
 ghost use Rattle.std.specs.Prelude.{◌≡◌, ◌+◌, ◌≤◌, ◌<◌, length};
 ghost use Rattle.wording.specs.Token.{ascii};
 ghost use Rattle.listing.specs.Text.{Put};
-ghost use Rattle.listing.specs.Reason.{reasonOf, reasonRow, refusedWords};
+ghost use Rattle.listing.specs.Reason.{reason_of, reason_row, refused_words};
 
 use crate::text::{put, put_number};
 use base::refusal::Refusal;
@@ -39,7 +39,7 @@ const LETTERS: [usize; 22] = [
 
 // Which of the reasons is a refusal's.
 fn row_of(why: Refusal) -> usize
-    ensures answer { result ≡ reasonRow why }
+    ensures answer { result ≡ reason_row why }
     ensures bound { result < 22 }
 {
     match why {
@@ -71,7 +71,7 @@ fn row_of(why: Refusal) -> usize
 // Puts the words of a reason.
 fn put_reason(out: &mut [u8], at: usize, why: Refusal) -> usize
     requires { at + 49 ≤ length out.old }
-    ensures { Put out.old at (ascii (reasonOf why)) out.new result }
+    ensures { Put out.old at (ascii (reason_of why)) out.new result }
 {
     let k = row_of(why);
     let row = REASONS[k];
@@ -82,7 +82,7 @@ fn put_reason(out: &mut [u8], at: usize, why: Refusal) -> usize
 // Puts `refused`, number, place and the reason.
 pub(crate) fn put_refused(out: &mut [u8], at: usize, why: Refusal) -> usize
     requires { at + 80 ≤ length out.old }
-    ensures { Put out.old at (refusedWords why) out.new result }
+    ensures { Put out.old at (refused_words why) out.new result }
 {
     let next = put(out, at, b"refused ");
     let next = put_number(out, next, why.number() as u64);

@@ -2,8 +2,8 @@
 // it.
 ghost use Rattle.std.specs.Prelude.{◌≡◌, take};
 ghost use Rattle.io.specs.Counts.{IsPrefixLen};
-ghost use Rattle.listing.specs.Answer.{refusalText};
-ghost use Rattle.listing.specs.Sheet.{sheetAnswer, pageFor, pageAnswer};
+ghost use Rattle.listing.specs.Answer.{refusal_text};
+ghost use Rattle.listing.specs.Sheet.{sheet_answer, page_for, page_answer};
 
 use crate::answer::{ANSWER, refusal_text, sheet_text};
 use crate::page::{PAGE, page_text};
@@ -17,7 +17,7 @@ use worksheet::showing::show;
 // Writes the 151 lines of the worksheet that the words open, or the line of the refusal, and gives
 // the length in bytes.
 pub fn sheet_answer(words: &[u8], f2: &[u8], file: &[u8], out: &mut [u8; ANSWER]) -> usize
-    ensures text { take result out.new ≡ sheetAnswer words.now f2.now file.now }
+    ensures text { take result out.new ≡ sheet_answer words.now f2.now file.now }
     ensures count { IsPrefixLen result out.new }
 {
     let mut figures = [0.0f32; FIGURES];
@@ -28,7 +28,7 @@ pub fn sheet_answer(words: &[u8], f2: &[u8], file: &[u8], out: &mut [u8; ANSWER]
 }
 
 fn page_for(i: Inputs, shown: Shown, figures: &[f32; FIGURES], out: &mut [u8; PAGE]) -> usize
-    ensures text { take result out.new ≡ pageFor i shown figures.now }
+    ensures text { take result out.new ≡ page_for i shown figures.now }
     ensures count { IsPrefixLen result out.new }
 {
     match shown {
@@ -38,7 +38,7 @@ fn page_for(i: Inputs, shown: Shown, figures: &[f32; FIGURES], out: &mut [u8; PA
 }
 
 fn put_refusal(why: Refusal, out: &mut [u8; PAGE]) -> usize
-    ensures text { take result out.new ≡ refusalText why }
+    ensures text { take result out.new ≡ refusal_text why }
     ensures count { IsPrefixLen result out.new }
 {
     let mut line = [0u8; ANSWER];
@@ -49,7 +49,7 @@ fn put_refusal(why: Refusal, out: &mut [u8; PAGE]) -> usize
 // Writes the page of the worksheet that the words open, or the line of the refusal, and gives the
 // length in bytes.
 pub fn page_answer(words: &[u8], f2: &[u8], file: &[u8], out: &mut [u8; PAGE]) -> usize
-    ensures text { take result out.new ≡ pageAnswer words.now f2.now file.now }
+    ensures text { take result out.new ≡ page_answer words.now f2.now file.now }
     ensures count { IsPrefixLen result out.new }
 {
     let mut figures = [0.0f32; FIGURES];

@@ -6,9 +6,9 @@ ghost use Rattle.worksheet.specs.Journal.{step};
 ghost use Rattle.worksheet.specs.Calls.{called};
 ghost use Rattle.wording.specs.Token.{ascii};
 ghost use Rattle.listing.specs.Text.{Put};
-ghost use Rattle.listing.specs.Survey.{refusedLine};
+ghost use Rattle.listing.specs.Survey.{refused_line};
 ghost use Rattle.listing.specs.Turn.{blank};
-ghost use Rattle.listing.specs.Spoken.{lineMark, verdictWords, pointsNoun, pointsWords, shownWords, spokenText, spokenVerdict, inputsAsked, deskAsked, handedWords};
+ghost use Rattle.listing.specs.Spoken.{line_mark, verdict_words, points_noun, points_words, shown_words, spoken_text, spoken_verdict, inputs_asked, desk_asked, handed_words};
 
 use crate::columns::{COLUMNS, put_columns};
 use crate::reason::put_refused;
@@ -27,7 +27,7 @@ pub const SPOKEN: usize = COLUMNS + 64;
 
 pub(crate) fn put_line_mark(out: &mut [u8], at: usize, line: u64) -> usize
     requires { at + 27 ≤ length out.old }
-    ensures { Put out.old at (lineMark line) out.new result }
+    ensures { Put out.old at (line_mark line) out.new result }
 {
     let next = put(out, at, b"line ");
     let next = put_number(out, next, line);
@@ -36,7 +36,7 @@ pub(crate) fn put_line_mark(out: &mut [u8], at: usize, line: u64) -> usize
 
 fn put_refused_line(out: &mut [u8], at: usize, why: Refusal) -> usize
     requires { at + 95 ≤ length out.old }
-    ensures { Put out.old at (refusedLine why) out.new result }
+    ensures { Put out.old at (refused_line why) out.new result }
 {
     let next = put_refused(out, at, why);
     put(out, next, b"\n")
@@ -44,7 +44,7 @@ fn put_refused_line(out: &mut [u8], at: usize, why: Refusal) -> usize
 
 fn put_verdict_words(out: &mut [u8], at: usize, v: Verdict) -> usize
     requires { at + 95 ≤ length out.old }
-    ensures { Put out.old at (verdictWords v) out.new result }
+    ensures { Put out.old at (verdict_words v) out.new result }
 {
     match v {
         Verdict::Accepted => put(out, at, b"accepted\n"),
@@ -54,7 +54,7 @@ fn put_verdict_words(out: &mut [u8], at: usize, v: Verdict) -> usize
 
 fn put_points_noun(out: &mut [u8], at: usize, count: u32) -> usize
     requires { at + 8 ≤ length out.old }
-    ensures { Put out.old at (ascii (pointsNoun count)) out.new result }
+    ensures { Put out.old at (ascii (points_noun count)) out.new result }
 {
     if count == 1 {
         return put(out, at, b" point\n");
@@ -72,7 +72,7 @@ fn put_points_words(
     figures: &[f32; FIGURES],
 ) -> usize
     requires { at + 10226 ≤ length out.old }
-    ensures { Put out.old at (pointsWords i count uses figures.now) out.new result }
+    ensures { Put out.old at (points_words i count uses figures.now) out.new result }
 {
     let next = put(out, at, b"shown, ");
     let next = put_number(out, next, count as u64);
@@ -89,7 +89,7 @@ fn put_shown_words(
     figures: &[f32; FIGURES],
 ) -> usize
     requires { at + 10226 ≤ length out.old }
-    ensures { Put out.old at (shownWords i s figures.now) out.new result }
+    ensures { Put out.old at (shown_words i s figures.now) out.new result }
 {
     match s {
         Shown::Points(count, uses) => put_points_words(out, at, i, count, uses, figures),
@@ -105,7 +105,7 @@ fn put_handed_words(
     figures: &[f32; FIGURES],
 ) -> usize
     requires { at + 10226 ≤ length out.old }
-    ensures { Put out.old at (handedWords i a figures.now) out.new result }
+    ensures { Put out.old at (handed_words i a figures.now) out.new result }
 {
     match a {
         Answer::Told(v) => put_verdict_words(out, at, v),
@@ -115,7 +115,7 @@ fn put_handed_words(
 
 // The desk that a call asks to see; 0, the worksheet, for one that shows nothing.
 fn desk_asked(call: Call) -> u32
-    ensures { result ≡ deskAsked call }
+    ensures { result ≡ desk_asked call }
 {
     match call {
         Call::Begin(_) => 0,
@@ -135,7 +135,7 @@ fn handed_spoken(
     figures: &[f32; FIGURES],
     out: &mut [u8; SPOKEN],
 ) -> usize
-    ensures text { take result out.new ≡ lineMark line ++ handedWords i a figures.now }
+    ensures text { take result out.new ≡ line_mark line ++ handed_words i a figures.now }
     ensures count { IsPrefixLen result out.new }
 {
     let next = put_line_mark(out, 0, line);
@@ -156,7 +156,7 @@ pub fn spoken(
 ) -> Turn
     ensures sheet { result.sheet ≡ (step (lent_as lent a.now b.now) (called call blank) w).sheet }
     ensures text { let s = step (lent_as lent a.now b.now) (called call blank) w in
-        take result.size out.new ≡ spokenText line (inputsAsked call w) s.answer }
+        take result.size out.new ≡ spoken_text line (inputs_asked call w) s.answer }
     ensures count { IsPrefixLen result.size out.new }
 {
     let mut figures = [0.0f32; FIGURES];
@@ -174,7 +174,7 @@ pub fn spoken(
 // Writes what an opening is answered, that of the journal's line `line`, and gives its length in
 // bytes.
 pub fn opened_text(v: Verdict, line: u64, out: &mut [u8; SPOKEN]) -> usize
-    ensures text { take result out.new ≡ spokenVerdict line v }
+    ensures text { take result out.new ≡ spoken_verdict line v }
     ensures count { IsPrefixLen result out.new }
 {
     let next = put_line_mark(out, 0, line);

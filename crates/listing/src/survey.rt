@@ -3,7 +3,7 @@ ghost use Rattle.std.specs.Prelude.{◌≡◌, ◌+◌, ◌≤◌, length, take}
 ghost use Rattle.io.specs.Counts.{IsPrefixLen};
 ghost use Rattle.wording.specs.Token.{ascii};
 ghost use Rattle.listing.specs.Text.{Put};
-ghost use Rattle.listing.specs.Survey.{modelName, foundText, refusedLine, surveyLine};
+ghost use Rattle.listing.specs.Survey.{model_name, found_text, refused_line, survey_line};
 
 use crate::reason::put_refused;
 use crate::text::{put, put_number};
@@ -15,7 +15,7 @@ pub const LINE: usize = 128;
 
 pub(crate) fn put_model(out: &mut [u8], at: usize, model: u32) -> usize
     requires { at + 8 ≤ length out.old }
-    ensures { Put out.old at (ascii (modelName model)) out.new result }
+    ensures { Put out.old at (ascii (model_name model)) out.new result }
 {
     if model == 0 {
         return put(out, at, b"CCIR");
@@ -28,7 +28,7 @@ pub(crate) fn put_model(out: &mut [u8], at: usize, model: u32) -> usize
 
 fn put_found(out: &mut [u8], at: usize, v: Verdict) -> usize
     requires { at + 80 ≤ length out.old }
-    ensures { Put out.old at (foundText v) out.new result }
+    ensures { Put out.old at (found_text v) out.new result }
 {
     match v {
         Verdict::Accepted => put(out, at, b"can be shown"),
@@ -38,7 +38,7 @@ fn put_found(out: &mut [u8], at: usize, v: Verdict) -> usize
 
 // Writes the line of a refusal with its reason, and gives its length in bytes.
 pub fn refused_line(why: Refusal, out: &mut [u8; LINE]) -> usize
-    ensures text { take result out.new ≡ refusedLine why }
+    ensures text { take result out.new ≡ refused_line why }
     ensures count { IsPrefixLen result out.new }
 {
     let next = put_refused(out, 0, why);
@@ -49,7 +49,7 @@ pub fn refused_line(why: Refusal, out: &mut [u8; LINE]) -> usize
 // showing of them would be refused by, once its desk, its other fields and its buffer pass. Gives its
 // length in bytes.
 pub fn survey_line(year: &[u8], month: u32, model: u32, out: &mut [u8; LINE]) -> usize
-    ensures text { take result out.new ≡ surveyLine year.now month model }
+    ensures text { take result out.new ≡ survey_line year.now month model }
     ensures count { IsPrefixLen result out.new }
 {
     let v = year_files_check(year, month, model);

@@ -1,6 +1,6 @@
 // Text in a lent buffer: each piece is put after those before it.
 ghost use Rattle.std.specs.Prelude.{◌≡◌, cond, [], ◌+◌, ◌/◌, ◌^◌, ◌≤◌, ◌<◌, length};
-ghost use Rattle.listing.specs.Text.{Put, digitOf, hasDigit, digitAt, decimalOf};
+ghost use Rattle.listing.specs.Text.{Put, digit_of, has_digit, digit_at, decimal_of};
 
 // Puts `piece` after the first `at` bytes, and gives the place after it.
 pub(crate) fn put(out: &mut [u8], at: usize, piece: &[u8]) -> usize
@@ -41,13 +41,13 @@ pub(crate) fn divided(n: u64, b: u64, k: u32) -> u64
 }
 
 pub(crate) fn digit(n: u64, k: u32) -> u8
-    ensures { result ≡ digitOf n k }
+    ensures { result ≡ digit_of n k }
 {
     48 + (divided(n, 10, k) % 10) as u8
 }
 
 pub(crate) fn has_digit(n: u64, k: u32) -> bool
-    ensures { result ≡ hasDigit n k }
+    ensures { result ≡ has_digit n k }
 {
     if k == 0 {
         return true;
@@ -57,8 +57,8 @@ pub(crate) fn has_digit(n: u64, k: u32) -> bool
 
 // Puts the digit of n for 10^k, where n has one.
 fn put_place(out: &mut [u8], at: usize, n: u64, k: u32) -> usize
-    requires { at + length (digitAt n k) ≤ length out.old }
-    ensures { Put out.old at (digitAt n k) out.new result }
+    requires { at + length (digit_at n k) ≤ length out.old }
+    ensures { Put out.old at (digit_at n k) out.new result }
 {
     if has_digit(n, k) {
         let digits = [digit(n, k)];
@@ -69,8 +69,8 @@ fn put_place(out: &mut [u8], at: usize, n: u64, k: u32) -> usize
 
 // Puts a whole number, with no blank before it.
 pub(crate) fn put_number(out: &mut [u8], at: usize, n: u64) -> usize
-    requires { at + length (decimalOf n) ≤ length out.old }
-    ensures { Put out.old at (decimalOf n) out.new result }
+    requires { at + length (decimal_of n) ≤ length out.old }
+    ensures { Put out.old at (decimal_of n) out.new result }
 {
     let mut next = at;
     let mut k: u32 = 20;

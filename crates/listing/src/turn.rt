@@ -4,7 +4,7 @@ ghost use Rattle.io.specs.Counts.{IsPrefixLen};
 ghost use Rattle.worksheet.specs.Showing.{lent_as};
 ghost use Rattle.worksheet.specs.Journal.{step};
 ghost use Rattle.worksheet.specs.Calls.{called};
-ghost use Rattle.listing.specs.Turn.{blank, handedText, answerText};
+ghost use Rattle.listing.specs.Turn.{blank, handed_text, answer_text};
 
 use crate::answer::{ANSWER, shown_text, verdict_text};
 use maps::figures::FIGURES;
@@ -20,7 +20,7 @@ pub struct Turn {
 }
 
 fn handed_text(a: Answer, figures: &[f32; FIGURES], out: &mut [u8; ANSWER]) -> usize
-    ensures text { take result out.new ≡ handedText a figures.now }
+    ensures text { take result out.new ≡ handed_text a figures.now }
     ensures count { IsPrefixLen result out.new }
 {
     match a {
@@ -42,7 +42,7 @@ pub fn answered(
 ) -> Turn
     ensures sheet { result.sheet ≡ (step (lent_as lent a.now b.now) (called call blank) w).sheet }
     ensures text { let s = step (lent_as lent a.now b.now) (called call blank) w in
-        take result.size out.new ≡ answerText s.answer }
+        take result.size out.new ≡ answer_text s.answer }
     ensures count { IsPrefixLen result.size out.new }
 {
     let mut figures = [0.0f32; FIGURES];

@@ -2,7 +2,7 @@
 ghost use Rattle.std.specs.Prelude.{◌+◌, ◌≤◌, length};
 ghost use Rattle.wording.specs.Token.{ascii};
 ghost use Rattle.listing.specs.Text.{Put};
-ghost use Rattle.listing.specs.Uses.{useName, useText, usesText};
+ghost use Rattle.listing.specs.Uses.{use_name, use_text, uses_text};
 
 use crate::text::put;
 use maps::geometry::{Use, Uses};
@@ -10,7 +10,7 @@ use maps::geometry::{Use, Uses};
 // Puts a word after a blank.
 fn put_use_word(out: &mut [u8], at: usize, u: Use) -> usize
     requires { at + 5 ≤ length out.old }
-    ensures { Put out.old at (useText u) out.new result }
+    ensures { Put out.old at (use_text u) out.new result }
 {
     match u {
         Use::NoLayer => put(out, at, b" none"),
@@ -23,7 +23,7 @@ fn put_use_word(out: &mut [u8], at: usize, u: Use) -> usize
 // Puts the words of the five points.
 pub(crate) fn put_uses(out: &mut [u8], at: usize, uses: Uses) -> usize
     requires { at + 25 ≤ length out.old }
-    ensures { Put out.old at (usesText uses) out.new result }
+    ensures { Put out.old at (uses_text uses) out.new result }
 {
     let p1 = uses.p1;
     let p2 = uses.p2;
@@ -40,7 +40,7 @@ pub(crate) fn put_uses(out: &mut [u8], at: usize, uses: Uses) -> usize
 // Puts a name.
 pub(crate) fn put_use_name(out: &mut [u8], at: usize, u: Use) -> usize
     requires { at + 10 ≤ length out.old }
-    ensures { Put out.old at (ascii (useName u)) out.new result }
+    ensures { Put out.old at (ascii (use_name u)) out.new result }
 {
     match u {
         Use::NoLayer => put(out, at, b"none"),

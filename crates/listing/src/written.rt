@@ -4,8 +4,8 @@ ghost use Rattle.io.specs.Counts.{IsPrefixLen};
 ghost use Rattle.wording.specs.declared.written.WrittenCall.TheVariants.{Show};
 ghost use Rattle.wording.specs.Number.{is_written};
 ghost use Rattle.wording.specs.Token.{ascii};
-ghost use Rattle.listing.specs.Text.{Put, decimalOf};
-ghost use Rattle.listing.specs.Written.{placesText, fractionText, digitsText, numberText, pairText, routeText, factorsText, poleText, modelText, headText, tailText, openText, editText, deedText, callText, lineText};
+ghost use Rattle.listing.specs.Text.{Put, decimal_of};
+ghost use Rattle.listing.specs.Written.{places_text, fraction_text, digits_text, number_text, pair_text, route_text, factors_text, pole_text, model_text, head_text, tail_text, open_text, edit_text, deed_text, call_text, line_text};
 
 use crate::columns::COLUMNS;
 use crate::text::{digit, divided, put, put_if, put_number};
@@ -31,8 +31,8 @@ fn is_written(d: Decimal) -> bool
 
 // Puts the last digits of n, as many as there are places, zeros with them.
 fn put_places(out: &mut [u8], at: usize, n: u64, places: u32) -> usize
-    requires { at + length (placesText n places) ≤ length out.old }
-    ensures { Put out.old at (placesText n places) out.new result }
+    requires { at + length (places_text n places) ≤ length out.old }
+    ensures { Put out.old at (places_text n places) out.new result }
 {
     let mut next = at;
     let mut k = places;
@@ -47,7 +47,7 @@ fn put_places(out: &mut [u8], at: usize, n: u64, places: u32) -> usize
 fn put_fraction(out: &mut [u8], at: usize, d: Decimal) -> usize
     requires places_bound { d.places ≤ 18 }
     requires at_in_bounds { at + 19 ≤ length out.old }
-    ensures text { Put out.old at (fractionText d) out.new result }
+    ensures text { Put out.old at (fraction_text d) out.new result }
     ensures bound { result ≤ at + 19 }
 {
     if d.places == 0 {
@@ -60,7 +60,7 @@ fn put_fraction(out: &mut [u8], at: usize, d: Decimal) -> usize
 fn put_digits(out: &mut [u8], at: usize, d: Decimal) -> usize
     requires places_bound { d.places ≤ 18 }
     requires at_in_bounds { at + 40 ≤ length out.old }
-    ensures text { Put out.old at (digitsText d) out.new result }
+    ensures text { Put out.old at (digits_text d) out.new result }
     ensures bound { result ≤ at + 40 }
 {
     let whole = divided(d.digits, 10, d.places);
@@ -71,7 +71,7 @@ fn put_digits(out: &mut [u8], at: usize, d: Decimal) -> usize
 
 fn put_decimal(out: &mut [u8], at: usize, d: Decimal) -> usize
     requires { at + 40 ≤ length out.old }
-    ensures text { Put out.old at (numberText d) out.new result }
+    ensures text { Put out.old at (number_text d) out.new result }
     ensures bound { result ≤ at + 40 }
 {
     if is_written(d) {
@@ -83,7 +83,7 @@ fn put_decimal(out: &mut [u8], at: usize, d: Decimal) -> usize
 // Puts a whole number of at most ten digits, as every u32 is.
 pub(crate) fn put_count(out: &mut [u8], at: usize, n: u32) -> usize
     requires { at + 10 ≤ length out.old }
-    ensures text { Put out.old at (decimalOf n) out.new result }
+    ensures text { Put out.old at (decimal_of n) out.new result }
     ensures bound { result ≤ at + 10 }
 {
     put_number(out, at, n as u64)
@@ -91,7 +91,7 @@ pub(crate) fn put_count(out: &mut [u8], at: usize, n: u32) -> usize
 
 fn put_pair(out: &mut [u8], at: usize, a: Decimal, b: Decimal) -> usize
     requires { at + 81 ≤ length out.old }
-    ensures text { Put out.old at (pairText a b) out.new result }
+    ensures text { Put out.old at (pair_text a b) out.new result }
     ensures bound { result ≤ at + 81 }
 {
     let next = put_decimal(out, at, a);
@@ -101,7 +101,7 @@ fn put_pair(out: &mut [u8], at: usize, a: Decimal, b: Decimal) -> usize
 
 fn put_route(out: &mut [u8], at: usize, p: WrittenRoute) -> usize
     requires { at + 176 ≤ length out.old }
-    ensures text { Put out.old at (routeText p) out.new result }
+    ensures text { Put out.old at (route_text p) out.new result }
     ensures bound { result ≤ at + 176 }
 {
     let next = put(out, at, b"from ");
@@ -113,7 +113,7 @@ fn put_route(out: &mut [u8], at: usize, p: WrittenRoute) -> usize
 
 fn put_factors(out: &mut [u8], at: usize, p: WrittenFactors) -> usize
     requires { at + 171 ≤ length out.old }
-    ensures text { Put out.old at (factorsText p) out.new result }
+    ensures text { Put out.old at (factors_text p) out.new result }
     ensures bound { result ≤ at + 171 }
 {
     let next = put(out, at, b"factors ");
@@ -124,7 +124,7 @@ fn put_factors(out: &mut [u8], at: usize, p: WrittenFactors) -> usize
 
 fn put_pole(out: &mut [u8], at: usize, p: WrittenPole) -> usize
     requires { at + 86 ≤ length out.old }
-    ensures text { Put out.old at (poleText p) out.new result }
+    ensures text { Put out.old at (pole_text p) out.new result }
     ensures bound { result ≤ at + 86 }
 {
     let next = put(out, at, b"pole ");
@@ -133,7 +133,7 @@ fn put_pole(out: &mut [u8], at: usize, p: WrittenPole) -> usize
 
 fn put_model(out: &mut [u8], at: usize, model: u32) -> usize
     requires { at + 10 ≤ length out.old }
-    ensures text { Put out.old at (modelText model) out.new result }
+    ensures text { Put out.old at (model_text model) out.new result }
     ensures bound { result ≤ at + 10 }
 {
     let next = put(out, at, b"model ");
@@ -146,7 +146,7 @@ fn put_model(out: &mut [u8], at: usize, model: u32) -> usize
 // Month, sunspot number and hour of an open.
 fn put_head(out: &mut [u8], at: usize, o: WrittenInputs) -> usize
     requires { at + 116 ≤ length out.old }
-    ensures text { Put out.old at (headText o) out.new result }
+    ensures text { Put out.old at (head_text o) out.new result }
     ensures bound { result ≤ at + 116 }
 {
     let next = put(out, at, b"open month ");
@@ -160,7 +160,7 @@ fn put_head(out: &mut [u8], at: usize, o: WrittenInputs) -> usize
 // Factors, pole and model of an open, each behind a blank.
 fn put_tail(out: &mut [u8], at: usize, o: WrittenInputs) -> usize
     requires { at + 270 ≤ length out.old }
-    ensures text { Put out.old at (tailText o) out.new result }
+    ensures text { Put out.old at (tail_text o) out.new result }
     ensures bound { result ≤ at + 270 }
 {
     let next = put(out, at, b" ");
@@ -173,7 +173,7 @@ fn put_tail(out: &mut [u8], at: usize, o: WrittenInputs) -> usize
 
 // Puts all that an open says.
 fn put_open(out: &mut [u8; WRITTEN], o: WrittenInputs) -> usize
-    ensures text { Put out.old 0 (openText o) out.new result }
+    ensures text { Put out.old 0 (open_text o) out.new result }
     ensures bound { result ≤ 575 }
 {
     let next = put_head(out, 0, o);
@@ -184,7 +184,7 @@ fn put_open(out: &mut [u8; WRITTEN], o: WrittenInputs) -> usize
 
 fn put_edit(out: &mut [u8], at: usize, e: WrittenEdit) -> usize
     requires { at + 181 ≤ length out.old }
-    ensures text { Put out.old at (editText e) out.new result }
+    ensures text { Put out.old at (edit_text e) out.new result }
     ensures bound { result ≤ at + 181 }
 {
     match e {
@@ -213,7 +213,7 @@ fn put_edit(out: &mut [u8], at: usize, e: WrittenEdit) -> usize
 fn put_change(out: &mut [u8], at: usize, n: u32, e: WrittenEdit) -> usize
     requires { at + 192 ≤ length out.old }
     ensures text { Put out.old at
-        (deedText n (editText e)) out.new result }
+        (deed_text n (edit_text e)) out.new result }
     ensures bound { result ≤ at + 192 }
 {
     let next = put_count(out, at, n);
@@ -225,7 +225,7 @@ fn put_change(out: &mut [u8], at: usize, n: u32, e: WrittenEdit) -> usize
 fn put_deed(out: &mut [u8], at: usize, n: u32, deed: &[u8]) -> usize
     requires { at + 11 + length deed.now ≤ length out.old }
     ensures text { Put out.old at
-        (deedText n deed.now) out.new result }
+        (deed_text n deed.now) out.new result }
     ensures bound { result ≤ at + 11 + length deed.now }
 {
     let next = put_count(out, at, n);
@@ -235,7 +235,7 @@ fn put_deed(out: &mut [u8], at: usize, n: u32, deed: &[u8]) -> usize
 
 fn put_show(out: &mut [u8], at: usize, n: u32) -> usize
     requires { at + 192 ≤ length out.old }
-    ensures text { Put out.old at (callText (Show n)) out.new result }
+    ensures text { Put out.old at (call_text (Show n)) out.new result }
     ensures bound { result ≤ at + 192 }
 {
     if n == 0 {
@@ -246,7 +246,7 @@ fn put_show(out: &mut [u8], at: usize, n: u32) -> usize
 
 fn put_call(out: &mut [u8], at: usize, c: WrittenCall) -> usize
     requires { at + 192 ≤ length out.old }
-    ensures text { Put out.old at (callText c) out.new result }
+    ensures text { Put out.old at (call_text c) out.new result }
     ensures bound { result ≤ at + 192 }
 {
     match c {
@@ -260,7 +260,7 @@ fn put_call(out: &mut [u8], at: usize, c: WrittenCall) -> usize
 }
 
 fn put_open_line(out: &mut [u8; WRITTEN], o: WrittenInputs) -> usize
-    ensures text { take result out.new ≡ openText o ++ ascii "\n" }
+    ensures text { take result out.new ≡ open_text o ++ ascii "\n" }
     ensures count { IsPrefixLen result out.new }
 {
     let next = put_open(out, o);
@@ -268,7 +268,7 @@ fn put_open_line(out: &mut [u8; WRITTEN], o: WrittenInputs) -> usize
 }
 
 fn put_call_line(out: &mut [u8; WRITTEN], c: WrittenCall) -> usize
-    ensures text { take result out.new ≡ callText c ++ ascii "\n" }
+    ensures text { take result out.new ≡ call_text c ++ ascii "\n" }
     ensures count { IsPrefixLen result out.new }
 {
     let next = put_call(out, 0, c);
@@ -277,7 +277,7 @@ fn put_call_line(out: &mut [u8; WRITTEN], c: WrittenCall) -> usize
 
 // Writes a line anew, as it is kept, and gives its length in bytes; nothing for one that is no call.
 pub fn line_text(line: Line, out: &mut [u8; WRITTEN]) -> usize
-    ensures text { take result out.new ≡ lineText line }
+    ensures text { take result out.new ≡ line_text line }
     ensures count { IsPrefixLen result out.new }
 {
     match line {

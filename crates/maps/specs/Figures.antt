@@ -3,11 +3,11 @@
 use Rattle.std.specs.Prelude.{ℕ, zero, suc, cond, List, [], ◌∷◌, ◌++◌, replicate, nat_lt, slice_index_or, Float}
 use Rattle.std.specs.Float.{nan}
 use Rattle.base.specs.declared.refusal.Verdict.{Verdict}
-use Rattle.base.specs.Refusal.{unlessRefused, writtenOver}
+use Rattle.base.specs.Refusal.{unless_refused, written_over}
 use Rattle.base.specs.Single.{decimal}
 use Rattle.base.specs.Index.{index_of}
-use Rattle.base.specs.Blend.{cofionOf, hmymOf, fakmapOf}
-use Rattle.base.specs.Files.{filesCheck}
+use Rattle.base.specs.Blend.{cofion_of, hmym_of, fakmap_of}
+use Rattle.base.specs.Files.{files_check}
 use Rattle.maps.specs.declared.inputs.Inputs.{Inputs}
 use Rattle.maps.specs.declared.figures.Shown.{Shown}
 use Rattle.maps.specs.declared.figures.Shown.TheVariants.{Points, Refused as NotShown}
@@ -18,12 +18,12 @@ use Rattle.maps.specs.declared.ionosphere.layers.Monthly.{Monthly}
 use Rattle.maps.specs.declared.ionosphere.layers.LayerParams.{LayerParams}
 use Rattle.maps.specs.declared.ionosphere.layers.EsParams.{EsParams}
 use Rattle.maps.specs.declared.ionosphere.layers.Ground.{Ground}
-use Rattle.maps.specs.Inputs.{isLong}
-use Rattle.maps.specs.Magnetic.{magvarOf}
-use Rattle.maps.specs.Virtim.{virtimOf}
-use Rattle.maps.specs.Geometry.{usesOf, pathOf, alatdOf, nowhere}
-use Rattle.maps.specs.Layers.{monthlyOf, layersOf, esindOf, groundOf}
-use Rattle.maps.specs.Ionosphere.{gammasAt}
+use Rattle.maps.specs.Inputs.{is_long}
+use Rattle.maps.specs.Magnetic.{magvar_of}
+use Rattle.maps.specs.Virtim.{virtim_of}
+use Rattle.maps.specs.Geometry.{uses_of, path_of, alatd_of, nowhere}
+use Rattle.maps.specs.Layers.{monthly_of, layers_of, esind_of, ground_of}
+use Rattle.maps.specs.Ionosphere.{gammas_at}
 
 -- ---- what the points of a sheet share
 
@@ -38,24 +38,24 @@ abbrev pub hour : List Float → List ℕ → Monthly → List Float → List Fl
 hour ab index m hmym fakmap = record { ab = ab; index = index; monthly = m; hmym = hmym; fakmap = fakmap }
 
 -- from a month file and the tables that were read
-unfoldable pub hourFrom : List ℕ → List ℕ → List Float → List Float → List Float → Inputs → SheetHour
-hourFrom file index cofion hmym fakmap i =
-    hour (virtimOf cofion index i.gmt) index (monthlyOf file i.month i.ssn) hmym fakmap
+unfoldable pub hour_from : List ℕ → List ℕ → List Float → List Float → List Float → Inputs → SheetHour
+hour_from file index cofion hmym fakmap i =
+    hour (virtim_of cofion index i.gmt) index (monthly_of file i.month i.ssn) hmym fakmap
 
-unfoldable pub hourOf : List ℕ → List ℕ → Inputs → SheetHour
-hourOf f2 file i =
-    hourFrom file (index_of file) (cofionOf f2 file i.ssn) (hmymOf file i.ssn) (fakmapOf file) i
+unfoldable pub hour_of : List ℕ → List ℕ → Inputs → SheetHour
+hour_of f2 file i =
+    hour_from file (index_of file) (cofion_of f2 file i.ssn) (hmym_of file i.ssn) (fakmap_of file) i
 
 -- ---- the figures
 
 -- '`gcd`, `gcd_km`, `btr`, `brt`, `rlatd`, `alatd`'
 unfoldable pub head_of : PathGeometry → List Float
-head_of g = g.gcd.0 ∷ g.gcd_km ∷ g.btr.0 ∷ g.brt.0 ∷ g.rlatd.0 ∷ (alatdOf g).0 ∷ []
+head_of g = g.gcd.0 ∷ g.gcd_km ∷ g.btr.0 ∷ g.brt.0 ∷ g.rlatd.0 ∷ (alatd_of g).0 ∷ []
 
 -- '`ControlPoint` (4), `MagneticVars` (3), `LayerParams` (16), `EsParams` (4), ground pair (2),
 -- fields in the Rust's order'
-unfoldable pub numbersOf : ControlPoint → MagneticVars → LayerParams → EsParams → Ground → List Float
-numbersOf pt mag l es ground =
+unfoldable pub numbers_of : ControlPoint → MagneticVars → LayerParams → EsParams → Ground → List Float
+numbers_of pt mag l es ground =
     pt.rd.0
     ∷ pt.lat.0
     ∷ pt.lon.0
@@ -88,45 +88,45 @@ numbersOf pt mag l es ground =
     ∷ []
 
 -- the 29 numbers of a point
-unfoldable pub pointRow : SheetHour → Inputs → ControlPoint → List Float
-pointRow h i pt =
-    let mag = magvarOf pt.lat pt.lon in
-    let g = gammasAt h.ab h.index pt.lat pt.lon mag in
-    numbersOf pt mag
-    (layersOf h.monthly i.ssn i.gmt i.psc h.hmym pt mag g)
-    (esindOf g i.psc.es)
-    (groundOf h.monthly h.fakmap pt.lat mag.east_lon)
+unfoldable pub point_row : SheetHour → Inputs → ControlPoint → List Float
+point_row h i pt =
+    let mag = magvar_of pt.lat pt.lon in
+    let g = gammas_at h.ab h.index pt.lat pt.lon mag in
+    numbers_of pt mag
+    (layers_of h.monthly i.ssn i.gmt i.psc h.hmym pt mag g)
+    (esind_of g i.psc.es)
+    (ground_of h.monthly h.fakmap pt.lat mag.east_lon)
 
 -- 'Rows of absent points are +0.0'
-unfoldable pub figureRow : SheetHour → Inputs → PathGeometry → ℕ → List Float
-figureRow h i g p = cond (nat_lt p g.count) (pointRow h i (slice_index_or g.points p nowhere)) (replicate 29 (decimal 0 1))
+unfoldable pub figure_row : SheetHour → Inputs → PathGeometry → ℕ → List Float
+figure_row h i g p = cond (nat_lt p g.count) (point_row h i (slice_index_or g.points p nowhere)) (replicate 29 (decimal 0 1))
 
 -- the six numbers and the first p rows
-unfoldable pub figuresTo : SheetHour → Inputs → PathGeometry → ℕ → List Float
-figuresTo h i g zero = head_of g
-figuresTo h i g (suc p) = figuresTo h i g p ++ figureRow h i g p
+unfoldable pub figures_to : SheetHour → Inputs → PathGeometry → ℕ → List Float
+figures_to h i g zero = head_of g
+figures_to h i g (suc p) = figures_to h i g p ++ figure_row h i g p
 
 -- the path of a sheet
-unfoldable pub sheetPath : Inputs → PathGeometry
-sheetPath i =
+unfoldable pub sheet_path : Inputs → PathGeometry
+sheet_path i =
     let p = i.route in
-    pathOf p.tlat p.tlong p.rlat p.rlong (isLong p.long_path) i.pole
+    path_of p.tlat p.tlong p.rlat p.rlong (is_long p.long_path) i.pole
 
 -- the 151 figures: '29 numbers for each of five points'
-unfoldable pub figuresOf : List ℕ → List ℕ → Inputs → List Float
-figuresOf f2 file i = figuresTo (hourOf f2 file i) i (sheetPath i) 5
+unfoldable pub figures_of : List ℕ → List ℕ → Inputs → List Float
+figures_of f2 file i = figures_to (hour_of f2 file i) i (sheet_path i) 5
 
 -- ---- what `figures` answers, and what the buffer holds afterwards
 
 -- 'the number of points', and request 11's 'five uses'
 abbrev pub points_of : ℕ → Shown
-points_of count = Points count (usesOf count)
+points_of count = Points count (uses_of count)
 
-abbrev pub pointsOr : Verdict → ℕ → Shown
-pointsOr v count = unlessRefused v (points_of count) NotShown
+abbrev pub points_or : Verdict → ℕ → Shown
+points_or v count = unless_refused v (points_of count) NotShown
 
-unfoldable pub shownOf : List ℕ → List ℕ → Inputs → Shown
-shownOf f2 file i = pointsOr (filesCheck f2 file) (sheetPath i).count
+unfoldable pub shown_of : List ℕ → List ℕ → Inputs → Shown
+shown_of f2 file i = points_or (files_check f2 file) (sheet_path i).count
 
-unfoldable pub figuresBuffer : List ℕ → List ℕ → Inputs → List Float → List Float
-figuresBuffer f2 file i out = writtenOver (filesCheck f2 file) (figuresOf f2 file i) out
+unfoldable pub figures_buffer : List ℕ → List ℕ → Inputs → List Float → List Float
+figures_buffer f2 file i out = written_over (files_check f2 file) (figures_of f2 file i) out

@@ -4,7 +4,7 @@ use Rattle.std.specs.Prelude.{ℕ, ◌*◌, Bool, cond, not, T, List, [], ◌∷
 use Rattle.std.specs.Float.{binary32}
 use Rattle.std.specs.Float.Ieee.{fits}
 use Rattle.base.specs.declared.angle.Degrees.{Degrees}
-use Rattle.base.specs.Single.{decimal, minusDecimal}
+use Rattle.base.specs.Single.{decimal, minus_decimal}
 use Rattle.base.specs.Words.{word_at}
 use Rattle.maps.specs.declared.inputs.Factors.{Factors}
 use Rattle.maps.specs.declared.inputs.Inputs.{Inputs}
@@ -12,55 +12,55 @@ use Rattle.maps.specs.declared.inputs.MagneticPole.{MagneticPole}
 use Rattle.maps.specs.declared.inputs.Route.{Route}
 
 -- the figures take any word: 0 is the short way; what is neither 0 nor 1 the worksheet refuses
-abbrev pub isLong : ℕ → Bool
-isLong flag = not (flag == 0)
+abbrev pub is_long : ℕ → Bool
+is_long flag = not (flag == 0)
 
 -- the built-in pole, degrees
-unfoldable pub poleLat : Float
-poleLat = decimal 785 1
+unfoldable pub pole_lat : Float
+pole_lat = decimal 785 1
 
-unfoldable pub poleLon : Float
-poleLon = minusDecimal 690 1
+unfoldable pub pole_lon : Float
+pole_lon = minus_decimal 690 1
 
 -- ---- words read: f k is the field k, counted from 0 in the documents' order
 
-abbrev pub floatFrom : (ℕ → ℕ) → ℕ → Float
-floatFrom f k = from_bits binary32 (f k)
+abbrev pub float_from : (ℕ → ℕ) → ℕ → Float
+float_from f k = from_bits binary32 (f k)
 
-abbrev pub degreesFrom : (ℕ → ℕ) → ℕ → Degrees
-degreesFrom f k = record { 0 = floatFrom f k }
+abbrev pub degrees_from : (ℕ → ℕ) → ℕ → Degrees
+degrees_from f k = record { 0 = float_from f k }
 
-unfoldable pub routeFrom : (ℕ → ℕ) → Route
-routeFrom f =
+unfoldable pub route_from : (ℕ → ℕ) → Route
+route_from f =
     record {
-      tlat = degreesFrom f 3;
-      tlong = degreesFrom f 4;
-      rlat = degreesFrom f 5;
-      rlong = degreesFrom f 6;
+      tlat = degrees_from f 3;
+      tlong = degrees_from f 4;
+      rlat = degrees_from f 5;
+      rlong = degrees_from f 6;
       long_path = f 7;
     }
 
-unfoldable pub factorsFrom : (ℕ → ℕ) → Factors
-factorsFrom f = record { e = floatFrom f 8; f1 = floatFrom f 9; f2 = floatFrom f 10; es = floatFrom f 11 }
+unfoldable pub factors_from : (ℕ → ℕ) → Factors
+factors_from f = record { e = float_from f 8; f1 = float_from f 9; f2 = float_from f 10; es = float_from f 11 }
 
-unfoldable pub poleFrom : (ℕ → ℕ) → MagneticPole
-poleFrom f = record { lat = degreesFrom f 12; lon = degreesFrom f 13 }
+unfoldable pub pole_from : (ℕ → ℕ) → MagneticPole
+pole_from f = record { lat = degrees_from f 12; lon = degrees_from f 13 }
 
-unfoldable pub inputsFrom : (ℕ → ℕ) → Inputs
-inputsFrom f =
+unfoldable pub inputs_from : (ℕ → ℕ) → Inputs
+inputs_from f =
     record {
       month = f 0;
-      ssn = floatFrom f 1;
-      gmt = floatFrom f 2;
-      route = routeFrom f;
-      psc = factorsFrom f;
-      pole = poleFrom f;
+      ssn = float_from f 1;
+      gmt = float_from f 2;
+      route = route_from f;
+      psc = factors_from f;
+      pole = pole_from f;
       model = f 14;
     }
 
 -- '`sheet` keeps its 14 words and two files, with model 0': field k of a sheet's bytes
-abbrev pub wordOfSheet : List ℕ → ℕ → ℕ
-wordOfSheet s k = cond (nat_lt k 14) (word_at s (4 * k)) 0
+abbrev pub word_of_sheet : List ℕ → ℕ → ℕ
+word_of_sheet s k = cond (nat_lt k 14) (word_at s (4 * k)) 0
 
 -- the 15 words one after the other
 unfoldable pub words_to : (ℕ → ℕ) → List ℕ
@@ -73,8 +73,8 @@ words_to f =
 abbrev pub bits_of : Float → ℕ
 bits_of x = to_bits binary32 x
 
-unfoldable pub fieldWords : Inputs → List ℕ
-fieldWords i =
+unfoldable pub field_words : Inputs → List ℕ
+field_words i =
     i.month
     ∷ bits_of i.ssn
     ∷ bits_of i.gmt

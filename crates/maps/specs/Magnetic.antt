@@ -4,10 +4,10 @@
 use Rattle.std.specs.Prelude.{ℕ, zero, suc, ◌+◌, ◌-◌, ◌*◌, cond, List, [], ◌∷◌, replicate, pos, ◌==◌, nat_le, slice_index_or, slice_set, Float}
 use Rattle.std.specs.Float.{nan, binary32}
 use Rattle.std.specs.Float.Ieee.{neg, lt, le, of_int}
-use Rattle.base.specs.Single.{◌⊕◌, ◌⊖◌, ◌⊗◌, ◌⊘◌, decimal, minusDecimal}
-use Rattle.base.specs.Number.{sqrtOf}
-use Rattle.base.specs.Elementary.{sin32Of, cos32Of, atan32Of}
-use Rattle.base.specs.Angle.{radiansOf}
+use Rattle.base.specs.Single.{◌⊕◌, ◌⊖◌, ◌⊗◌, ◌⊘◌, decimal, minus_decimal}
+use Rattle.base.specs.Number.{sqrt_of}
+use Rattle.base.specs.Elementary.{sin32_of, cos32_of, atan32_of}
+use Rattle.base.specs.Angle.{radians_of}
 use Rattle.base.specs.declared.angle.Radians.{Radians}
 use Rattle.maps.specs.Loop.{loop}
 use Rattle.maps.specs.declared.magnetic.Row.{Row}
@@ -52,13 +52,13 @@ unfoldable pub G : List (List Float)
 G =
     (o ∷ o ∷ o ∷ o ∷ o ∷ o ∷ o ∷ [])
     ∷ (decimal 304112 6 ∷ decimal 21474 6 ∷ o ∷ o ∷ o ∷ o ∷ o ∷ [])
-    ∷ (decimal 24035 6 ∷ minusDecimal 51253 6 ∷ minusDecimal 13381 6 ∷ o ∷ o ∷ o ∷ o ∷ [])
-    ∷ (minusDecimal 31518 6 ∷ decimal 62130 6 ∷ minusDecimal 24898 6 ∷ minusDecimal 6496 6 ∷ o ∷ o ∷ o ∷ [])
-    ∷ (minusDecimal 41794 6 ∷ minusDecimal 45298 6 ∷ minusDecimal 21795 6 ∷ decimal 7008 6 ∷
-    minusDecimal 2044 6 ∷ o ∷ o ∷ [])
-    ∷ (decimal 16256 6 ∷ minusDecimal 34407 6 ∷ minusDecimal 19447 6 ∷ minusDecimal 608 6 ∷
+    ∷ (decimal 24035 6 ∷ minus_decimal 51253 6 ∷ minus_decimal 13381 6 ∷ o ∷ o ∷ o ∷ o ∷ [])
+    ∷ (minus_decimal 31518 6 ∷ decimal 62130 6 ∷ minus_decimal 24898 6 ∷ minus_decimal 6496 6 ∷ o ∷ o ∷ o ∷ [])
+    ∷ (minus_decimal 41794 6 ∷ minus_decimal 45298 6 ∷ minus_decimal 21795 6 ∷ decimal 7008 6 ∷
+    minus_decimal 2044 6 ∷ o ∷ o ∷ [])
+    ∷ (decimal 16256 6 ∷ minus_decimal 34407 6 ∷ minus_decimal 19447 6 ∷ minus_decimal 608 6 ∷
     decimal 2775 6 ∷ decimal 697 6 ∷ o ∷ [])
-    ∷ (minusDecimal 19523 6 ∷ minusDecimal 4853 6 ∷ decimal 3212 6 ∷ decimal 21413 6 ∷
+    ∷ (minus_decimal 19523 6 ∷ minus_decimal 4853 6 ∷ decimal 3212 6 ∷ decimal 21413 6 ∷
     decimal 1051 6 ∷ decimal 227 6 ∷ decimal 1115 6 ∷ [])
     ∷ []
 
@@ -66,13 +66,13 @@ G =
 unfoldable pub H : List (List Float)
 H =
     (o ∷ o ∷ o ∷ o ∷ o ∷ o ∷ o ∷ [])
-    ∷ (o ∷ minusDecimal 57989 6 ∷ o ∷ o ∷ o ∷ o ∷ o ∷ [])
-    ∷ (o ∷ decimal 33124 6 ∷ minusDecimal 1579 6 ∷ o ∷ o ∷ o ∷ o ∷ [])
-    ∷ (o ∷ decimal 14870 6 ∷ minusDecimal 4075 6 ∷ decimal 21 5 ∷ o ∷ o ∷ o ∷ [])
-    ∷ (o ∷ minusDecimal 11825 6 ∷ decimal 10006 6 ∷ decimal 43 5 ∷ decimal 1385 6 ∷ o ∷ o ∷ [])
-    ∷ (o ∷ minusDecimal 796 6 ∷ minusDecimal 2 3 ∷ decimal 4597 6 ∷ decimal 2421 6 ∷ minusDecimal 1218 6 ∷ o ∷ [])
-    ∷ (o ∷ minusDecimal 5758 6 ∷ minusDecimal 8735 6 ∷ minusDecimal 3406 6 ∷
-    minusDecimal 118 6 ∷ minusDecimal 1116 6 ∷ minusDecimal 325 6 ∷ [])
+    ∷ (o ∷ minus_decimal 57989 6 ∷ o ∷ o ∷ o ∷ o ∷ o ∷ [])
+    ∷ (o ∷ decimal 33124 6 ∷ minus_decimal 1579 6 ∷ o ∷ o ∷ o ∷ o ∷ [])
+    ∷ (o ∷ decimal 14870 6 ∷ minus_decimal 4075 6 ∷ decimal 21 5 ∷ o ∷ o ∷ o ∷ [])
+    ∷ (o ∷ minus_decimal 11825 6 ∷ decimal 10006 6 ∷ decimal 43 5 ∷ decimal 1385 6 ∷ o ∷ o ∷ [])
+    ∷ (o ∷ minus_decimal 796 6 ∷ minus_decimal 2 3 ∷ decimal 4597 6 ∷ decimal 2421 6 ∷ minus_decimal 1218 6 ∷ o ∷ [])
+    ∷ (o ∷ minus_decimal 5758 6 ∷ minus_decimal 8735 6 ∷ minus_decimal 3406 6 ∷
+    minus_decimal 118 6 ∷ minus_decimal 1116 6 ∷ minus_decimal 325 6 ∷ [])
     ∷ []
 
 -- t[n][m] of a constant table
@@ -82,29 +82,29 @@ entry t n m = slice_index_or (slice_index_or t n []) m nan
 -- ---- the position
 
 -- p1 and p2, after `if p1 > RD { .. } else if p1 < -RD { .. }`
-unfoldable pub clampedPlace : Radians → Radians → Position
-clampedPlace lat eastLon =
+unfoldable pub clamped_place : Radians → Radians → Position
+clamped_place lat east_lon =
     cond (lt RD lat.0) (record { p1 = record { 0 = RD }; p2 = record { 0 = o } })
     (cond (lt lat.0 (neg RD)) (record { p1 = record { 0 = neg RD }; p2 = record { 0 = o } })
-    (record { p1 = lat; p2 = eastLon }))
+    (record { p1 = lat; p2 = east_lon }))
 
 -- sp[m] and cp[m], the sine and the cosine of m times phi, by the rule for the sum of two angles
 unfoldable mutual
-  pub spOf : Radians → ℕ → Float
-  spOf phi zero = o
-  spOf phi (suc zero) = sin32Of phi.0
-  spOf phi (suc (suc m)) = sin32Of phi.0 ⊗ cpOf phi (suc m) ⊕ cos32Of phi.0 ⊗ spOf phi (suc m)
+  pub sp_of : Radians → ℕ → Float
+  sp_of phi zero = o
+  sp_of phi (suc zero) = sin32_of phi.0
+  sp_of phi (suc (suc m)) = sin32_of phi.0 ⊗ cp_of phi (suc m) ⊕ cos32_of phi.0 ⊗ sp_of phi (suc m)
 
-  pub cpOf : Radians → ℕ → Float
-  cpOf phi zero = decimal 10 1
-  cpOf phi (suc zero) = cos32Of phi.0
-  cpOf phi (suc (suc m)) = cos32Of phi.0 ⊗ cpOf phi (suc m) ⊖ sin32Of phi.0 ⊗ spOf phi (suc m)
+  pub cp_of : Radians → ℕ → Float
+  cp_of phi zero = decimal 10 1
+  cp_of phi (suc zero) = cos32_of phi.0
+  cp_of phi (suc (suc m)) = cos32_of phi.0 ⊗ cp_of phi (suc m) ⊖ sin32_of phi.0 ⊗ sp_of phi (suc m)
 
 -- aor[n], the power n + 2 of the ratio ar
-unfoldable pub aorOf : Float → ℕ → Float
-aorOf ar zero = ar ⊗ ar
-aorOf ar (suc zero) = aorOf ar zero ⊗ ar
-aorOf ar (suc (suc n)) = ar ⊗ aorOf ar (suc n)
+unfoldable pub aor_of : Float → ℕ → Float
+aor_of ar zero = ar ⊗ ar
+aor_of ar (suc zero) = aor_of ar zero ⊗ ar
+aor_of ar (suc (suc n)) = ar ⊗ aor_of ar (suc n)
 
 -- ---- Legendre's functions, as Gauss normalised them
 
@@ -112,86 +112,86 @@ aorOf ar (suc (suc n)) = ar ⊗ aorOf ar (suc n)
 -- colatitude
 module _ (c s : Float) where
   -- p[n][m]; 0 for m above n, where the Rust reads what it has never written
-  unfoldable pub pOf : ℕ → ℕ → Float
-  pOf zero m = cond (m == 0) (decimal 10 1) o
-  pOf (suc zero) m = cond (m == 0) c (cond (m == 1) (s ⊗ pOf zero zero) o)
-  pOf (suc (suc n)) m =
-      cond (nat_le m (suc n)) (c ⊗ pOf (suc n) m ⊖ entry CT (suc (suc n)) m ⊗ pOf n m)
-      (cond (m == suc (suc n)) (s ⊗ pOf (suc n) (suc n)) o)
+  unfoldable pub p_of : ℕ → ℕ → Float
+  p_of zero m = cond (m == 0) (decimal 10 1) o
+  p_of (suc zero) m = cond (m == 0) c (cond (m == 1) (s ⊗ p_of zero zero) o)
+  p_of (suc (suc n)) m =
+      cond (nat_le m (suc n)) (c ⊗ p_of (suc n) m ⊖ entry CT (suc (suc n)) m ⊗ p_of n m)
+      (cond (m == suc (suc n)) (s ⊗ p_of (suc n) (suc n)) o)
 
   -- dp[n][m], its derivative by the colatitude; 0 for m above n too
-  unfoldable pub dpOf : ℕ → ℕ → Float
-  dpOf zero m = o
-  dpOf (suc zero) m = cond (m == 0) (neg s) (cond (m == 1) (s ⊗ dpOf zero zero ⊕ c ⊗ pOf zero zero) o)
-  dpOf (suc (suc n)) m =
+  unfoldable pub dp_of : ℕ → ℕ → Float
+  dp_of zero m = o
+  dp_of (suc zero) m = cond (m == 0) (neg s) (cond (m == 1) (s ⊗ dp_of zero zero ⊕ c ⊗ p_of zero zero) o)
+  dp_of (suc (suc n)) m =
       cond (nat_le m (suc n))
-      (c ⊗ dpOf (suc n) m ⊖ s ⊗ pOf (suc n) m ⊖ entry CT (suc (suc n)) m ⊗ dpOf n m)
-      (cond (m == suc (suc n)) (s ⊗ dpOf (suc n) (suc n) ⊕ c ⊗ pOf (suc n) (suc n)) o)
+      (c ⊗ dp_of (suc n) m ⊖ s ⊗ p_of (suc n) m ⊖ entry CT (suc (suc n)) m ⊗ dp_of n m)
+      (cond (m == suc (suc n)) (s ⊗ dp_of (suc n) (suc n) ⊕ c ⊗ p_of (suc n) (suc n)) o)
 
 -- ---- the series
 
 -- ts of the degree n and the order m
-unfoldable pub tsOf : Radians → ℕ → ℕ → Float
-tsOf phi n m = entry G n m ⊗ cpOf phi m ⊕ entry H n m ⊗ spOf phi m
+unfoldable pub ts_of : Radians → ℕ → ℕ → Float
+ts_of phi n m = entry G n m ⊗ cp_of phi m ⊕ entry H n m ⊗ sp_of phi m
 
 module _ (c s : Float) (phi : Radians) where
   -- sumr, sumt and sump of the degree n: for m in 0..=n, from 0.0
-  unfoldable pub sumrOf : ℕ → Float
-  sumrOf n = loop 0 (n + 1) (λ m sumr. sumr ⊕ pOf c s n m ⊗ tsOf phi n m) o
+  unfoldable pub sumr_of : ℕ → Float
+  sumr_of n = loop 0 (n + 1) (λ m sumr. sumr ⊕ p_of c s n m ⊗ ts_of phi n m) o
 
-  unfoldable pub sumtOf : ℕ → Float
-  sumtOf n = loop 0 (n + 1) (λ m sumt. sumt ⊕ dpOf c s n m ⊗ tsOf phi n m) o
+  unfoldable pub sumt_of : ℕ → Float
+  sumt_of n = loop 0 (n + 1) (λ m sumt. sumt ⊕ dp_of c s n m ⊗ ts_of phi n m) o
 
-  unfoldable pub sumpOf : ℕ → Float
-  sumpOf n =
+  unfoldable pub sump_of : ℕ → Float
+  sump_of n =
       loop 0 (n + 1)
       (λ m sump.
-      sump ⊕ of_int binary32 (pos m) ⊗ pOf c s n m ⊗ (neg (entry G n m) ⊗ spOf phi m ⊕ entry H n m ⊗ cpOf phi m))
+      sump ⊕ of_int binary32 (pos m) ⊗ p_of c s n m ⊗ (neg (entry G n m) ⊗ sp_of phi m ⊕ entry H n m ⊗ cp_of phi m))
       o
 
   -- bv, bn and bphi: for n in 1..7, from 0.0
-  unfoldable pub bvOf : Float → Float
-  bvOf ar = loop 1 7 (λ n bv. bv ⊕ aorOf ar n ⊗ of_int binary32 (pos (n + 1)) ⊗ sumrOf n) o
+  unfoldable pub bv_of : Float → Float
+  bv_of ar = loop 1 7 (λ n bv. bv ⊕ aor_of ar n ⊗ of_int binary32 (pos (n + 1)) ⊗ sumr_of n) o
 
-  unfoldable pub bnOf : Float → Float
-  bnOf ar = loop 1 7 (λ n bn. bn ⊖ aorOf ar n ⊗ sumtOf n) o
+  unfoldable pub bn_of : Float → Float
+  bn_of ar = loop 1 7 (λ n bn. bn ⊖ aor_of ar n ⊗ sumt_of n) o
 
-  unfoldable pub bphiOf : Float → Float
-  bphiOf ar = loop 1 7 (λ n bphi. bphi ⊖ aorOf ar n ⊗ sumpOf n) o
+  unfoldable pub bphi_of : Float → Float
+  bphi_of ar = loop 1 7 (λ n bphi. bphi ⊖ aor_of ar n ⊗ sump_of n) o
 
 -- ---- the field, the gyrofrequency and the dip angle
 
 -- [-bv, bn, -bphi / s], where c is p1.sin(), s is (1.0 - c * c).sqrt(), and ar the ratio of the
 -- radii
-unfoldable pub magfinOf : Radians → Radians → Float → Une
-magfinOf lat eastLon heightM =
-    let q = clampedPlace lat eastLon in
-    let ar = HC ⊘ (HC ⊕ heightM) in
-    let c = sin32Of q.p1.0 in
-    let s = sqrtOf binary32 (decimal 10 1 ⊖ c ⊗ c) in
-    record { up = neg (bvOf c s q.p2 ar); north = bnOf c s q.p2 ar; east = neg (bphiOf c s q.p2 ar) ⊘ s }
+unfoldable pub magfin_of : Radians → Radians → Float → Une
+magfin_of lat east_lon height_m =
+    let q = clamped_place lat east_lon in
+    let ar = HC ⊘ (HC ⊕ height_m) in
+    let c = sin32_of q.p1.0 in
+    let s = sqrt_of binary32 (decimal 10 1 ⊖ c ⊗ c) in
+    record { up = neg (bv_of c s q.p2 ar); north = bn_of c s q.p2 ar; east = neg (bphi_of c s q.p2 ar) ⊘ s }
 
 -- if lon < 0.0 { c360 + lon } else { lon }, where c360 is 360.0 * D2R
-unfoldable pub eastOf : Radians → Radians
-eastOf lon =
-    let c360 = radiansOf (record { 0 = decimal 3600 1 }) in
+unfoldable pub east_of : Radians → Radians
+east_of lon =
+    let c360 = radians_of (record { 0 = decimal 3600 1 }) in
     cond (lt lon.0 o) (record { 0 = c360.0 ⊕ lon.0 }) lon
 
 -- lat.cos(), and 0.000001 if it is no more than that
-unfoldable pub gobOf : Radians → Float
-gobOf lat = let gob = cos32Of lat.0 in cond (le gob (decimal 1 6)) (decimal 1 6) gob
+unfoldable pub gob_of : Radians → Float
+gob_of lat = let gob = cos32_of lat.0 in cond (le gob (decimal 1 6)) (decimal 1 6) gob
 
 -- gyz, gmdip and east_lon. gmdip is Rawer's modified dip mu: tan(mu) = I / sqrt(cos lat), where I
 -- is the dip.
-unfoldable pub magvarOf : Radians → Radians → MagneticVars
-magvarOf lat lon =
-    let eastLon = eastOf lon in
-    let une = magfinOf lat eastLon (decimal 3000000 1) in
-    let hhm = sqrtOf binary32 (une.up ⊗ une.up ⊕ une.north ⊗ une.north ⊕ une.east ⊗ une.east) in
+unfoldable pub magvar_of : Radians → Radians → MagneticVars
+magvar_of lat lon =
+    let east_lon = east_of lon in
+    let une = magfin_of lat east_lon (decimal 3000000 1) in
+    let hhm = sqrt_of binary32 (une.up ⊗ une.up ⊕ une.north ⊗ une.north ⊕ une.east ⊗ une.east) in
     let tmp = une.north ⊗ une.north ⊕ une.east ⊗ une.east in
-    let dip = atan32Of (neg une.up ⊘ sqrtOf binary32 tmp) in
-    let gmdip = atan32Of (dip ⊘ sqrtOf binary32 (gobOf lat)) in
-    record { gyz = decimal 28 1 ⊗ hhm; gmdip = record { 0 = gmdip }; east_lon = eastLon }
+    let dip = atan32_of (neg une.up ⊘ sqrt_of binary32 tmp) in
+    let gmdip = atan32_of (dip ⊘ sqrt_of binary32 (gob_of lat)) in
+    record { gyz = decimal 28 1 ⊗ hhm; gmdip = record { 0 = gmdip }; east_lon = east_lon }
 
 -- ---- the arrays on the way: nothing below need be believed
 
@@ -199,8 +199,8 @@ magvarOf lat lon =
 -- proofs/FieldSums.antt. A table of 7 by 7 numbers that changes stands as one list, row after row.
 
 -- CT[n], G[n] and H[n]
-unfoldable pub tableRow : ℕ → Row
-tableRow n = record { ct = slice_index_or CT n []; g = slice_index_or G n []; h = slice_index_or H n [] }
+unfoldable pub table_row : ℕ → Row
+table_row n = record { ct = slice_index_or CT n []; g = slice_index_or G n []; h = slice_index_or H n [] }
 
 -- a[m]
 abbrev pub at : List Float → ℕ → Float
@@ -211,48 +211,48 @@ abbrev pub at7 : List Float → ℕ → ℕ → Float
 at7 t n m = slice_index_or t (n * 7 + m) nan
 
 -- the stores to sp[m] and cp[m]
-unfoldable pub multipleOf : ℕ → Multiples → Multiples
-multipleOf m v =
+unfoldable pub multiple_of : ℕ → Multiples → Multiples
+multiple_of m v =
     record {
       sp = slice_set v.sp m (at v.sp 1 ⊗ at v.cp (m - 1) ⊕ at v.cp 1 ⊗ at v.sp (m - 1));
       cp = slice_set v.cp m (at v.cp 1 ⊗ at v.cp (m - 1) ⊖ at v.sp 1 ⊗ at v.sp (m - 1));
     }
 
 -- sp and cp
-unfoldable pub multiplesOf : Radians → Multiples
-multiplesOf phi =
-    loop 2 7 multipleOf
+unfoldable pub multiples_of : Radians → Multiples
+multiples_of phi =
+    loop 2 7 multiple_of
     (record {
-      sp = o ∷ sin32Of phi.0 ∷ o ∷ o ∷ o ∷ o ∷ o ∷ [];
-      cp = decimal 10 1 ∷ cos32Of phi.0 ∷ o ∷ o ∷ o ∷ o ∷ o ∷ [];
+      sp = o ∷ sin32_of phi.0 ∷ o ∷ o ∷ o ∷ o ∷ o ∷ [];
+      cp = decimal 10 1 ∷ cos32_of phi.0 ∷ o ∷ o ∷ o ∷ o ∷ o ∷ [];
     })
 
 -- the store to aor[m]
-unfoldable pub aorStep : Float → ℕ → List Float → List Float
-aorStep ar m aor = slice_set aor m (ar ⊗ at aor (m - 1))
+unfoldable pub aor_step : Float → ℕ → List Float → List Float
+aor_step ar m aor = slice_set aor m (ar ⊗ at aor (m - 1))
 
 -- aor: aor[0] is ar * ar, and aor[1] is aor[0] * ar
-unfoldable pub powersOf : Float → List Float
-powersOf ar = loop 2 7 (aorStep ar) (ar ⊗ ar ∷ ar ⊗ ar ⊗ ar ∷ o ∷ o ∷ o ∷ o ∷ o ∷ [])
+unfoldable pub powers_of : Float → List Float
+powers_of ar = loop 2 7 (aor_step ar) (ar ⊗ ar ∷ ar ⊗ ar ⊗ ar ∷ o ∷ o ∷ o ∷ o ∷ o ∷ [])
 
 -- what stands before the loop over n: c is p1.sin(), and s is (1.0 - c * c).sqrt()
 unfoldable pub placed_of : Radians → Radians → Float → Place
-placed_of lat eastLon heightM =
-    let q = clampedPlace lat eastLon in
-    let ar = HC ⊘ (HC ⊕ heightM) in
-    let c = sin32Of q.p1.0 in
-    let v = multiplesOf q.p2 in
+placed_of lat east_lon height_m =
+    let q = clamped_place lat east_lon in
+    let ar = HC ⊘ (HC ⊕ height_m) in
+    let c = sin32_of q.p1.0 in
+    let v = multiples_of q.p2 in
     record {
       c = c;
-      s = sqrtOf binary32 (decimal 10 1 ⊖ c ⊗ c);
+      s = sqrt_of binary32 (decimal 10 1 ⊖ c ⊗ c);
       sp = v.sp;
       cp = v.cp;
-      aor = powersOf ar;
+      aor = powers_of ar;
     }
 
 -- p[n][m] and dp[n][m], where ct is CT[n][m]
-unfoldable pub elementOf : Float → Float → Float → ℕ → ℕ → List Float → List Float → Element
-elementOf c s ct n m p dp =
+unfoldable pub element_of : Float → Float → Float → ℕ → ℕ → List Float → List Float → Element
+element_of c s ct n m p dp =
     cond (n == m)
     (record {
       p = s ⊗ at7 p (n - 1) (n - 1);
@@ -276,7 +276,7 @@ state p dp v = record { p = p; dp = dp; sums = v }
 -- the body of the loop over m
 unfoldable pub order_of : Place → ℕ → ℕ → State Sums → State Sums
 order_of x n m w =
-    let e = elementOf x.c x.s (entry CT n m) n m w.p w.dp in
+    let e = element_of x.c x.s (entry CT n m) n m w.p w.dp in
     let fm = of_int binary32 (pos m) in
     let ts = entry G n m ⊗ at x.cp m ⊕ entry H n m ⊗ at x.sp m in
     state (slice_set w.p (n * 7 + m) e.p) (slice_set w.dp (n * 7 + m) e.dp)
@@ -287,14 +287,14 @@ order_of x n m w =
     })
 
 -- for m in 0..=n
-unfoldable pub ordersOf : Place → ℕ → List Float → List Float → State Sums
-ordersOf x n p dp = loop 0 (n + 1) (order_of x n) (state p dp (record { sumr = o; sumt = o; sump = o }))
+unfoldable pub orders_of : Place → ℕ → List Float → List Float → State Sums
+orders_of x n p dp = loop 0 (n + 1) (order_of x n) (state p dp (record { sumr = o; sumt = o; sump = o }))
 
 -- the body of the loop over n
-unfoldable pub degreeOf : Place → ℕ → State Field → State Field
-degreeOf x n w =
+unfoldable pub degree_of : Place → ℕ → State Field → State Field
+degree_of x n w =
     let fn = of_int binary32 (pos (n + 1)) in
-    let v = ordersOf x n w.p w.dp in
+    let v = orders_of x n w.p w.dp in
     state v.p v.dp
     (record {
       bv = w.sums.bv ⊕ at x.aor n ⊗ fn ⊗ v.sums.sumr;
@@ -303,8 +303,8 @@ degreeOf x n w =
     })
 
 -- for n in 1..7: bv, bn and bphi, from p[0][0] = 1.0 and zeros
-unfoldable pub expansionOf : Place → Field
-expansionOf x =
-    (loop 1 7 (degreeOf x)
+unfoldable pub expansion_of : Place → Field
+expansion_of x =
+    (loop 1 7 (degree_of x)
     (state (slice_set (replicate 49 o) 0 (decimal 10 1)) (replicate 49 o) (record { bv = o; bn = o; bphi = o }))
     ).sums

@@ -4,7 +4,7 @@ ghost use Rattle.std.specs.Float.{nan};
 ghost use Rattle.base.specs.Fill.{fill};
 ghost use Rattle.base.specs.Finite.{FiniteMonth};
 ghost use Rattle.maps.specs.Virtim.{GoodTable};
-ghost use Rattle.maps.specs.Figures.{hour, hourFrom, head_of, numbersOf, figureRow, figuresTo, sheetPath, shownOf, figuresBuffer};
+ghost use Rattle.maps.specs.Figures.{hour, hour_from, head_of, numbers_of, figure_row, figures_to, sheet_path, shown_of, figures_buffer};
 
 use crate::geometry::{ControlPoint, POINTS, PathGeometry, Uses, uses_of};
 use crate::inputs::Inputs;
@@ -55,7 +55,7 @@ fn numbers(
     es: EsParams,
     ground: Ground,
 ) -> [f32; ROW]
-    ensures { result ≡ numbersOf pt mag l es ground }
+    ensures { result ≡ numbers_of pt mag l es ground }
 {
     let rd = pt.rd;
     let lat = pt.lat;
@@ -85,7 +85,7 @@ fn row(
 ) -> [f32; ROW]
     requires { GoodTable index.now × (p < 5) }
     ensures { let h = hour ab.now index.now m hmym.now fakmap.now in
-        result ≡ figureRow h i g p }
+        result ≡ figure_row h i g p }
 {
     if g.count <= p as u32 {
         return [0.0f32; ROW];
@@ -129,7 +129,7 @@ fn put_figures(
 )
     requires { GoodTable index.now × (length out.old ≡ 151) }
     ensures { let h = hour ab.now index.now m hmym.now fakmap.now in
-        out.new ≡ figuresTo h i g 5 }
+        out.new ≡ figures_to h i g 5 }
 {
     let six = head(g);
     put(out, 0, &six);
@@ -143,7 +143,7 @@ fn put_figures(
 
 // The path of a sheet.
 fn path(i: Inputs) -> PathGeometry
-    ensures { result ≡ sheetPath i }
+    ensures { result ≡ sheet_path i }
 {
     let route = i.route;
     geometry::path_geometry(
@@ -167,10 +167,10 @@ fn fill_in(
     out: &mut [f32],
 ) -> u32
     requires { FiniteMonth file.now × GoodTable index.now × (length out.old ≡ 151) }
-    ensures answer { result ≡ (sheetPath i).count }
+    ensures answer { result ≡ (sheet_path i).count }
     ensures buffer { let m = file.now in
-        let h = hourFrom m index.now cofion.now hmym.now fakmap.now i in
-        out.new ≡ figuresTo h i (sheetPath i) 5 }
+        let h = hour_from m index.now cofion.now hmym.now fakmap.now i in
+        out.new ≡ figures_to h i (sheet_path i) 5 }
 {
     let ab = virtim::virtim(cofion, index, i.gmt);
     let m = layers::monthly_of(file, i.month, i.ssn);
@@ -183,8 +183,8 @@ fn fill_in(
 // buffer; no field is judged. Where the files are refused (8, 9, 10, 23, 11) the buffer stays as it
 // is.
 pub fn figures(i: Inputs, f2: &[u8], file: &[u8], out: &mut [f32; FIGURES]) -> Shown
-    ensures answer { result ≡ shownOf f2.now file.now i }
-    ensures buffer { out.new ≡ figuresBuffer f2.now file.now i out.old }
+    ensures answer { result ≡ shown_of f2.now file.now i }
+    ensures buffer { out.new ≡ figures_buffer f2.now file.now i out.old }
 {
     let mut index = [0u32; INDEX];
     let mut cofion = [0.0f32; COFION];

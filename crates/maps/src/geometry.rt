@@ -4,7 +4,7 @@
 ghost use Rattle.std.specs.Prelude.{◌≡◌, ◌^◌, if◌then◌else◌};
 ghost use Rattle.std.specs.Float.Ieee.{le};
 ghost use Rattle.base.specs.Single.{decimal};
-ghost use Rattle.maps.specs.Geometry.{sign_of, clampedCosine, acosClamped, latitudeOf, turnedOf, foldedOf, otherWay, polar, close, nudgeOf, nudgedOf, place_of, endLongitude, end_of, cosBetween, dlongOf, atLeastMinimum, gcdOf, fromNorth, circleOf, count_of, usesOf, useAt, distancesOf, downMeridian, circleLongitude, onCircle, sampleOf, polePlace, gmlatOf, point_of, controlPointIf, rows_of, pathOf, geomagneticOf, meanLatitude, alatdOf, btrDeg, brtDeg};
+ghost use Rattle.maps.specs.Geometry.{sign_of, clamped_cosine, acos_clamped, latitude_of, turned_of, folded_of, other_way, polar, close, nudge_of, nudged_of, place_of, end_longitude, end_of, cos_between, dlong_of, at_least_minimum, gcd_of, from_north, circle_of, count_of, uses_of, use_at, distances_of, down_meridian, circle_longitude, on_circle, sample_of, pole_place, gmlat_of, point_of, control_point_if, rows_of, path_of, geomagnetic_of, mean_latitude, alatd_of, btr_deg, brt_deg};
 
 use crate::inputs::MagneticPole;
 use base::angle::{Degrees, Radians};
@@ -118,42 +118,42 @@ pub fn sign(a: f32, b: f32) -> f32
 
 // q, but no more than 1 in size.
 fn clamped(q: f32) -> f32
-    ensures { result ≡ clampedCosine q }
+    ensures { result ≡ clamped_cosine q }
 {
     if abs32(q) > 1.0 { sign(1.0, q) } else { q }
 }
 
 // The arc cosine of q; what rounding took beyond 1 counts as 1.
 fn acos_clamped(q: f32) -> f32
-    ensures { result ≡ acosClamped q }
+    ensures { result ≡ acos_clamped q }
 {
     acos32(clamped(q))
 }
 
 // The latitude whose sine is q.
 fn latitude(q: f32) -> f32
-    ensures { result ≡ latitudeOf q }
+    ensures { result ≡ latitude_of q }
 {
     PIO2 - acos_clamped(q)
 }
 
 // x a whole turn nearer to zero.
 fn turned(x: f32) -> f32
-    ensures { result ≡ turnedOf x }
+    ensures { result ≡ turned_of x }
 {
     x - sign(PI2, x)
 }
 
 // x within half a turn.
 fn folded(x: f32) -> f32
-    ensures { result ≡ foldedOf x }
+    ensures { result ≡ folded_of x }
 {
     if abs32(x) > PI { turned(x) } else { x }
 }
 
 // The rest of the whole turn, where it is the other way round.
 fn other_way(other: bool, x: f32) -> f32
-    ensures { result ≡ otherWay other x }
+    ensures { result ≡ other_way other x }
 {
     if other { PI2 - x } else { x }
 }
@@ -172,14 +172,14 @@ fn is_close(a: Degrees, b: Degrees) -> bool
 }
 
 fn nudge(rlat: Degrees) -> f32
-    ensures { result ≡ nudgeOf rlat }
+    ensures { result ≡ nudge_of rlat }
 {
     if rlat.0 < 0.0 { -DDX } else { DDX }
 }
 
 // The receiver's latitude, 0.03 degrees off where the ends coincide.
 fn nudged(tlat: Degrees, tlong: Degrees, rlat: Degrees, rlong: Degrees) -> Degrees
-    ensures { result ≡ nudgedOf tlat tlong rlat rlong }
+    ensures { result ≡ nudged_of tlat tlong rlat rlong }
 {
     if is_close(tlat, rlat) {
         if is_close(tlong, rlong) {
@@ -202,7 +202,7 @@ fn place_at(lat: f32, lon: f32) -> Place
 
 // Beyond 89.9 degrees every longitude counts as 0.
 fn end_longitude(lat: Degrees, lon: Degrees) -> f32
-    ensures { result ≡ endLongitude lat lon }
+    ensures { result ≡ end_longitude lat lon }
 {
     if abs32(lat.0) > 89.9 {
         0.0
@@ -219,13 +219,13 @@ fn end(lat: Degrees, lon: Degrees) -> Place
 
 // The cosine of the great circle between two places.
 fn cos_between(a: Place, b: Place, dlong: f32) -> f32
-    ensures { result ≡ cosBetween a b dlong }
+    ensures { result ≡ cos_between a b dlong }
 {
     a.sin * b.sin + a.cos * b.cos * cos32(dlong)
 }
 
 fn longitude_between(tlong: f32, rlong: f32, long_path: bool) -> f32
-    ensures { result ≡ dlongOf tlong rlong long_path }
+    ensures { result ≡ dlong_of tlong rlong long_path }
 {
     let dlong = folded(tlong - rlong);
     if long_path { turned(dlong) } else { dlong }
@@ -233,14 +233,14 @@ fn longitude_between(tlong: f32, rlong: f32, long_path: bool) -> f32
 
 // Ends on one another count as 0.000001 apart, which is 6.37 metres.
 fn at_least_minimum(gcd: f32) -> f32
-    ensures { result ≡ atLeastMinimum gcd }
+    ensures { result ≡ at_least_minimum gcd }
 {
     if gcd < 0.000001 { 0.000001 } else { gcd }
 }
 
 // The great-circle distance.
 fn distance(tx: Place, rx: Place, dlong: f32, long_path: bool) -> f32
-    ensures { result ≡ gcdOf tx rx dlong long_path }
+    ensures { result ≡ gcd_of tx rx dlong long_path }
 {
     let gcd = acos_clamped(cos_between(tx, rx, dlong));
     other_way(long_path, at_least_minimum(gcd))
@@ -248,7 +248,7 @@ fn distance(tx: Place, rx: Place, dlong: f32, long_path: bool) -> f32
 
 // A bearing as an angle from north; from a pole every way is north or south.
 fn from_north(from: Place, to: Place, gcd_sin: f32, gcd_cos: f32) -> f32
-    ensures { result ≡ fromNorth from to gcd_sin gcd_cos }
+    ensures { result ≡ from_north from to gcd_sin gcd_cos }
 {
     if is_polar(from.cos) {
         if from.lat <= 0.0 { 0.0 } else { PI }
@@ -259,7 +259,7 @@ fn from_north(from: Place, to: Place, gcd_sin: f32, gcd_cos: f32) -> f32
 
 // The great circle by both ends.
 fn circle_by(tx: Place, rx: Place, long_path: bool) -> Circle
-    ensures { result ≡ circleOf tx rx long_path }
+    ensures { result ≡ circle_of tx rx long_path }
 {
     let dlong = longitude_between(tx.lon, rx.lon, long_path);
     let gcd = distance(tx, rx, dlong, long_path);
@@ -290,7 +290,7 @@ fn point_count(gcd_km: f32) -> u32
 // What the points of a path with so many are used for. A path has 1, 3 or 5; of any other number none
 // is used.
 pub fn uses_of(count: u32) -> Uses
-    ensures { result ≡ usesOf count }
+    ensures { result ≡ uses_of count }
 {
     if count == 1 {
         Uses {
@@ -329,7 +329,7 @@ pub fn uses_of(count: u32) -> Uses
 
 // What the point of number p, from 0 on, is used for.
 pub fn use_at(uses: Uses, p: usize) -> Use
-    ensures { result ≡ useAt uses p }
+    ensures { result ≡ use_at uses p }
 {
     if p == 0 {
         uses.p1
@@ -348,7 +348,7 @@ pub fn use_at(uses: Uses, p: usize) -> Use
 
 // The distances, nearest first.
 fn distances(gcd: f32, count: u32) -> [f32; POINTS]
-    ensures { result ≡ distancesOf gcd count }
+    ensures { result ≡ distances_of gcd count }
 {
     let r1 = 1000.0 / RZ;
     let r2 = r1 + r1;
@@ -364,7 +364,7 @@ fn distances(gcd: f32, count: u32) -> [f32; POINTS]
 
 // Down the meridian of a transmitter near a pole.
 fn down_meridian(tlat: f32, drf: f32) -> f32
-    ensures { result ≡ downMeridian tlat drf }
+    ensures { result ≡ down_meridian tlat drf }
 {
     let rflt = tlat - sign(drf, tlat);
     if abs32(rflt) > PIO2 {
@@ -376,7 +376,7 @@ fn down_meridian(tlat: f32, drf: f32) -> f32
 
 // The longitude of a sample area on the circle, from the sine and the cosine of its latitude.
 fn circle_longitude(track: Track, drf: f32, drf_cos: f32, sin: f32, cos: f32) -> f32
-    ensures { result ≡ circleLongitude track drf drf_cos sin cos }
+    ensures { result ≡ circle_longitude track drf drf_cos sin cos }
 {
     let tx = track.tx;
     if is_polar(cos) {
@@ -389,7 +389,7 @@ fn circle_longitude(track: Track, drf: f32, drf_cos: f32, sin: f32, cos: f32) ->
 }
 
 fn on_circle(track: Track, drf: f32) -> Place
-    ensures { result ≡ onCircle track drf }
+    ensures { result ≡ on_circle track drf }
 {
     let tx = track.tx;
     let drf_cos = cos32(drf);
@@ -407,7 +407,7 @@ fn on_circle(track: Track, drf: f32) -> Place
 
 // Where the sample area at the distance drf lies.
 fn sample(track: Track, drf: f32) -> Place
-    ensures { result ≡ sampleOf track drf }
+    ensures { result ≡ sample_of track drf }
 {
     let tx = track.tx;
     if tx.cos - EPSLON < 0.0 {
@@ -418,7 +418,7 @@ fn sample(track: Track, drf: f32) -> Place
 }
 
 fn pole_place(pole: MagneticPole) -> Place
-    ensures { result ≡ polePlace pole }
+    ensures { result ≡ pole_place pole }
 {
     let lat = pole.lat;
     let lon = pole.lon;
@@ -427,7 +427,7 @@ fn pole_place(pole: MagneticPole) -> Place
 
 // The geomagnetic latitude of a place against a pole.
 fn gmlat(pole: Place, at: Place) -> f32
-    ensures { result ≡ gmlatOf pole at }
+    ensures { result ≡ gmlat_of pole at }
 {
     latitude(cos_between(pole, at, at.lon - pole.lon))
 }
@@ -447,7 +447,7 @@ fn control_point(track: Track, pole: Place, drf: f32, used_for: Use) -> ControlP
 
 // A control point, or +0.0 in every number where it is absent.
 fn row(track: Track, pole: Place, drf: f32, present: bool, used_for: Use) -> ControlPoint
-    ensures { result ≡ controlPointIf track pole drf present used_for }
+    ensures { result ≡ control_point_if track pole drf present used_for }
 {
     if present {
         control_point(track, pole, drf, used_for)
@@ -485,7 +485,7 @@ pub fn path_geometry(
     long_path: bool,
     pole: MagneticPole,
 ) -> PathGeometry
-    ensures { result ≡ pathOf tlat tlong rlat rlong long_path pole }
+    ensures { result ≡ path_of tlat tlong rlat rlong long_path pole }
 {
     let rlatd = nudged(tlat, tlong, rlat, rlong);
     let tx = end(tlat, tlong);
@@ -513,14 +513,14 @@ pub fn path_geometry(
 
 // The latitude against the magnetic pole, in radians, of a place in radians.
 pub fn geomagnetic_latitude(pole: MagneticPole, lat: Radians, lon: Radians) -> Radians
-    ensures { result ≡ geomagneticOf pole lat lon }
+    ensures { result ≡ geomagnetic_of pole lat lon }
 {
     Radians(gmlat(pole_place(pole), place_at(lat.0, lon.0)))
 }
 
 // The latitude of one point, or the mean of the first three where there are more, without its sign.
 fn mean_latitude(count: u32, lat1: f32, lat2: f32, lat3: f32) -> f32
-    ensures { result ≡ meanLatitude count lat1 lat2 lat3 }
+    ensures { result ≡ mean_latitude count lat1 lat2 lat3 }
 {
     if count == 1 {
         abs32(lat1)
@@ -532,7 +532,7 @@ fn mean_latitude(count: u32, lat1: f32, lat2: f32, lat3: f32) -> f32
 // The path's latitude in degrees, without its sign: of its one point, or the mean of the first
 // three, with five points too.
 pub fn alatd(g: PathGeometry) -> Degrees
-    ensures { result ≡ alatdOf g }
+    ensures { result ≡ alatd_of g }
 {
     let points = g.points;
     let p1 = points[0];
@@ -546,7 +546,7 @@ pub fn alatd(g: PathGeometry) -> Degrees
 
 // The bearing from transmitter to receiver in degrees.
 pub fn btr_deg(g: PathGeometry) -> Degrees
-    ensures { result ≡ btrDeg g }
+    ensures { result ≡ btr_deg g }
 {
     let btr = g.btr;
     btr.to_degrees()
@@ -554,7 +554,7 @@ pub fn btr_deg(g: PathGeometry) -> Degrees
 
 // The bearing from receiver to transmitter in degrees.
 pub fn brt_deg(g: PathGeometry) -> Degrees
-    ensures { result ≡ brtDeg g }
+    ensures { result ≡ brt_deg g }
 {
     let brt = g.brt;
     brt.to_degrees()

@@ -1,7 +1,7 @@
 // The 15 fields of a sheet, and the words that carry them.
 ghost use Rattle.std.specs.Prelude.{◌≡◌, ℕ, ◌*◌, ◌<◌, slice_index};
 ghost use Rattle.base.specs.Words.{word_at};
-ghost use Rattle.maps.specs.Inputs.{poleLat, poleLon, degreesFrom, routeFrom, factorsFrom, poleFrom, inputsFrom, words_to, fieldWords, wordOfSheet};
+ghost use Rattle.maps.specs.Inputs.{pole_lat, pole_lon, degrees_from, route_from, factors_from, pole_from, inputs_from, words_to, field_words, word_of_sheet};
 
 use base::angle::Degrees;
 use base::number::{bits32, float32};
@@ -35,9 +35,9 @@ pub struct MagneticPole {
 
 impl MagneticPole {
     // The built-in pole: 78.5 degrees north, 69 degrees west.
-    pub fn built_in() -> MagneticPole
-        ensures latitude { result.lat.0 ≡ poleLat }
-        ensures longitude { result.lon.0 ≡ poleLon }
+    pub fn built_in_law() -> MagneticPole
+        ensures latitude { result.lat.0 ≡ pole_lat }
+        ensures longitude { result.lon.0 ≡ pole_lon }
     {
         MagneticPole {
             lat: Degrees(78.5),
@@ -76,13 +76,13 @@ pub type FieldWords = [u32; FIELDS];
 
 fn degrees_in(words: &FieldWords, k: usize) -> Degrees
     requires { k < 15 }
-    ensures { result ≡ degreesFrom (λ (n : ℕ). slice_index words.now n) k }
+    ensures { result ≡ degrees_from (λ (n : ℕ). slice_index words.now n) k }
 {
     Degrees(float32(words[k]))
 }
 
 fn route_in(words: &FieldWords) -> Route
-    ensures { result ≡ routeFrom (λ (n : ℕ). slice_index words.now n) }
+    ensures { result ≡ route_from (λ (n : ℕ). slice_index words.now n) }
 {
     Route {
         tlat: degrees_in(words, 3),
@@ -94,7 +94,7 @@ fn route_in(words: &FieldWords) -> Route
 }
 
 fn factors_in(words: &FieldWords) -> Factors
-    ensures { result ≡ factorsFrom (λ (n : ℕ). slice_index words.now n) }
+    ensures { result ≡ factors_from (λ (n : ℕ). slice_index words.now n) }
 {
     Factors {
         e: float32(words[8]),
@@ -105,7 +105,7 @@ fn factors_in(words: &FieldWords) -> Factors
 }
 
 fn pole_in(words: &FieldWords) -> MagneticPole
-    ensures { result ≡ poleFrom (λ (n : ℕ). slice_index words.now n) }
+    ensures { result ≡ pole_from (λ (n : ℕ). slice_index words.now n) }
 {
     MagneticPole {
         lat: degrees_in(words, 12),
@@ -115,7 +115,7 @@ fn pole_in(words: &FieldWords) -> MagneticPole
 
 // The inputs whose 15 fields the words are, in the documents' order; any 15 words are some.
 pub fn from_words(words: &FieldWords) -> Inputs
-    ensures { result ≡ inputsFrom (λ (k : ℕ). slice_index words.now k) }
+    ensures { result ≡ inputs_from (λ (k : ℕ). slice_index words.now k) }
 {
     Inputs {
         month: words[0],
@@ -154,7 +154,7 @@ fn words_in(s: &[u8]) -> FieldWords
 // The inputs whose 15 fields are the little-endian words of the bytes; a byte that is not there
 // counts as 0.
 pub fn inputs_in(s: &[u8]) -> Inputs
-    ensures { result ≡ inputsFrom (λ (k : ℕ). word_at s.now (4 * k)) }
+    ensures { result ≡ inputs_from (λ (k : ℕ). word_at s.now (4 * k)) }
 {
     let words = words_in(s);
     from_words(&words)
@@ -163,7 +163,7 @@ pub fn inputs_in(s: &[u8]) -> Inputs
 // The inputs whose first 14 fields are the little-endian words of the bytes, with model 0: a 15th
 // word does not count. A byte that is not there counts as 0.
 pub fn sheet_inputs_in(s: &[u8]) -> Inputs
-    ensures { result ≡ inputsFrom (wordOfSheet s.now) }
+    ensures { result ≡ inputs_from (word_of_sheet s.now) }
 {
     let mut words = words_in(s);
     words[SHEET_FIELDS] = 0;
@@ -172,7 +172,7 @@ pub fn sheet_inputs_in(s: &[u8]) -> Inputs
 
 // The 15 words of the inputs' fields, in the documents' order; any NaN is 7fc00000.
 pub fn to_words(i: Inputs) -> FieldWords
-    ensures { result ≡ fieldWords i }
+    ensures { result ≡ field_words i }
 {
     let route = i.route;
     let psc = i.psc;

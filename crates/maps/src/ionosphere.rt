@@ -8,12 +8,12 @@ pub mod versy;
 pub mod virtim;
 
 ghost use Rattle.std.specs.Prelude.{◌≡◌};
-ghost use Rattle.base.specs.Refusal.{writtenOver};
+ghost use Rattle.base.specs.Refusal.{written_over};
 ghost use Rattle.base.specs.Index.{index_of};
-ghost use Rattle.base.specs.Blend.{hmymOf};
-ghost use Rattle.base.specs.Files.{fileCheck, filesCheck};
+ghost use Rattle.base.specs.Blend.{hmym_of};
+ghost use Rattle.base.specs.Files.{file_check, files_check};
 ghost use Rattle.maps.specs.Virtim.{GoodTable};
-ghost use Rattle.maps.specs.Ionosphere.{hourMapsOf, gammasAt, pointAt, layersCheck, layersThere, noLayers, layersAtOf};
+ghost use Rattle.maps.specs.Ionosphere.{hour_maps_of, gammas_at, point_at, layers_check, layers_there, no_layers, layers_at_of};
 
 use crate::geometry::{ControlPoint, Use};
 use crate::inputs::{Factors, MagneticPole};
@@ -33,10 +33,10 @@ use virtim::TimeMaps;
 // The coefficients of the six maps at a sunspot number and an hour into the lent array, and the
 // verdict on the files (8, 9, 10, 23, 11). Refused, the array stays as it is.
 pub fn hour_maps(f2: &[u8], file: &[u8], ssn: f32, gmt: f32, ab: &mut TimeMaps) -> Verdict
-    ensures answer { result ≡ filesCheck f2.now file.now }
+    ensures answer { result ≡ files_check f2.now file.now }
     ensures buffer { let f = f2.now in
         let m = file.now in
-        ab.new ≡ writtenOver (filesCheck f m) (hourMapsOf f m ssn gmt) ab.old }
+        ab.new ≡ written_over (files_check f m) (hour_maps_of f m ssn gmt) ab.old }
 {
     let mut index = [0u32; INDEX];
     let mut cof = [0.0f32; COFION];
@@ -60,7 +60,7 @@ pub(crate) fn gammas_at(
     mag: MagneticVars,
 ) -> Gammas
     requires { GoodTable index.now }
-    ensures { result ≡ gammasAt ab.now index.now lat lon mag }
+    ensures { result ≡ gammas_at ab.now index.now lat lon mag }
 {
     let gmdip = mag.gmdip;
     let clg = magnetic::east(lon);
@@ -86,7 +86,7 @@ pub struct LayersAt {
 // The control point that a place is, used for all layers as the one point of a short path is.
 // Nothing reads its distance.
 fn point_at(pole: MagneticPole, lat: Radians, lon: Radians) -> ControlPoint
-    ensures { result ≡ pointAt pole lat lon }
+    ensures { result ≡ point_at pole lat lon }
 {
     ControlPoint {
         rd: Radians(0.0),
@@ -100,11 +100,11 @@ fn point_at(pole: MagneticPole, lat: Radians, lon: Radians) -> ControlPoint
 // The tables that the layers take, from a good month file: the height map, for which all of it is
 // checked, and then the index table.
 fn month_tables(ssn: f32, file: &[u8], index: &mut IndexTable, hmym: &mut HeightMap) -> Verdict
-    ensures answer { result ≡ fileCheck file.now }
+    ensures answer { result ≡ file_check file.now }
     ensures index { let m = file.now in
-        index.new ≡ writtenOver (fileCheck m) (index_of m) index.old }
+        index.new ≡ written_over (file_check m) (index_of m) index.old }
     ensures hmym { let m = file.now in
-        hmym.new ≡ writtenOver (fileCheck m) (hmymOf m ssn) hmym.old }
+        hmym.new ≡ written_over (file_check m) (hmym_of m ssn) hmym.old }
 {
     let verdict = files::hmym(file, ssn, hmym);
     match verdict {
@@ -124,11 +124,11 @@ fn layer_tables(
     index: &mut IndexTable,
     hmym: &mut HeightMap,
 ) -> Verdict
-    ensures answer { result ≡ layersCheck month file.now }
+    ensures answer { result ≡ layers_check month file.now }
     ensures index { let m = file.now in
-        index.new ≡ writtenOver (layersCheck month m) (index_of m) index.old }
+        index.new ≡ written_over (layers_check month m) (index_of m) index.old }
     ensures hmym { let m = file.now in
-        hmym.new ≡ writtenOver (layersCheck month m) (hmymOf m ssn) hmym.old }
+        hmym.new ≡ written_over (layers_check month m) (hmym_of m ssn) hmym.old }
 {
     let verdict = month_check(month);
     match verdict {
@@ -148,7 +148,7 @@ fn layers_there(
     lon: Radians,
 ) -> LayerParams
     requires { GoodTable index.now }
-    ensures { result ≡ layersThere inputs m ab.now index.now hmym.now pole lat lon }
+    ensures { result ≡ layers_there inputs m ab.now index.now hmym.now pole lat lon }
 {
     let mag = magnetic::magvar(lat, lon);
     let g = gammas_at(ab, index, lat, lon, mag);
@@ -157,7 +157,7 @@ fn layers_there(
 }
 
 fn no_layers() -> LayerParams
-    ensures { result ≡ noLayers }
+    ensures { result ≡ no_layers }
 {
     LayerParams {
         fi: [0.0; 3],
@@ -183,7 +183,7 @@ pub fn layer_parameters_at(
     lat: Radians,
     lon: Radians,
 ) -> LayersAt
-    ensures { result ≡ layersAtOf inputs ab.now file.now pole lat lon }
+    ensures { result ≡ layers_at_of inputs ab.now file.now pole lat lon }
 {
     let mut index = [0u32; INDEX];
     let mut hmym = [0.0f32; PLANE];

@@ -3,7 +3,7 @@
 ghost use Rattle.std.specs.Prelude.{◌≡◌, ◌+◌, ◌<◌, ◌≤◌, pos};
 ghost use Rattle.std.specs.Float.{binary32};
 ghost use Rattle.std.specs.Float.Ieee.{of_int};
-ghost use Rattle.maps.specs.Magnetic.{tableRow, clampedPlace, multipleOf, multiplesOf, powersOf, placed_of, at7, elementOf, state, order_of, ordersOf, degreeOf, expansionOf, magfinOf, eastOf, gobOf, magvarOf};
+ghost use Rattle.maps.specs.Magnetic.{table_row, clamped_place, multiple_of, multiples_of, powers_of, placed_of, at7, element_of, state, order_of, orders_of, degree_of, expansion_of, magfin_of, east_of, gob_of, magvar_of};
 
 use base::angle::{Degrees, Radians};
 use base::elementary::{atan32, cos32, sin32};
@@ -70,7 +70,7 @@ struct Row {
 
 fn row_of(n: usize) -> Row
     requires { n < 7 }
-    ensures { result ≡ tableRow n }
+    ensures { result ≡ table_row n }
 {
     let ct = CT[n];
     let g = G[n];
@@ -87,7 +87,7 @@ pub struct Position {
 
 // The polar clamp: a latitude beyond `RD` is pinned to it, and the longitude is then 0.
 fn clamped(lat: Radians, east_lon: Radians) -> Position
-    ensures { result ≡ clampedPlace lat east_lon }
+    ensures { result ≡ clamped_place lat east_lon }
 {
     if lat.0 > RD {
         Position {
@@ -117,7 +117,7 @@ pub struct Multiples {
 // The m-th of each, by the rule for the sum of two angles.
 fn multiple(m: usize, v: Multiples) -> Multiples
     requires { (1 ≤ m) × (m < 7) }
-    ensures { result ≡ multipleOf m v }
+    ensures { result ≡ multiple_of m v }
 {
     let s1 = v.sp[1];
     let c1 = v.cp[1];
@@ -131,7 +131,7 @@ fn multiple(m: usize, v: Multiples) -> Multiples
 
 // All of them: from the first on, each from the one before.
 fn multiples_of(phi: Radians) -> Multiples
-    ensures { result ≡ multiplesOf phi }
+    ensures { result ≡ multiples_of phi }
 {
     let sp = [0.0, sin32(phi.0), 0.0, 0.0, 0.0, 0.0, 0.0];
     let cp = [1.0, cos32(phi.0), 0.0, 0.0, 0.0, 0.0, 0.0];
@@ -144,7 +144,7 @@ fn multiples_of(phi: Radians) -> Multiples
 
 // Powers 2 to 8 of the ratio of the reference radius to the point's.
 fn powers(ar: f32) -> [f32; 7]
-    ensures { result ≡ powersOf ar }
+    ensures { result ≡ powers_of ar }
 {
     let mut aor = [0.0f32; 7];
     aor[0] = ar * ar;
@@ -209,7 +209,7 @@ fn element_of<'a>(
     dp: &'a [f32; 49],
 ) -> Element
     requires { (1 ≤ n) × (n < 7) × (m ≤ n) }
-    ensures { result ≡ elementOf c s ct n m p.now dp.now }
+    ensures { result ≡ element_of c s ct n m p.now dp.now }
 {
     if n == m {
         let below = at(p, n - 1, n - 1);
@@ -248,7 +248,7 @@ pub struct Sums {
 // order m added to the sums.
 fn orders(x: Place, n: usize, p: &mut [f32; 49], dp: &mut [f32; 49]) -> Sums
     requires { (1 ≤ n) × (n < 7) }
-    ensures { state p.new dp.new result ≡ ordersOf x n p.old dp.old }
+    ensures { state p.new dp.new result ≡ orders_of x n p.old dp.old }
 {
     let t = row_of(n);
     let mut v = Sums {
@@ -288,7 +288,7 @@ pub struct Field {
 fn degree(x: Place, n: usize, p: &mut [f32; 49], dp: &mut [f32; 49], b: Field) -> Field
     requires { (1 ≤ n) × (n < 7) }
     ensures { let before = state p.old dp.old b in
-        state p.new dp.new result ≡ degreeOf x n before }
+        state p.new dp.new result ≡ degree_of x n before }
 {
     let v = orders(x, n, p, dp);
     let fn_ = whole(n + 1);
@@ -302,7 +302,7 @@ fn degree(x: Place, n: usize, p: &mut [f32; 49], dp: &mut [f32; 49], b: Field) -
 
 // The degrees 1 to 6, summed.
 fn expansion(x: Place) -> Field
-    ensures { result ≡ expansionOf x }
+    ensures { result ≡ expansion_of x }
 {
     let mut p = [0.0f32; 49];
     p[0] = 1.0;
@@ -329,7 +329,7 @@ pub struct Une {
 // The magnetic field, up, north and east, in gauss, at a latitude and an east longitude and at a
 // height in metres.
 pub fn magfin(lat: Radians, east_lon: Radians, height_m: f32) -> Une
-    ensures { result ≡ magfinOf lat east_lon height_m }
+    ensures { result ≡ magfin_of lat east_lon height_m }
 {
     let x = placed(lat, east_lon, height_m);
     let b = expansion(x);
@@ -350,7 +350,7 @@ pub struct MagneticVars {
 
 // A longitude, negative west, as an east longitude: a full turn is added where it is below 0.
 pub fn east(lon: Radians) -> Radians
-    ensures { result ≡ eastOf lon }
+    ensures { result ≡ east_of lon }
 {
     let c360 = Degrees(360.0).to_radians();
     if lon.0 < 0.0 {
@@ -362,7 +362,7 @@ pub fn east(lon: Radians) -> Radians
 
 // The cosine of the latitude, kept above 0, since the dip angle is divided by its root.
 fn gob(lat: Radians) -> f32
-    ensures { result ≡ gobOf lat }
+    ensures { result ≡ gob_of lat }
 {
     let cosine = cos32(lat.0);
     if cosine <= 0.000001 { 0.000001 } else { cosine }
@@ -371,7 +371,7 @@ fn gob(lat: Radians) -> f32
 // Gyrofrequency in MHz, Rawer's modified dip and the east longitude at a control point, from the
 // field 300 km over it.
 pub fn magvar(lat: Radians, lon: Radians) -> MagneticVars
-    ensures { result ≡ magvarOf lat lon }
+    ensures { result ≡ magvar_of lat lon }
 {
     let east_lon = east(lon);
     let une = magfin(lat, east_lon, 300000.0);

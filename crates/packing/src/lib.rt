@@ -3,8 +3,8 @@
 
 ghost use Rattle.std.specs.Prelude.{◌≡◌, ℕ, ◌+◌, ◌≤◌, ◌++◌, length, get_or, drop};
 ghost use Rattle.base.specs.Fill.{fill};
-ghost use Rattle.base.specs.Words.{fourBytes};
-ghost use Rattle.packing.specs.Pack.{partCheck, sizeOfYear, sealedFile};
+ghost use Rattle.base.specs.Words.{four_bytes};
+ghost use Rattle.packing.specs.Pack.{part_check, size_of_year, sealed_file};
 
 use base::files::{daw_check, file_check};
 use base::refusal::Verdict;
@@ -20,7 +20,7 @@ pub type Sizes = [u32; PARTS];
 // twelve month files; 8 on a `.daw` file that does not reach to the end of month 12's record, and so
 // has not the records of all months, and 23 by their words.
 pub fn part_check(k: usize, part: &[u8]) -> Verdict
-    ensures { result ≡ partCheck k part.now }
+    ensures { result ≡ part_check k part.now }
 {
     if k < 12 {
         file_check(part)
@@ -31,7 +31,7 @@ pub fn part_check(k: usize, part: &[u8]) -> Verdict
 
 // The bytes of a year file with parts of these sizes.
 fn size_of_year(sizes: &Sizes) -> usize
-    ensures { result ≡ sizeOfYear sizes.now }
+    ensures { result ≡ size_of_year sizes.now }
 {
     // Of a slice's words it is known to a proof that they fit.
     let words: &[u32] = sizes;
@@ -44,8 +44,8 @@ fn size_of_year(sizes: &Sizes) -> usize
     n
 }
 
-fn four_bytes(w: u32) -> [u8; 4]
-    ensures { result ≡ fourBytes w }
+fn four_bytes_law(w: u32) -> [u8; 4]
+    ensures { result ≡ four_bytes w }
 {
     [
         (w % 256) as u8,
@@ -58,9 +58,9 @@ fn four_bytes(w: u32) -> [u8; 4]
 // Writes a word, little-endian.
 fn put_word(out: &mut [u8; YEAR_MOST], at: usize, w: u32)
     requires { at + 4 ≤ 112 }
-    ensures { out.new ≡ fill (λ (k : ℕ). get_or (fourBytes w) k 0) at out.old 4 }
+    ensures { out.new ≡ fill (λ (k : ℕ). get_or (four_bytes w) k 0) at out.old 4 }
 {
-    let bytes = four_bytes(w);
+    let bytes = four_bytes_law(w);
     let mut k = 0usize;
     while k < 4 {
         out[at + k] = bytes[k];
@@ -73,8 +73,8 @@ fn put_word(out: &mut [u8; YEAR_MOST], at: usize, w: u32)
 // or 0 where that would be more than 1,048,576.
 pub fn seal(year: &mut [u8; YEAR_MOST], sizes: &Sizes) -> usize
     ensures file { let l = year.old in
-        year.new ≡ sealedFile sizes.now l ++ drop result l }
-    ensures count { result ≡ length (sealedFile sizes.now year.old) }
+        year.new ≡ sealed_file sizes.now l ++ drop result l }
+    ensures count { result ≡ length (sealed_file sizes.now year.old) }
     ensures bound { result ≤ 1048576 }
 {
     let n = size_of_year(sizes);

@@ -1,7 +1,7 @@
 // The calls of standard input.
 ghost use Rattle.std.specs.Prelude.{◌≡◌, ◌≤◌};
 ghost use Rattle.base.specs.Words.{word_at};
-ghost use Rattle.listing.specs.Calls.{operationIn, call_in};
+ghost use Rattle.listing.specs.Calls.{operation_in, call_in};
 
 use base::words::word;
 use libc::STDIN_FILENO;
@@ -16,7 +16,7 @@ pub struct Next {
 }
 
 fn operation_of(lent: Lent, head: &[u8; 4]) -> u32
-    ensures { result ≡ operationIn lent (word_at head.now 0) }
+    ensures { result ≡ operation_in lent (word_at head.now 0) }
 {
     operation_in(lent, word(head, 0))
 }

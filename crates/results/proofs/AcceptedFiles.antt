@@ -16,133 +16,133 @@ use Rattle.results.proofs.sheet.GoodSheet
 
 -- ---- the month file's check
 
-pub month-file-good : MonthFileGood
-month-file-good = Marks.month-file-good
+pub month_file_good : MonthFileGood
+month_file_good = Marks.month_file_good
 
-pub ended-refused : EndedRefused
-ended-refused = WalkAnswers.ended-refused
+pub ended_refused : EndedRefused
+ended_refused = WalkAnswers.ended_refused
 
-pub marker-refused : MarkerRefused
-marker-refused = WalkAnswers.marker-refused
+pub marker_refused : MarkerRefused
+marker_refused = WalkAnswers.marker_refused
 
-pub file-answers : FileAnswers
-file-answers = WalkAnswers.file-answers
+pub file_answers : FileAnswers
+file_answers = WalkAnswers.file_answers
 
-pub cut-anywhere : CutAnywhere
-cut-anywhere = WalkAnswers.cut-anywhere
+pub cut_anywhere : CutAnywhere
+cut_anywhere = WalkAnswers.cut_anywhere
 
 -- ---- the words of the tables
 
-pub record-words-good : RecordWordsGood
-record-words-good = FirstOthers.record-words-good
+pub record_words_good : RecordWordsGood
+record_words_good = FirstOthers.record_words_good
 
-pub month-words-good : MonthWordsGood
-month-words-good = FirstOthers.month-words-good
+pub month_words_good : MonthWordsGood
+month_words_good = FirstOthers.month_words_good
 
-pub record-word-refused : RecordWordRefused
-record-word-refused = FirstOthers.record-word-refused WalkAnswers.file-answers
+pub record_word_refused : RecordWordRefused
+record_word_refused = FirstOthers.record_word_refused WalkAnswers.file_answers
 
-pub month-word-refused : MonthWordRefused
-month-word-refused = FirstOthers.month-word-refused WalkAnswers.file-answers
+pub month_word_refused : MonthWordRefused
+month_word_refused = FirstOthers.month_word_refused WalkAnswers.file_answers
 
-pub file-word-refused : FileWordRefused
-file-word-refused = FirstOthers.file-word-refused WalkAnswers.file-answers
+pub file_word_refused : FileWordRefused
+file_word_refused = FirstOthers.file_word_refused WalkAnswers.file_answers
 
-pub index-refused-last : IndexRefusedLast
-index-refused-last = FirstOthers.index-refused-last WalkAnswers.file-answers
+pub index_refused_last : IndexRefusedLast
+index_refused_last = FirstOthers.index_refused_last WalkAnswers.file_answers
 
-pub files-good : FilesGood
-files-good = FirstOthers.files-good
+pub files_good : FilesGood
+files_good = FirstOthers.files_good
 
 -- ---- the index check
 
-pub index-good : IndexGood
-index-good = IndexAnswers.index-good
+pub index_good : IndexGood
+index_good = IndexAnswers.index_good
 
-pub index-refused : IndexRefused
-index-refused = IndexAnswers.index-refused
+pub index_refused : IndexRefused
+index_refused = IndexAnswers.index_refused
 
-pub virtim-inside : VirtimInside
-virtim-inside month passed k l j h a b =
-    let v = Indexing.virtim-inside month passed k l j h (omega arith) b in
-    record { own = v.own; all = v.all; own-result = v.own-result; result = v.result }
+pub virtim_inside : VirtimInside
+virtim_inside month passed k l j h a b =
+    let v = Indexing.virtim_inside month passed k l j h (omega arith) b in
+    record { own = v.own; all = v.all; own_result = v.own_result; result = v.result }
 
-pub versy-inside : VersyInside
-versy-inside = Indexing.versy-inside
+pub versy_inside : VersyInside
+versy_inside = Indexing.versy_inside
 
 -- ---- files that are accepted
 
-pub month-file-accepted : MonthFileAccepted
-month-file-accepted = GoodFiles.month-file-accepted
+pub month_file_accepted : MonthFileAccepted
+month_file_accepted = GoodFiles.month_file_accepted
 
-pub index-accepted : IndexAccepted
-index-accepted = GoodFiles.index-accepted
+pub index_accepted : IndexAccepted
+index_accepted = GoodFiles.index_accepted
 
-pub files-accepted : FilesAccepted
-files-accepted = GoodFiles.files-accepted
+pub files_accepted : FilesAccepted
+files_accepted = GoodFiles.files_accepted
 
-pub file-of-bytes : FileOfBytes
-file-of-bytes = GoodFiles.file-of-bytes
+pub file_of_bytes : FileOfBytes
+file_of_bytes = GoodFiles.file_of_bytes
 
-pub sheet-shown : SheetShown
-sheet-shown = GoodSheet.sheet-shown
+pub sheet_shown_law : SheetShown
+sheet_shown_law = GoodSheet.sheet_shown_law
 
-pub sheet-written : SheetWritten
-sheet-written = GoodSheet.sheet-written
+pub sheet_written : SheetWritten
+sheet_written = GoodSheet.sheet_written
 
 -- ---- the tables' places
 
-pub tables-packed : TablesPacked
-tables-packed = Places.tables-packed
+pub tables_packed : TablesPacked
+tables_packed = Places.tables_packed
 
-pub twenty-tables : TwentyTables
-twenty-tables = Places.twenty-tables
+pub twenty_tables : TwentyTables
+twenty_tables = Places.twenty_tables
 
-pub planes-fill : PlanesFill
-planes-fill = Places.planes-fill
+pub planes_fill : PlanesFill
+planes_fill = Places.planes_fill
 
 -- ---- Table and Month record
 
-pub table-inside : TableInside
-table-inside number f m e = let p = Parts.table-inside number f m e in (p.some, p.inside)
+pub table_inside : TableInside
+table_inside number f m e = let p = Parts.table_inside number f m e in (p.some, p.inside)
 
-pub month-inside : MonthInside
-month-inside = MonthRecords.month-inside
+pub month_inside : MonthInside
+month_inside = MonthRecords.month_inside
 
-pub zero-there : ZeroThere
-zero-there number f m e =
-    let t = Parts.zero-there number f m e in record { known = t.known; planes = t.planes; walked = t.walked }
+pub zero_there : ZeroThere
+zero_there number f m e =
+    let t = Parts.zero_there number f m e in record { known = t.known; planes = t.planes; walked = t.walked }
 
-pub there-zero : ThereZero
-there-zero number f m t =
-    Parts.there-zero number f m (record { known = t.known; planes = t.planes; walked = t.walked })
+pub there_zero : ThereZero
+there_zero number f m t =
+    Parts.there_zero number f m (record { known = t.known; planes = t.planes; walked = t.walked })
 
-pub month-there : MonthAccepted
-month-there s m t = MonthRecords.month-there s m (record { low = t.low; high = t.high; room = t.room })
+pub month_there : MonthAccepted
+month_there s m t = MonthRecords.month_there s m (record { low = t.low; high = t.high; room = t.room })
 
-pub month-zero : MonthZero
-month-zero s m = (
-  λ e. let t = (MonthRecords.month-zero s m).0 e in record { low = t.low; high = t.high; room = t.room },
-  λ t. (MonthRecords.month-zero s m).1 (record { low = t.low; high = t.high; room = t.room }),
+pub month_zero : MonthZero
+month_zero s m = (
+  λ e. let t = (MonthRecords.month_zero s m).0 e in record { low = t.low; high = t.high; room = t.room },
+  λ t. (MonthRecords.month_zero s m).1 (record { low = t.low; high = t.high; room = t.room }),
 )
 
 -- ---- later bytes
 
-pub table-check-later : TableCheckLater
-table-check-later number f g s t b a =
-    LaterParts.table-record-later number f g s b ∙ LaterParts.table-month-later number g s t a
+pub table_check_later : TableCheckLater
+table_check_later number f g s t b a =
+    LaterParts.table_record_later number f g s b ∙ LaterParts.table_month_later number g s t a
 
-pub table-part-later : TablePartLater
-table-part-later = LaterParts.table-part-later
+pub table_part_later : TablePartLater
+table_part_later = LaterParts.table_part_later
 
-pub table-bytes-later : TableBytesLater
-table-bytes-later = LaterParts.table-bytes-later
+pub table_bytes_later : TableBytesLater
+table_bytes_later = LaterParts.table_bytes_later
 
-pub month-check-later : MonthCheckLater
-month-check-later = LaterParts.month-check-later
+pub month_check_later : MonthCheckLater
+month_check_later = LaterParts.month_check_later
 
-pub month-part-later : MonthPartLater
-month-part-later = LaterParts.month-part-later
+pub month_part_later : MonthPartLater
+month_part_later = LaterParts.month_part_later
 
-pub month-bytes-later : MonthBytesLater
-month-bytes-later = LaterParts.month-bytes-later
+pub month_bytes_later : MonthBytesLater
+month_bytes_later = LaterParts.month_bytes_later

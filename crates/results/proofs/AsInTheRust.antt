@@ -3,7 +3,7 @@ use mathlib.Core.Path.{refl}
 use lib.Dec.{T}
 use lib.Ieee.{Float, le}
 use lib.Ieee.Fits.{and_l, and_r}
-use Rattle.base.specs.Ranges.{isTo}
+use Rattle.base.specs.Ranges.{is_to}
 use Rattle.base.proofs.order.Order.{Between}
 use Rattle.maps.proofs.sums.GeographicFunctions
 use Rattle.maps.proofs.field.FieldSums as Sums
@@ -28,25 +28,25 @@ use Rattle.results.proofs.sheet.ShownClocks
 
 -- ---- the series of CCIR Report 340
 
-pub report-340 : Report340
-report-340 = Series.report-340
+pub report_340 : Report340
+report_340 = Series.report_340
 
-pub six-series : SixSeries
-six-series = Series.six-series
+pub six_series : SixSeries
+six_series = Series.six_series
 
-pub point-series : PointSeries
-point-series = Figured.point-series
+pub point_series : PointSeries
+point_series = Figured.point_series
 
-pub figure-series : FigureSeries
-figure-series = Figured.figure-series
+pub figure_series : FigureSeries
+figure_series = Figured.figure_series
 
-pub map-series : MapSeries
-map-series = Series.map-series
+pub map_series : MapSeries
+map_series = Series.map_series
 
 -- ---- the geographic functions and the hour's 318 numbers
 
-pub filled-closed : FilledClosed
-filled-closed = GeographicFunctions.filled-closed
+pub filled_closed : FilledClosed
+filled_closed = GeographicFunctions.filled_closed
 
 pub filled_at : FilledAt
 filled_at = GeographicFunctions.filled_at
@@ -54,159 +54,159 @@ filled_at = GeographicFunctions.filled_at
 pub past_end : PastEnd
 past_end = GeographicFunctions.past_end
 
-pub in-harmonic : InHarmonic
-in-harmonic = GeographicFunctions.in-harmonic
+pub in_harmonic : InHarmonic
+in_harmonic = GeographicFunctions.in_harmonic
 
-pub runs-meet : RunsMeet
-runs-meet = DailySeries.runs-meet
+pub runs_meet : RunsMeet
+runs_meet = DailySeries.runs_meet
 
-pub runs-end : RunsEnd
-runs-end = DailySeries.runs-end
+pub runs_end : RunsEnd
+runs_end = DailySeries.runs_end
 
 pub parts_meet : PartsMeet
 parts_meet = DailySeries.parts_meet
 
-pub parts-end : PartsEnd
-parts-end = DailySeries.parts-end
+pub parts_end : PartsEnd
+parts_end = DailySeries.parts_end
 
-pub ab-at : HourAt
-ab-at = DailySeries.ab-at
+pub ab_at : HourAt
+ab_at = DailySeries.ab_at
 
-pub ab-other : HourElsewhere
-ab-other = DailySeries.ab-other
+pub ab_other : HourElsewhere
+ab_other = DailySeries.ab_other
 
 pub one_table : OneTable
 one_table = StartsTable.one_table
 
-pub hour-from : HourFrom
-hour-from = StartsTable.hour-from
+pub hour_from_law : HourFrom
+hour_from_law = StartsTable.hour_from_law
 
 -- ---- the words of the tables
 
-pub every-word : EveryWord
-every-word = TableEntries.every-word
+pub every_word : EveryWord
+every_word = TableEntries.every_word
 
-pub entry-inside : EntryInside
-entry-inside = TableEntries.entry-inside
+pub entry_inside : EntryInside
+entry_inside = TableEntries.entry_inside
 
-pub entries-apart : EntriesApart
-entries-apart = TableEntries.entries-apart
+pub entries_apart : EntriesApart
+entries_apart = TableEntries.entries_apart
 
-pub table-entry : TableEntry
-table-entry = TableEntries.table-entry
+pub table_entry : TableEntry
+table_entry = TableEntries.table_entry
 
-pub cofion-entry : CofionEntry
-cofion-entry = TableEntries.cofion-entry
+pub cofion_entry : CofionEntry
+cofion_entry = TableEntries.cofion_entry
 
-pub hmym-entry : HmymEntry
-hmym-entry = TableEntries.hmym-entry
+pub hmym_entry : HmymEntry
+hmym_entry = TableEntries.hmym_entry
 
-pub fakmap-entry : FakmapEntry
-fakmap-entry = TableEntries.fakmap-entry
+pub fakmap_entry : FakmapEntry
+fakmap_entry = TableEntries.fakmap_entry
 
-pub line-entry : LineEntry
-line-entry = TableEntries.line-entry
+pub line_entry : LineEntry
+line_entry = TableEntries.line_entry
 
-pub abmap-entry : AbmapEntry
-abmap-entry = TableEntries.abmap-entry
+pub abmap_entry : AbmapEntry
+abmap_entry = TableEntries.abmap_entry
 
-pub maps-shaped : MapsShaped
-maps-shaped = TableEntries.maps-shaped
+pub maps_shaped : MapsShaped
+maps_shaped = TableEntries.maps_shaped
 
 -- ---- the field
 
-pub p-filled : PFilled
-p-filled x n h = let q = Sums.p-filled x n h in record { size = q.size; written = q.written; never = q.never }
+pub p_filled : PFilled
+p_filled x n h = let q = Sums.p_filled x n h in record { size = q.size; written = q.written; never = q.never }
 
-pub dp-filled : DpFilled
-dp-filled x n h = let q = Sums.dp-filled x n h in record { size = q.size; written = q.written; never = q.never }
+pub dp_filled : DpFilled
+dp_filled x n h = let q = Sums.dp_filled x n h in record { size = q.size; written = q.written; never = q.never }
 
-pub field-sums : FieldSums
-field-sums = Sums.field-sums
+pub field_sums : FieldSums
+field_sums = Sums.field_sums
 
-pub magfin-arrays : MagfinArrays
-magfin-arrays = Sums.magfin-arrays
+pub magfin_arrays : MagfinArrays
+magfin_arrays = Sums.magfin_arrays
 
-pub ct-gauss : CtGauss
-ct-gauss n m a b h =
-    let g = Legendre.ct-gauss n m a b h in record { digits = g.digits; value = g.value; low = g.low; high = g.high }
+pub ct_gauss : CtGauss
+ct_gauss n m a b h =
+    let g = Legendre.ct_gauss n m a b h in record { digits = g.digits; value = g.value; low = g.low; high = g.high }
 
 -- ---- the path
 
-pub path-count : PathCount
-path-count = PointCounts.path-count
+pub path_count : PathCount
+path_count = PointCounts.path_count
 
-pub long-five : LongFive
-long-five = PointCounts.long-five
+pub long_five : LongFive
+long_five = PointCounts.long_five
 
-pub rows-past : RowsPast
-rows-past = PointRows.rows-past
+pub rows_past : RowsPast
+rows_past = PointRows.rows_past
 
-pub row-gmlat : RowGmlat
-row-gmlat = PointRows.row-gmlat
+pub row_gmlat : RowGmlat
+row_gmlat = PointRows.row_gmlat
 
-pub sign-minus-zero : SignMinusZero
-sign-minus-zero = SignRules.sign-minus-zero
+pub sign_minus_zero : SignMinusZero
+sign_minus_zero = SignRules.sign_minus_zero
 
-pub sign-nan : SignNan
-sign-nan = SignRules.sign-nan
+pub sign_nan : SignNan
+sign_nan = SignRules.sign_nan
 
 -- ---- the clocks
 
--- `isTo` is the interval
-between : (low high x : Float) → T (isTo low high x) → Between low high x
+-- `is_to` is the interval
+between : (low high x : Float) → T (is_to low high x) → Between low high x
 between low high x h = record { low = and_l (le low x) (le x high) h; high = and_r (le low x) (le x high) h }
 
-pub clock-range : ClockRange
+pub clock_range : ClockRange
 unfolding Clock.farthest
-clock-range gmt lon h b = Clock.clock-range gmt lon (between _ _ gmt h) (between _ _ lon.0 b)
+clock_range gmt lon h b = Clock.clock_range gmt lon (between _ _ gmt h) (between _ _ lon.0 b)
 
-pub point-clock : PointClock
-point-clock tlat tlong rlat rlong a b c d long pole gmt h =
-    Longitudes.point-clock tlat tlong rlat rlong
+pub point_clock : PointClock
+point_clock tlat tlong rlat rlong a b c d long pole gmt h =
+    Longitudes.point_clock tlat tlong rlat rlong
     (record { latitude = between _ _ tlat.0 a; longitude = between _ _ tlong.0 b })
     (record { latitude = between _ _ rlat.0 c; longitude = between _ _ rlong.0 d })
     long pole gmt (between _ _ gmt h)
 
-pub shown-clock : ShownClock
-shown-clock = ShownClocks.shown-clock
+pub shown_clock : ShownClock
+shown_clock = ShownClocks.shown_clock
 
-pub clock-24-stays : Clock24Stays
-clock-24-stays = Midnight.clock-24-stays
+pub clock_24_stays : Clock24Stays
+clock_24_stays = Midnight.clock_24_stays
 
-pub clock-0-becomes-24 : Clock0Becomes24
-clock-0-becomes-24 = Midnight.clock-0-becomes-24
+pub clock_0_becomes_24 : Clock0Becomes24
+clock_0_becomes_24 = Midnight.clock_0_becomes_24
 
-pub clock-minus-0-becomes-24 : ClockMinus0Becomes24
-clock-minus-0-becomes-24 = Midnight.clock-minus-0-becomes-24
+pub clock_minus_0_becomes_24 : ClockMinus0Becomes24
+clock_minus_0_becomes_24 = Midnight.clock_minus_0_becomes_24
 
-pub cngtim-settled : CngtimSettled
-cngtim-settled time x isw h b = Wraps.cngtim-settled time x isw (between _ _ time h) (between _ _ x.0 b)
+pub cngtim_settled : CngtimSettled
+cngtim_settled time x isw h b = Wraps.cngtim_settled time x isw (between _ _ time h) (between _ _ x.0 b)
 
-pub zero-leaves : ZeroLeaves
-zero-leaves = Wraps.zero-leaves
+pub zero_leaves : ZeroLeaves
+zero_leaves = Wraps.zero_leaves
 
-pub exact-zero : ExactZero
-exact-zero = Wraps.exact-zero
+pub exact_zero : ExactZero
+exact_zero = Wraps.exact_zero
 
-pub moved-in-day : EveryMoved
-moved-in-day = Wraps.moved-in-day
+pub moved_in_day : EveryMoved
+moved_in_day = Wraps.moved_in_day
 
-pub times-in-day : EveryTimes
-times-in-day = Wraps.times-in-day
+pub times_in_day : EveryTimes
+times_in_day = Wraps.times_in_day
 
-pub local-in-day : EveryLocal
-local-in-day = Wraps.local-in-day
+pub local_in_day : EveryLocal
+local_in_day = Wraps.local_in_day
 
 -- ---- document 01's known points
 
 pub known : Known
 known = (
-  FilePoints.empty-file,
+  FilePoints.empty_file,
   (
-    FilePoints.cut-file,
+    FilePoints.cut_file_law,
     (
-      FilePoints.wrong-file,
+      FilePoints.wrong_file_law,
       (
         refl,
         (
@@ -214,16 +214,16 @@ known = (
           (
             refl,
             (
-              FilePoints.f2-blend,
+              FilePoints.f2_blend,
               (
-                FilePoints.e-blend,
+                FilePoints.e_blend,
                 (
-                  FilePoints.height-blend,
+                  FilePoints.height_blend,
                   (
-                    ClockPoints.exact-midnight,
+                    ClockPoints.exact_midnight,
                     (
-                      ClockPoints.next-day,
-                      (ClockPoints.day-before, tt),
+                      ClockPoints.next_day,
+                      (ClockPoints.day_before, tt),
                     ),
                   ),
                 ),
@@ -239,5 +239,5 @@ known = (
 pub cut_short : CutShort
 cut_short = Marks.cut_short
 
-pub last-wrong : LastWrong
-last-wrong = Marks.last-wrong
+pub last_wrong : LastWrong
+last_wrong = Marks.last_wrong

@@ -1,7 +1,7 @@
 -- An auditor's question: each statement of specs/Audit.antt, from where the work is done. Assumes
 -- nothing.
 use lib.ListN.{length}
-use Rattle.auditing.specs.Marks.{marksOf}
+use Rattle.auditing.specs.Marks.{marks_of}
 use Rattle.auditing.specs.Provenance.{standing}
 use Rattle.results.specs.Audit.{NamedMake, NamedMakeLent, NamedStands, OpenedStands, StandingChanges, OriginByMarks, KeptByMarks, KeptPlacesBelow, FateByMarks, FateStands, FateCancelled, FateTakenBack, FateNever, RefusedLast, RefusedNever}
 use Rattle.results.proofs.sheet.ClosedDesks.{at_rest}
@@ -13,47 +13,47 @@ use Rattle.results.proofs.provenance.Fates as Fates
 use Rattle.results.proofs.provenance.Standing as Standing
 use Rattle.results.proofs.provenance.FatesTold as FatesTold
 
-pub named-make : NamedMake
-named-make = Changes.named-make
+pub named_make : NamedMake
+named_make = Changes.named_make
 
-pub named-make-lent : NamedMakeLent
-named-make-lent source w h = Changes.named-make-lent source w (at_rest w h)
+pub named_make_lent : NamedMakeLent
+named_make_lent source w h = Changes.named_make_lent source w (at_rest w h)
 
-pub named-stands : NamedStands
-named-stands source w h = Named.named-stands source w (at_rest w h)
+pub named_stands : NamedStands
+named_stands source w h = Named.named_stands source w (at_rest w h)
 
-pub opened-stands : OpenedStands
-opened-stands w entries part = Named.none_named part (standing w entries)
+pub opened_stands : OpenedStands
+opened_stands w entries part = Named.none_named part (standing w entries)
 
-pub standing-changes : StandingChanges
-standing-changes = Changes.standing-changes
+pub standing_changes : StandingChanges
+standing_changes = Changes.standing_changes
 
-pub origin-by-marks : OriginByMarks
-origin-by-marks source w h = Origins.origin-by-marks source w (at_rest w h)
+pub origin_by_marks : OriginByMarks
+origin_by_marks source w h = Origins.origin_by_marks source w (at_rest w h)
 
-pub kept-by-marks : KeptByMarks
-kept-by-marks = Places.kept-by-marks
+pub kept_by_marks : KeptByMarks
+kept_by_marks = Places.kept_by_marks
 
-pub kept-places-below : KeptPlacesBelow
-kept-places-below entries = Places.kept-below (marksOf entries) (length entries)
+pub kept_places_below : KeptPlacesBelow
+kept_places_below entries = Places.kept_below (marks_of entries) (length entries)
 
-pub fate-by-marks : FateByMarks
-fate-by-marks = Fates.fate-by-marks
+pub fate_by_marks : FateByMarks
+fate_by_marks = Fates.fate_by_marks
 
-pub fate-stands : FateStands
-fate-stands source w h = Standing.fate-stands source w (at_rest w h)
+pub fate_stands : FateStands
+fate_stands source w h = Standing.fate_stands source w (at_rest w h)
 
-pub fate-cancelled : FateCancelled
-fate-cancelled = FatesTold.fate-cancelled
+pub fate_cancelled : FateCancelled
+fate_cancelled = FatesTold.fate_cancelled
 
-pub fate-taken-back : FateTakenBack
-fate-taken-back = FatesTold.fate-taken-back
+pub fate_taken_back : FateTakenBack
+fate_taken_back = FatesTold.fate_taken_back
 
-pub fate-never : FateNever
-fate-never = FatesTold.fate-never
+pub fate_never : FateNever
+fate_never = FatesTold.fate_never
 
-pub refused-last : RefusedLast
-refused-last = FatesTold.refused-last
+pub refused_last : RefusedLast
+refused_last = FatesTold.refused_last
 
-pub refused-never : RefusedNever
-refused-never = FatesTold.refused-never
+pub refused_never : RefusedNever
+refused_never = FatesTold.refused_never

@@ -14,50 +14,50 @@ use Rattle.results.proofs.pages.Sheets as Sheets
 use Rattle.results.proofs.pages.Whole as Whole
 use Rattle.results.proofs.pages.Had as Had
 
-pub page-showing : PageShowing
-page-showing = Showings.page-showing
+pub page_showing : PageShowing
+page_showing = Showings.page_showing
 
-pub page-refused : PageRefused
-page-refused = Showings.page-refused
+pub page_refused : PageRefused
+page_refused = Showings.page_refused
 
-pub page-fields : PageFields
-page-fields = Fields.page-fields
+pub page_fields : PageFields
+page_fields = Fields.page_fields
 
-pub page-set-value : PageSetValue
-page-set-value a k low high x others e any = Values.page-set-value k low high a x others e any
+pub page_set_value : PageSetValue
+page_set_value a k low high x others e any = Values.page_set_value k low high a x others e any
 
-pub page-opened-value : PageOpenedValue
-page-opened-value a k low high e = Values.page-opened-value k low high a e
+pub page_opened_value : PageOpenedValue
+page_opened_value a k low high e = Values.page_opened_value k low high a e
 
-pub page-drafts : PageDrafts
-page-drafts a n front later b split begun = Drafts.page-drafts a front later b split n begun
+pub page_drafts : PageDrafts
+page_drafts a n front later b split begun = Drafts.page_drafts a front later b split n begun
 
-pub page-no-draft : PageNoDraft
-page-no-draft a front later x split none = Drafts.page-no-draft a front later x split none
+pub page_no_draft : PageNoDraft
+page_no_draft a front later x split none = Drafts.page_no_draft a front later x split none
 
-pub page-none : PageNone
-page-none = None.page-none
+pub page_none : PageNone
+page_none = None.page_none
 
-pub page-shorter : PageShorter
-page-shorter = Shorter.page-shorter
+pub page_shorter : PageShorter
+page_shorter = Shorter.page_shorter
 
-pub page-room : PageRoom
-page-room = Room.page-room
+pub page_room : PageRoom
+page_room = Room.page_room
 
-pub page-calls : PageCalls
-page-calls = Calls.page-calls
+pub page_calls : PageCalls
+page_calls = Calls.page_calls
 
-pub page-same-sheet : PageSameSheet
-page-same-sheet = SameSheet.page-same-sheet
+pub page_same_sheet : PageSameSheet
+page_same_sheet = SameSheet.page_same_sheet
 
-pub page-sheet : PageSheet
-page-sheet a line s = (Sheets.sheet-page a line s, Sheets.sheet-figures a line s)
+pub page_sheet : PageSheet
+page_sheet a line s = (Sheets.sheet_page a line s, Sheets.sheet_figures a line s)
 
-pub page-whole : PageWhole
-page-whole = Whole.page-whole
+pub page_whole : PageWhole
+page_whole = Whole.page_whole
 
-pub page-had : PageHad
-page-had f2 file good room some = Had.page-had f2 file room some good
+pub page_had : PageHad
+page_had f2 file good room some = Had.page_had f2 file room some good
 
-pub page-refused-had : PageRefusedHad
-page-refused-had f2 file why bad room some = Had.page-refused-had f2 file room some why bad
+pub page_refused_had : PageRefusedHad
+page_refused_had f2 file why bad room some = Had.page_refused_had f2 file room some why bad

@@ -13,53 +13,53 @@ use Rattle.worksheet.proofs.lists.Rules as Rules
 use Rattle.results.proofs.lists.Kept as Kept
 use Rattle.worksheet.proofs.checks.Showings as Showings
 use Rattle.worksheet.proofs.drafts.Openings as Openings
-use Rattle.jutetrowel.specs.Words.{worksheetOf}
-use Rattle.jutetrowel.specs.Calls.{wordsBy, wordsLeft}
+use Rattle.jutetrowel.specs.Words.{worksheet_of}
+use Rattle.jutetrowel.specs.Calls.{words_by, words_left}
 use Rattle.jutetrowel.proofs.lists.Carried as Carried
 use Rattle.jutetrowel.proofs.crossing.Unopened as Unopened
 use Rattle.results.specs.CancelledEdits.{DemandThree, DemandThreeOver, DemandThreeLent, DemandThreeOverLent, KeptInOrder, JustBefore, NothingElse, RefusedBuffer, OpenRefused, SheetRefused, RefusedSheet, RefusedWords}
 use Rattle.results.proofs.sheet.ClosedDesks.{at_rest}
 
-pub demand-3 : DemandThree
-demand-3 f2 file = Rules.demand-3 (pair f2 file)
+pub demand_3 : DemandThree
+demand_3 f2 file = Rules.demand_3 (pair f2 file)
 
-pub demand-3-over : DemandThreeOver
-demand-3-over f2 file = Carried.demand-3-over (pair f2 file)
+pub demand_3_over : DemandThreeOver
+demand_3_over f2 file = Carried.demand_3_over (pair f2 file)
 
-pub demand-3-lent : DemandThreeLent
-demand-3-lent source w h = Rules.demand-3-lent source w (at_rest w h)
+pub demand_3_lent : DemandThreeLent
+demand_3_lent source w h = Rules.demand_3_lent source w (at_rest w h)
 
-pub demand-3-over-lent : DemandThreeOverLent
-demand-3-over-lent source l h = Carried.demand-3-over-lent source l (worksheetOf l) refl (at_rest (worksheetOf l) h)
+pub demand_3_over_lent : DemandThreeOverLent
+demand_3_over_lent source l h = Carried.demand_3_over_lent source l (worksheet_of l) refl (at_rest (worksheet_of l) h)
 
-pub kept-in-order : KeptInOrder
-kept-in-order = Kept.kept-in-order
+pub kept_in_order : KeptInOrder
+kept_in_order = Kept.kept_in_order
 
-pub just-before : JustBefore
-just-before = Kept.just-before
+pub just_before : JustBefore
+just_before = Kept.just_before
 
-pub nothing-else : NothingElse
-nothing-else = Kept.nothing-else
+pub nothing_else : NothingElse
+nothing_else = Kept.nothing_else
 
-pub refused-sheet : RefusedSheet
-refused-sheet = Effects.refused-unmoved
+pub refused_sheet : RefusedSheet
+refused_sheet = Effects.refused_unmoved
 
 -- the words by the answer
-unwritten : (r : Answer) (w : Worksheet) (l : List ℕ) → accepted r ≡ false → wordsBy r w l ≡ l
+unwritten : (r : Answer) (w : Worksheet) (l : List ℕ) → accepted r ≡ false → words_by r w l ≡ l
 unwritten (told Accepted) w l h = absurd (true≢false h)
 unwritten (told (Refused why)) w l h = refl
 unwritten (shown s after) w l h = refl
 
-pub refused-words : RefusedWords
-unfolding wordsLeft
-refused-words source c l h =
-    let s = step source c (worksheetOf l) in unwritten s.answer s.sheet l h
+pub refused_words_law : RefusedWords
+unfolding words_left
+refused_words_law source c l h =
+    let s = step source c (worksheet_of l) in unwritten s.answer s.sheet l h
 
-pub refused-buffer : RefusedBuffer
-refused-buffer = Showings.refused-buffer
+pub refused_buffer : RefusedBuffer
+refused_buffer = Showings.refused_buffer
 
-pub open-refused : OpenRefused
-open-refused = Openings.open-refused
+pub open_refused : OpenRefused
+open_refused = Openings.open_refused
 
-pub sheet-refused : SheetRefused
-sheet-refused = Unopened.sheet-refused
+pub sheet_refused : SheetRefused
+sheet_refused = Unopened.sheet_refused

@@ -11,8 +11,8 @@ use Rattle.results.proofs.sheet.HandedBack as HandedBack
 pub fields_back : FieldsBack
 fields_back = Codec.fields_back
 
-pub from-single : FromSingle
-from-single = Codec.from-single
+pub from_single : FromSingle
+from_single = Codec.from_single
 
 pub words_back : WordsBack
 words_back f h =
@@ -32,14 +32,14 @@ words_back f h =
       lon = h 13 (lit< tt) (λ e. omega arith) (λ e. omega arith);
     })
 
-pub accepted-number : AcceptedNumber
-accepted-number = HandedBack.accepted-number
+pub accepted_number : AcceptedNumber
+accepted_number = HandedBack.accepted_number
 
-pub shown-number : ShownNumber
-shown-number = HandedBack.shown-number
+pub shown_number : ShownNumber
+shown_number = HandedBack.shown_number
 
 pub read_back : ReadBack
 read_back = Returned.read_back
 
-pub all-calls : AllCalls
-all-calls = Carried.all-calls
+pub all_calls : AllCalls
+all_calls = Carried.all_calls

@@ -2,7 +2,7 @@
 use lib.Dec.{T}
 use lib.Ieee.{Float, le}
 use lib.Ieee.Fits.{and_i}
-use Rattle.base.specs.Ranges.{isTo}
+use Rattle.base.specs.Ranges.{is_to}
 use Rattle.base.proofs.order.Order.{Between}
 use Rattle.base.proofs.roots.NearestRoot as Nearest
 use Rattle.base.proofs.rounding.DoubleRounding
@@ -14,46 +14,46 @@ use Rattle.results.proofs.numbers.MinMax
 
 -- ---- the square root
 
-pub sqrt-nearest : SqrtNearest
-sqrt-nearest = Nearest.sqrt-nearest
+pub sqrt_nearest : SqrtNearest
+sqrt_nearest = Nearest.sqrt_nearest
 
-pub sqrt-narrow : SqrtNarrow
-sqrt-narrow = DoubleRounding.sqrt-narrow
+pub sqrt_narrow : SqrtNarrow
+sqrt_narrow = DoubleRounding.sqrt_narrow
 
 -- ---- the elementary functions
 
 pub tied : Tied
 tied = Terms.tied
 
-pub nan-all : NanAll
-nan-all = NoNumbers.nan-all
+pub nan_all : NanAll
+nan_all = NoNumbers.nan_all
 
-pub sin-size : SinSize
-sin-size = Bounds.sin-size
+pub sin_size : SinSize
+sin_size = Bounds.sin_size
 
-pub cos-size : CosSize
-cos-size = Bounds.cos-size
+pub cos_size : CosSize
+cos_size = Bounds.cos_size
 
-pub atan-size : AtanSize
-atan-size = Bounds.atan-size
+pub atan_size : AtanSize
+atan_size = Bounds.atan_size
 
--- `isTo` is the interval
-is-to : (low high x : Float) → Between low high x → T (isTo low high x)
-is-to low high x b = and_i (le low x) (le x high) b.low b.high
+-- `is_to` is the interval
+is_to_law : (low high x : Float) → Between low high x → T (is_to low high x)
+is_to_law low high x b = and_i (le low x) (le x high) b.low b.high
 
-pub acos-range : AcosRange
-acos-range v h = is-to _ _ _ (Bounds.acos-range v h)
+pub acos_range : AcosRange
+acos_range v h = is_to_law _ _ _ (Bounds.acos_range v h)
 
 -- ---- the lesser and the greater
 
-pub min-law : MinLaw
-min-law = MinMax.min-law
+pub min_law : MinLaw
+min_law = MinMax.min_law
 
-pub max-law : MaxLaw
-max-law = MinMax.max-law
+pub max_law : MaxLaw
+max_law = MinMax.max_law
 
-pub min-only : MinOnly
-min-only = MinMax.min-only
+pub min_only : MinOnly
+min_only = MinMax.min_only
 
-pub max-only : MaxOnly
-max-only = MinMax.max-only
+pub max_only : MaxOnly
+max_only = MinMax.max_only

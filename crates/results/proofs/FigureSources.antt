@@ -7,59 +7,59 @@ use Rattle.results.proofs.sheet.FigurePlaces as FigurePlaces
 use Rattle.results.proofs.path.PointRows as PointRows
 use Rattle.results.proofs.path.Typed as Typed
 
-pub all-written : AllOverwritten
-all-written = Alone.all-written
+pub all_written : AllOverwritten
+all_written = Alone.all_written
 
-pub same-figures : SameFigures
-same-figures = Alone.same-figures
+pub same_figures : SameFigures
+same_figures = Alone.same_figures
 
 pub none_written : NoneWritten
 none_written = Alone.none_written
 
-pub refused-left : RefusedLeft
-refused-left = Alone.refused-left
+pub refused_left : RefusedLeft
+refused_left = Alone.refused_left
 
-pub later-figures : LaterFigures
-later-figures = Ignored.later-figures
+pub later_figures : LaterFigures
+later_figures = Ignored.later_figures
 
-pub later-answer : LaterAnswer
-later-answer = Ignored.later-answer
+pub later_answer : LaterAnswer
+later_answer = Ignored.later_answer
 
-pub later-buffer : LaterBuffer
-later-buffer = Ignored.later-buffer
+pub later_buffer : LaterBuffer
+later_buffer = Ignored.later_buffer
 
-pub later-record-figures : LaterRecordFigures
-later-record-figures = Ignored.later-record-figures
+pub later_record_figures : LaterRecordFigures
+later_record_figures = Ignored.later_record_figures
 
-pub later-record-answer : LaterRecordAnswer
-later-record-answer = Ignored.later-record-answer
+pub later_record_answer : LaterRecordAnswer
+later_record_answer = Ignored.later_record_answer
 
-pub later-month-figures : LaterMonthFigures
-later-month-figures = Ignored.later-month-figures
+pub later_month_figures : LaterMonthFigures
+later_month_figures = Ignored.later_month_figures
 
-pub later-month-answer : LaterMonthAnswer
-later-month-answer = Ignored.later-month-answer
+pub later_month_answer : LaterMonthAnswer
+later_month_answer = Ignored.later_month_answer
 
 pub head_at : HeadAt
 head_at = FigurePlaces.head_at
 
-pub figure-at : FigureAt
-figure-at = FigurePlaces.figure-at
+pub figure_at : FigureAt
+figure_at = FigurePlaces.figure_at
 
-pub present-at : PresentAt
-present-at = FigurePlaces.present-at
+pub present_at : PresentAt
+present_at = FigurePlaces.present_at
 
-pub absent-at : AbsentAt
-absent-at = FigurePlaces.absent-at
+pub absent_at : AbsentAt
+absent_at = FigurePlaces.absent_at
 
 pub same_head : SameHead
 same_head = PointRows.same_head
 
-pub path-and-pole : PathAndPole
-path-and-pole = Alone.path-and-pole
+pub path_and_pole : PathAndPole
+path_and_pole = Alone.path_and_pole
 
-pub pole-only : PoleOnly
-pole-only = PointRows.pole-only
+pub pole_only : PoleOnly
+pole_only = PointRows.pole_only
 
-pub only-radians : OnlyRadians
-only-radians = Typed.only-radians
+pub only_radians : OnlyRadians
+only_radians = Typed.only_radians

@@ -1,39 +1,39 @@
 -- Can a figure be NaN? Each statement of specs/FiniteOrNot.antt, from where it is proved. Assumes
 -- nothing.
-use Rattle.results.proofs.numbers.Sizes.{range-between}
-use Rattle.results.proofs.finite.AcceptedFields.{accepted-in-range as accepted-in-range-proved}
-use Rattle.results.proofs.finite.SoundFiles.{sound-sheets as sound-sheets-proved}
+use Rattle.results.proofs.numbers.Sizes.{range_between}
+use Rattle.results.proofs.finite.AcceptedFields.{accepted_in_range as accepted-in-range-proved}
+use Rattle.results.proofs.finite.SoundFiles.{sound_sheets as sound-sheets-proved}
 use Rattle.results.proofs.finite.FiniteSheets.{
-  point-numbers as point-numbers-proved,
-  sheet-path-finite as sheet-path-finite-proved,
-  sheet-point-finite as sheet-point-finite-proved,
-  sheet-ground-finite as sheet-ground-finite-proved,
-  point-mapped as point-mapped-proved,
-  sheet-es-finite as sheet-es-finite-proved,
-  sheet-layers as sheet-layers-proved,
-  sheet-finite as sheet-finite-proved,
-  zenang-range as zenang-range-proved,
-  beyond-none as beyond-none-proved,
-  none-beyond as none-beyond-proved,
+  point_numbers_law as point-numbers-proved,
+  sheet_path_finite as sheet-path-finite-proved,
+  sheet_point_finite as sheet-point-finite-proved,
+  sheet_ground_finite as sheet-ground-finite-proved,
+  point_mapped as point-mapped-proved,
+  sheet_es_finite as sheet-es-finite-proved,
+  sheet_layers_law as sheet-layers-proved,
+  sheet_finite as sheet-finite-proved,
+  zenang_range as zenang-range-proved,
+  beyond_none as beyond-none-proved,
+  none_beyond as none-beyond-proved,
 }
 use Rattle.results.proofs.finite.FiniteLayers.{
-  ground-pair as ground-pair-proved,
-  e-height as e-height-proved,
-  es-height as es-height-proved,
-  zenang-example as zenang-example-proved,
-  rat-nan as rat-nan-proved,
-  yi2-nan as yi2-nan-proved,
-  hpf2-finite as hpf2-finite-proved,
-  hpf2-at-zero as hpf2-at-zero-proved,
+  ground_pair as ground-pair-proved,
+  e_height as e-height-proved,
+  es_height as es-height-proved,
+  zenang_example as zenang-example-proved,
+  rat_nan as rat-nan-proved,
+  yi2_nan as yi2-nan-proved,
+  hpf2_finite as hpf2-finite-proved,
+  hpf2_at_zero as hpf2-at-zero-proved,
 }
-use Rattle.results.proofs.finite.NoSun.{no-sun-layers as no-sun-layers-proved, no-sun-row as no-sun-row-proved}
+use Rattle.results.proofs.finite.NoSun.{no_sun_layers as no-sun-layers-proved, no_sun_row as no-sun-row-proved}
 use Rattle.results.proofs.finite.FileWords.{
-  shown-finite as shown-finite-proved,
-  month-numbers,
-  blend-overflows as blend-overflows-proved,
+  shown_finite as shown-finite-proved,
+  month_numbers,
+  blend_overflows as blend-overflows-proved,
 }
-use Rattle.results.proofs.finite.MagneticFinite.{nowhere-zero}
-use Rattle.results.proofs.field.FieldNotZero.{field-not-zero as field-not-zero-proved}
+use Rattle.results.proofs.finite.MagneticFinite.{nowhere_zero}
+use Rattle.results.proofs.field.FieldNotZero.{field_not_zero as field-not-zero-proved}
 use Rattle.results.specs.FiniteOrNot.{
   PointNumbers,
   AcceptedInRange,
@@ -65,86 +65,86 @@ use Rattle.results.specs.FiniteOrNot.{
   BlendOverflows,
 }
 
-pub point-numbers : PointNumbers
-point-numbers f2 file i p k = point-numbers-proved f2 file i p k
+pub point_numbers_law : PointNumbers
+point_numbers_law f2 file i p k = point-numbers-proved f2 file i p k
 
-pub accepted-in-range : AcceptedInRange
-accepted-in-range = accepted-in-range-proved
+pub accepted_in_range : AcceptedInRange
+accepted_in_range = accepted-in-range-proved
 
-pub sheet-path-finite : SheetPathFinite
-sheet-path-finite f2 file i r = sheet-path-finite-proved i r f2 file
+pub sheet_path_finite : SheetPathFinite
+sheet_path_finite f2 file i r = sheet-path-finite-proved i r f2 file
 
-pub sheet-point-finite : SheetPointFinite
-sheet-point-finite f2 file i p r t = sheet-point-finite-proved f2 file i p t r
+pub sheet_point_finite : SheetPointFinite
+sheet_point_finite f2 file i p r t = sheet-point-finite-proved f2 file i p t r
 
-pub field-not-zero : FieldNotZero
-field-not-zero c phi b h = field-not-zero-proved c phi (range-between _ _ _ b) (range-between _ _ _ h)
+pub field_not_zero : FieldNotZero
+field_not_zero c phi b h = field-not-zero-proved c phi (range_between _ _ _ b) (range_between _ _ _ h)
 
-pub une-not-zero : UneNotZero
-une-not-zero lat eastLon n h = nowhere-zero lat eastLon n (range-between _ _ _ h)
+pub une_not_zero : UneNotZero
+une_not_zero lat east_lon n h = nowhere_zero lat east_lon n (range_between _ _ _ h)
 
-pub ground-pair : GroundPair
-ground-pair = ground-pair-proved
+pub ground_pair : GroundPair
+ground_pair = ground-pair-proved
 
-pub sheet-ground-finite : SheetGroundFinite
-sheet-ground-finite = sheet-ground-finite-proved
+pub sheet_ground_finite : SheetGroundFinite
+sheet_ground_finite = sheet-ground-finite-proved
 
-pub e-height : EHeight
-e-height = e-height-proved
+pub e_height : EHeight
+e_height = e-height-proved
 
-pub es-height : EsHeight
-es-height = es-height-proved
+pub es_height : EsHeight
+es_height = es-height-proved
 
-pub sound-sheets : SoundSheets
-sound-sheets = sound-sheets-proved
+pub sound_sheets : SoundSheets
+sound_sheets = sound-sheets-proved
 
-pub point-mapped : PointMapped
-point-mapped f2 file i p s t = point-mapped-proved f2 file i p t s
+pub point_mapped : PointMapped
+point_mapped f2 file i p s t = point-mapped-proved f2 file i p t s
 
-pub sheet-es-finite : SheetEsFinite
-sheet-es-finite f2 file i p s t = sheet-es-finite-proved f2 file i p t s
+pub sheet_es_finite : SheetEsFinite
+sheet_es_finite f2 file i p s t = sheet-es-finite-proved f2 file i p t s
 
-pub sheet-layers : SheetLayers
-sheet-layers f2 file i p s t = sheet-layers-proved f2 file i p t s
+pub sheet_layers_law : SheetLayers
+sheet_layers_law f2 file i p s t = sheet-layers-proved f2 file i p t s
 
-pub sheet-finite : SheetFinite
-sheet-finite f2 file i p s t = sheet-finite-proved f2 file i p t s
+pub sheet_finite : SheetFinite
+sheet_finite f2 file i p s t = sheet-finite-proved f2 file i p t s
 
-pub zenang-range : ZenangRange
-zenang-range = zenang-range-proved
+pub zenang_range : ZenangRange
+zenang_range = zenang-range-proved
 
-pub beyond-none : BeyondNone
-beyond-none f2 file i p r f month t = beyond-none-proved f2 file i p t r f month
+pub beyond_none : BeyondNone
+beyond_none f2 file i p r f month t = beyond-none-proved f2 file i p t r f month
 
-pub none-beyond : NoneBeyond
-none-beyond f2 file i p r f month t = none-beyond-proved f2 file i p t r f month
+pub none_beyond : NoneBeyond
+none_beyond f2 file i p r f month t = none-beyond-proved f2 file i p t r f month
 
-pub zenang-example : ZenangExample
-zenang-example = zenang-example-proved
+pub zenang_example : ZenangExample
+zenang_example = zenang-example-proved
 
-pub rat-nan : RatNan
-rat-nan = rat-nan-proved
+pub rat_nan : RatNan
+rat_nan = rat-nan-proved
 
-pub yi2-nan : Yi2Nan
-yi2-nan = yi2-nan-proved
+pub yi2_nan : Yi2Nan
+yi2_nan = yi2-nan-proved
 
-pub hpf2-finite : Hpf2Finite
-hpf2-finite m ssn gmt psc hmym pt mag g t = (hpf2-finite-proved m ssn gmt psc hmym pt mag g t).size
+pub hpf2_finite : Hpf2Finite
+hpf2_finite m ssn gmt psc hmym pt mag g t = (hpf2-finite-proved m ssn gmt psc hmym pt mag g t).size
 
-pub hpf2-at-zero : Hpf2AtZero
-hpf2-at-zero = hpf2-at-zero-proved
+pub hpf2_at_zero : Hpf2AtZero
+hpf2_at_zero = hpf2-at-zero-proved
 
-pub no-sun-layers : NoSunLayers
-no-sun-layers = no-sun-layers-proved
+pub no_sun_layers : NoSunLayers
+no_sun_layers = no-sun-layers-proved
 
-pub no-sun-row : NoSunRow
-no-sun-row = no-sun-row-proved
+pub no_sun_row : NoSunRow
+no_sun_row = no-sun-row-proved
 
-pub shown-finite : ShownFinite
-shown-finite = shown-finite-proved
+pub shown_finite : ShownFinite
+shown_finite = shown-finite-proved
 
-pub month-numbers-sound : MonthNumbersSound
-month-numbers-sound = month-numbers
+pub month_numbers_sound : MonthNumbersSound
+month_numbers_sound = month_numbers
 
-pub blend-overflows : BlendOverflows
-blend-overflows = blend-overflows-proved
+pub blend_overflows : BlendOverflows
+blend_overflows = blend-overflows-proved

@@ -6,94 +6,94 @@ use Rattle.worksheet.specs.Showing.{pair}
 use Rattle.results.proofs.force.Insured as Line
 use Rattle.results.proofs.force.Lasting as Lasting
 use Rattle.results.proofs.force.Unbroken as Unbroken
-use Rattle.jutetrowel.specs.Words.{worksheetOf}
+use Rattle.jutetrowel.specs.Words.{worksheet_of}
 use Rattle.results.proofs.force.InsuredOver as Over
 use Rattle.results.specs.Insurer.{InsurersSentence, InsurersSentenceOpened, InsurersSentenceHanded, StayInRange, AlwaysShown, FirstShowing, ShowingsExist, InsurersSentenceLent, InsurersSentenceOver, ChangeNeverCancelled, ChangeNeverCancelledOver, CommitSource, ChangeSource, UndisturbedDraft, CommitUndisturbed, InsurersLine, InsurersLineLent, InsurersLineOver, OpenedInForce, InputsInForce, InForceOver, BegunInForce, CommitsExactly, InForceExactly, OpenedExactly, SomeOpen}
-use Rattle.results.proofs.files.GoodFiles.{files-accepted}
+use Rattle.results.proofs.files.GoodFiles.{files_accepted}
 use Rattle.results.proofs.sheet.AlwaysShown as Shown
 use Rattle.results.proofs.sheet.HandedBack as HandedBack
 use Rattle.results.proofs.sheet.ClosedDesks.{at_rest}
 use Rattle.results.proofs.sheet.Opening as Opening
 
-pub insurers-sentence : InsurersSentence
-insurers-sentence f2 file = Unbroken.insurers-sentence (pair f2 file)
+pub insurers_sentence : InsurersSentence
+insurers_sentence f2 file = Unbroken.insurers_sentence (pair f2 file)
 
-pub insurers-sentence-opened : InsurersSentenceOpened
-insurers-sentence-opened f2 file = Over.insurers-sentence-opened (pair f2 file)
+pub insurers_sentence_opened : InsurersSentenceOpened
+insurers_sentence_opened f2 file = Over.insurers_sentence_opened (pair f2 file)
 
-pub insurers-sentence-handed : InsurersSentenceHanded
-insurers-sentence-handed f2 file = HandedBack.insurers-sentence-handed (pair f2 file)
+pub insurers_sentence_handed : InsurersSentenceHanded
+insurers_sentence_handed f2 file = HandedBack.insurers_sentence_handed (pair f2 file)
 
-pub stay-in-range : StayInRange
-stay-in-range = Shown.stay-in-range
+pub stay_in_range : StayInRange
+stay_in_range = Shown.stay_in_range
 
-pub always-shown : AlwaysShown
-always-shown = Shown.always-shown
+pub always_shown : AlwaysShown
+always_shown = Shown.always_shown
 
-pub first-showing : FirstShowing
-first-showing = Shown.first-showing
+pub first_showing : FirstShowing
+first_showing = Shown.first_showing
 
-pub some-open : SomeOpen
-some-open = (Opening.openingBytes, (refl, (Opening.of-bytes, Opening.opens)))
+pub some_open : SomeOpen
+some_open = (Opening.opening_bytes, (refl, (Opening.of_bytes, Opening.opens)))
 
-pub showings-exist : ShowingsExist
-showings-exist = (_, (_, Shown.first-showing _ _ files-accepted))
+pub showings_exist : ShowingsExist
+showings_exist = (_, (_, Shown.first_showing _ _ files_accepted))
 
-pub insurers-sentence-lent : InsurersSentenceLent
-insurers-sentence-lent source w h = Unbroken.insurers-sentence-lent source w (at_rest w h)
+pub insurers_sentence_lent : InsurersSentenceLent
+insurers_sentence_lent source w h = Unbroken.insurers_sentence_lent source w (at_rest w h)
 
-pub insurers-sentence-over : InsurersSentenceOver
-insurers-sentence-over source l h = Over.insurers-sentence-over source l (at_rest (worksheetOf l) h)
+pub insurers_sentence_over : InsurersSentenceOver
+insurers_sentence_over source l h = Over.insurers_sentence_over source l (at_rest (worksheet_of l) h)
 
-pub never-cancelled : ChangeNeverCancelled
-never-cancelled source w h = Unbroken.never-cancelled source w (at_rest w h)
+pub never_cancelled : ChangeNeverCancelled
+never_cancelled source w h = Unbroken.never_cancelled source w (at_rest w h)
 
-pub never-cancelled-over : ChangeNeverCancelledOver
-never-cancelled-over source l h = Over.never-cancelled-over source l (at_rest (worksheetOf l) h)
+pub never_cancelled_over : ChangeNeverCancelledOver
+never_cancelled_over source l h = Over.never_cancelled_over source l (at_rest (worksheet_of l) h)
 
-pub commit-source : CommitSource
-commit-source source w h = Line.commit-source source w (at_rest w h)
+pub commit_source : CommitSource
+commit_source source w h = Line.commit_source source w (at_rest w h)
 
-pub change-source : ChangeSource
-change-source source w h = Line.change-source source w (at_rest w h)
+pub change_source : ChangeSource
+change_source source w h = Line.change_source source w (at_rest w h)
 
-pub undisturbed-draft : UndisturbedDraft
-undisturbed-draft source w h = Line.undisturbed-draft source w (at_rest w h)
+pub undisturbed_draft : UndisturbedDraft
+undisturbed_draft source w h = Line.undisturbed_draft source w (at_rest w h)
 
-pub commit-undisturbed : CommitUndisturbed
-commit-undisturbed source w h cs c m =
+pub commit_undisturbed : CommitUndisturbed
+commit_undisturbed source w h cs c m =
     let rest = at_rest w h in
-    let k = Line.commit-source source w rest cs c m in
-    let committed = Unbroken.commit-call c.desk c.entry.call k.is-commit in
+    let k = Line.commit_source source w rest cs c m in
+    let committed = Unbroken.commit_call c.desk c.entry.call k.is_commit in
     let before = reverse c.past in
-    (k, Line.undisturbed-draft source w rest cs before k.after c.entry c.desk k.split committed k.committed)
+    (k, Line.undisturbed_draft source w rest cs before k.after c.entry c.desk k.split committed k.committed)
 
-pub insurers-line : InsurersLine
-insurers-line f2 file = Line.insurers-line (pair f2 file)
+pub insurers_line : InsurersLine
+insurers_line f2 file = Line.insurers_line (pair f2 file)
 
-pub insurers-line-lent : InsurersLineLent
-insurers-line-lent source w h = Line.insurers-line-lent source w (at_rest w h)
+pub insurers_line_lent : InsurersLineLent
+insurers_line_lent source w h = Line.insurers_line_lent source w (at_rest w h)
 
-pub insurers-line-over : InsurersLineOver
-insurers-line-over f2 file = Over.insurers-line-over (pair f2 file)
+pub insurers_line_over : InsurersLineOver
+insurers_line_over f2 file = Over.insurers_line_over (pair f2 file)
 
-pub opened-in-force : OpenedInForce
-opened-in-force f2 file = Line.opened-in-force (pair f2 file)
+pub opened_in_force : OpenedInForce
+opened_in_force f2 file = Line.opened_in_force (pair f2 file)
 
-pub in-force : InputsInForce
-in-force source w h = Line.in-force source w (at_rest w h)
+pub in_force_law : InputsInForce
+in_force_law source w h = Line.in_force_law source w (at_rest w h)
 
-pub in-force-over : InForceOver
-in-force-over source l h = Over.in-force-over source l (at_rest (worksheetOf l) h)
+pub in_force_over : InForceOver
+in_force_over source l h = Over.in_force_over source l (at_rest (worksheet_of l) h)
 
-pub begun-in-force : BegunInForce
-begun-in-force source w h = Line.begun-in-force source w (at_rest w h)
+pub begun_in_force : BegunInForce
+begun_in_force source w h = Line.begun_in_force source w (at_rest w h)
 
-pub commits-exactly : CommitsExactly
-commits-exactly source w h = Lasting.commits-exactly source w (at_rest w h)
+pub commits_exactly : CommitsExactly
+commits_exactly source w h = Lasting.commits_exactly source w (at_rest w h)
 
-pub in-force-exactly : InForceExactly
-in-force-exactly source w h = Lasting.in-force-exactly source w (at_rest w h)
+pub in_force_exactly : InForceExactly
+in_force_exactly source w h = Lasting.in_force_exactly source w (at_rest w h)
 
-pub opened-exactly : OpenedExactly
-opened-exactly f2 file = Lasting.opened-exactly (pair f2 file)
+pub opened_exactly : OpenedExactly
+opened_exactly f2 file = Lasting.opened_exactly (pair f2 file)

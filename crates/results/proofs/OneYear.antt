@@ -5,7 +5,7 @@ use lib.Ieee.{Float}
 use Prim.Native.Nat.{ℕ}
 use Rattle.maps.specs.declared.geometry.Uses.{Uses}
 use Rattle.maps.specs.declared.inputs.Inputs.{Inputs}
-use Rattle.maps.specs.Figures.{hourFrom, hourOf, pointRow, figureRow, figuresTo, sheetPath, figuresOf}
+use Rattle.maps.specs.Figures.{hour_from, hour_of, point_row, figure_row, figures_to, sheet_path, figures_of}
 use Rattle.worksheet.specs.Inputs.{edited}
 use Rattle.worksheet.specs.Showing.{yearly}
 use Rattle.worksheet.specs.Journal.{Entry}
@@ -25,81 +25,81 @@ use Rattle.results.proofs.sheet.HandedBack as HandedBack
 use Rattle.results.proofs.force.Unbroken as Unbroken
 use Rattle.results.proofs.force.InsuredOver as Over
 
-pub year-good : YearGood
-year-good = Directory.year-good
+pub year_good : YearGood
+year_good = Directory.year_good
 
-pub year-refused : YearRefused
-year-refused = Directory.year-refused
+pub year_refused : YearRefused
+year_refused = Directory.year_refused
 
-pub year-answers : YearAnswers
-year-answers = Directory.year-answers
+pub year_answers : YearAnswers
+year_answers = Directory.year_answers
 
-pub parts-inside : PartsInside
-parts-inside = Directory.parts-inside
+pub parts_inside : PartsInside
+parts_inside = Directory.parts_inside
 
-pub parts-apart : PartsApart
-parts-apart = Directory.parts-apart
+pub parts_apart : PartsApart
+parts_apart = Directory.parts_apart
 
-pub packed-accepted : PackedAccepted
-packed-accepted = Packed.packed-accepted
+pub packed_accepted : PackedAccepted
+packed_accepted = Packed.packed_accepted
 
-pub packed-parts : PackedParts
-packed-parts = Packed.packed-parts
+pub packed_parts : PackedParts
+packed_parts = Packed.packed_parts
 
-pub year-files-exactly : YearFilesExactly
-year-files-exactly = Exactly.year-files-exactly
+pub year_files_exactly : YearFilesExactly
+year_files_exactly = Exactly.year_files_exactly
 
-pub year-showing-exactly : YearShowingExactly
-year-showing-exactly = Exactly.year-showing-exactly
+pub year_showing_exactly : YearShowingExactly
+year_showing_exactly = Exactly.year_showing_exactly
 
-pub one-month-one-model : OneMonthOneModel
-one-month-one-model = Own.one-month-one-model
+pub one_month_one_model : OneMonthOneModel
+one_month_one_model = Own.one_month_one_model
 
-pub demand-3-year : DemandThreeYear
-demand-3-year s = Rules.demand-3 (yearly s)
+pub demand_3_year : DemandThreeYear
+demand_3_year s = Rules.demand_3 (yearly s)
 
-pub demand-3-year-over : DemandThreeYearOver
-demand-3-year-over s = Carried.demand-3-over (yearly s)
+pub demand_3_year_over : DemandThreeYearOver
+demand_3_year_over s = Carried.demand_3_over (yearly s)
 
 -- the set of an insured showing is of one month, one model and their own two parts
-in-year : (s : List ℕ) (start : Inputs) (entries : List Entry) (count : ℕ) (uses : Uses) (figures : List Float) →
+in_year : (s : List ℕ) (start : Inputs) (entries : List Entry) (count : ℕ) (uses : Uses) (figures : List Float) →
     Insured (yearly s) start entries count uses figures → InsuredInYear s start entries count uses figures
-in-year s start entries count uses figures h =
-    record { insured = h; own-parts = Own.figures-own-parts s (changed start h.edits) count uses figures h.one_set }
+in_year s start entries count uses figures h =
+    record { insured = h; own_parts = Own.figures_own_parts s (changed start h.edits) count uses figures h.one_set }
 
-pub insurers-sentence-year : InsurersSentenceYear
-insurers-sentence-year s opened h cs before later lent figures count uses e =
-    in-year s opened before count uses figures
-    (Unbroken.insurers-sentence (yearly s) opened h cs before later lent figures count uses e)
+pub insurers_sentence_year : InsurersSentenceYear
+insurers_sentence_year s opened h cs before later lent figures count uses e =
+    in_year s opened before count uses figures
+    (Unbroken.insurers_sentence (yearly s) opened h cs before later lent figures count uses e)
 
-pub insurers-sentence-year-over : InsurersSentenceYearOver
-insurers-sentence-year-over s words lent h cs k before later buffer figures count uses e =
-    in-year s _ before count uses figures
-    (Over.insurers-sentence-opened (yearly s) words lent h cs k before later buffer figures count uses e)
+pub insurers_sentence_year_over : InsurersSentenceYearOver
+insurers_sentence_year_over s words lent h cs k before later buffer figures count uses e =
+    in_year s _ before count uses figures
+    (Over.insurers_sentence_opened (yearly s) words lent h cs k before later buffer figures count uses e)
 
-pub insurers-sentence-year-handed : InsurersSentenceYearHanded
-insurers-sentence-year-handed s words lent h cs k buffer figures r given zero =
-    in-year s _ _ r.points _ figures
-    (HandedBack.insurers-sentence-handed (yearly s) words lent h cs k buffer figures r given zero)
+pub insurers_sentence_year_handed : InsurersSentenceYearHanded
+insurers_sentence_year_handed s words lent h cs k buffer figures r given zero =
+    in_year s _ _ r.points _ figures
+    (HandedBack.insurers_sentence_handed (yearly s) words lent h cs k buffer figures r given zero)
 
-pub year-always-shown : YearAlwaysShown
-year-always-shown = Own.year-always-shown
+pub year_always_shown : YearAlwaysShown
+year_always_shown = Own.year_always_shown
 
-pub packed-shown : PackedShown
-packed-shown parts n = (All.all_shown parts n, All.each-good parts n)
+pub packed_shown : PackedShown
+packed_shown parts n = (All.all_shown parts n, All.each_good parts n)
 
-pub good-year-shown : GoodYearShown
-good-year-shown = Good.good-year-shown
+pub good_year_shown : GoodYearShown
+good_year_shown = Good.good_year_shown
 
-pub good-year-bytes : GoodYearBytes
-good-year-bytes = Good.good-year-bytes
+pub good_year_bytes : GoodYearBytes
+good_year_bytes = Good.good_year_bytes
 
-pub december-shown : DecemberShown
-december-shown = December.december
+pub december_shown : DecemberShown
+december_shown = December.december
 
-pub sheet-opened-first : SheetOpenedFirst
-sheet-opened-first = Words.sheet-opened-first
+pub sheet_opened_first : SheetOpenedFirst
+sheet_opened_first = Words.sheet_opened_first
 
-pub model-only-picks : ModelOnlyPicks
-unfolding sheetPath figuresOf figuresTo figureRow pointRow hourOf hourFrom edited
-model-only-picks f2 file i m = (refl, refl)
+pub model_only_picks : ModelOnlyPicks
+unfolding sheet_path figures_of figures_to figure_row point_row hour_of hour_from edited
+model_only_picks f2 file i m = (refl, refl)

@@ -5,23 +5,23 @@ use Rattle.results.proofs.reading.Parts as Parts
 use Rattle.results.proofs.reading.Reread as Reread
 use Rattle.results.proofs.reading.Journals as Journals
 
-pub call-reread : CallReread
-call-reread = Reread.call-reread
+pub call_reread : CallReread
+call_reread = Reread.call_reread
 
-pub open-reread : OpenReread
-open-reread = Reread.open-reread
+pub open_reread : OpenReread
+open_reread = Reread.open_reread
 
-pub calls-good : CallsGood
-calls-good = Parts.read-call
+pub calls_good : CallsGood
+calls_good = Parts.read_call
 
-pub opens-good : OpensGood
-opens-good = Parts.read-open
+pub opens_good : OpensGood
+opens_good = Parts.read_open
 
-pub call-one-line : CallOneLine
-call-one-line = Journals.call-one-line
+pub call_one_line : CallOneLine
+call_one_line = Journals.call_one_line
 
-pub open-one-line : OpenOneLine
-open-one-line = Journals.open-one-line
+pub open_one_line : OpenOneLine
+open_one_line = Journals.open_one_line
 
-pub journal-rewritten : JournalRewritten
-journal-rewritten o cs first accepted others = Journals.journal-rewritten o cs first others accepted
+pub journal_rewritten : JournalRewritten
+journal_rewritten o cs first accepted others = Journals.journal_rewritten o cs first others accepted

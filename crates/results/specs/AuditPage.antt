@@ -8,7 +8,7 @@
 use Rattle.std.specs.Prelude.{ℕ, suc, ◌≤◌, min, true, false, cond, List, [], ◌∷◌, ◌++◌, ◌↔◌, ◌≡◌, length, take, Float}
 use Rattle.base.specs.declared.refusal.Refusal.{Refusal}
 use Rattle.base.specs.declared.refusal.Verdict.TheVariants.{Accepted, Refused as NotPassed}
-use Rattle.base.specs.Files.{filesCheck}
+use Rattle.base.specs.Files.{files_check}
 use Rattle.maps.specs.declared.geometry.Uses.{Uses}
 use Rattle.maps.specs.declared.figures.Shown.TheVariants.{Points, Refused as NotShown}
 use Rattle.maps.specs.declared.inputs.Inputs.{Inputs}
@@ -16,34 +16,34 @@ use Rattle.worksheet.specs.declared.desks.Worksheet.{Worksheet}
 use Rattle.worksheet.specs.Inputs.{edited}
 use Rattle.worksheet.specs.Showing.{Source, pair}
 use Rattle.worksheet.specs.Journal.{show, shown, Entry, begins, shorter, calls_of}
-use Rattle.worksheet.specs.InForce.{inForce, FiguresOf}
+use Rattle.worksheet.specs.InForce.{in_force, FiguresOf}
 use Rattle.wording.specs.declared.line.Line.TheVariants.{Open}
 use Rattle.wording.specs.declared.written.WrittenCall.{WrittenCall}
 use Rattle.wording.specs.declared.written.WrittenCall.TheVariants.{Show}
 use Rattle.wording.specs.declared.written.WrittenInputs.{WrittenInputs}
 use Rattle.wording.specs.Token.{ascii}
-use Rattle.wording.specs.Written.{inputsWritten}
+use Rattle.wording.specs.Written.{inputs_written}
 use Rattle.listing.specs.declared.account.Came.{Came}
 use Rattle.listing.specs.declared.account.Came.TheVariants.{Opened, Set}
-use Rattle.listing.specs.Account.{cameLine, titleText, draftsHead, noneLine, shorterHead, sheetHead}
-use Rattle.listing.specs.Columns.{columnsText}
-use Rattle.listing.specs.Fields.{in_turn, fieldText}
-use Rattle.listing.specs.Spoken.{spokenText}
+use Rattle.listing.specs.Account.{came_line, title_text, drafts_head, none_line, shorter_head, sheet_head}
+use Rattle.listing.specs.Columns.{columns_text}
+use Rattle.listing.specs.Fields.{in_turn, field_text}
+use Rattle.listing.specs.Spoken.{spoken_text}
 use Rattle.listing.specs.Turn.{blank}
-use Rattle.listing.specs.Written.{lineText}
-use Rattle.sitting.specs.Sitting.{firstSitting}
+use Rattle.listing.specs.Written.{line_text}
+use Rattle.sitting.specs.Sitting.{first_sitting}
 use Rattle.auditing.specs.declared.accounts.Showing.TheVariants.{Shown, Refused}
 use Rattle.auditing.specs.declared.gathering.Gathered.{Gathered}
 use Rattle.auditing.specs.declared.marks.Fate.TheVariants.{Stands}
 use Rattle.auditing.specs.declared.marks.Refused.TheVariants.{Never}
-use Rattle.auditing.specs.Provenance.{StandingChange, lastStanding, fateOf, refusedOf}
-use Rattle.auditing.specs.Marks.{keptPlaces}
-use Rattle.auditing.specs.Gathered.{Numbered, sits, toldBy, callTold, callsTold, numbersTold, sheetOpened, runTold, Gathers}
-use Rattle.auditing.specs.Accounts.{number_at, showingAt, fieldPart, fieldAccount, balkedBy, fateLine, draftAccount, lineAccount, sheetAccount}
-use Rattle.auditing.specs.Page.{draftsText, noDrafts, pageSize, pagePart}
-use Rattle.results.specs.Insurer.{acceptedShowing}
-use Rattle.results.specs.ReadBack.{callLines, numberedFrom}
-use Rattle.results.specs.Heard.{heardBy}
+use Rattle.auditing.specs.Provenance.{StandingChange, last_standing, fate_of, refused_of}
+use Rattle.auditing.specs.Marks.{kept_places}
+use Rattle.auditing.specs.Gathered.{Numbered, sits, told_by, call_told, calls_told, numbers_told, sheet_opened, run_told, Gathers}
+use Rattle.auditing.specs.Accounts.{number_at, showing_at, field_part, field_account, balked_by, fate_line, draft_account, line_account, sheet_account}
+use Rattle.auditing.specs.Page.{drafts_text, no_drafts, page_size, page_part}
+use Rattle.results.specs.Insurer.{accepted_showing}
+use Rattle.results.specs.ReadBack.{call_lines, numbered_from}
+use Rattle.results.specs.Heard.{heard_by}
 
 -- ---- words of this page
 
@@ -54,53 +54,53 @@ pub record Audited : Type 0 where
   pub text : List ℕ
   pub lines : ℕ
   pub opening : WrittenInputs
-  pub openedAt : ℕ
+  pub opened_at : ℕ
   pub calls : List Numbered
-  pub told : toldBy text lines ≡ sits opening openedAt calls
+  pub told : told_by text lines ≡ sits opening opened_at calls
   pub kept : Gathered
   pub marks : List ℕ
   pub numbers : List ℕ
   pub starts : List ℕ
   pub gathered : Gathers source text lines kept marks numbers starts
-  pub marks-room : length calls ≤ length marks
-  pub numbers-room : length calls ≤ length numbers
-  pub starts-room : length calls ≤ length starts
+  pub marks_room : length calls ≤ length marks
+  pub numbers_room : length calls ≤ length numbers
+  pub starts_room : length calls ≤ length starts
 
 -- the worksheet that was opened, and the run of the calls on it
-abbrev pub openedSheet : Audited → Worksheet
-openedSheet a = sheetOpened a.opening
+abbrev pub opened_sheet : Audited → Worksheet
+opened_sheet a = sheet_opened a.opening
 
-abbrev pub entriesIn : Audited → List Entry
-entriesIn a = (runTold a.source a.opening a.calls).entries
+abbrev pub entries_in : Audited → List Entry
+entries_in a = (run_told a.source a.opening a.calls).entries
 
 -- the numbers of the calls' lines, by places
-abbrev pub linesIn : Audited → List ℕ
-linesIn a = numbersTold a.calls
+abbrev pub lines_in : Audited → List ℕ
+lines_in a = numbers_told a.calls
 
 -- where a field comes from, by the last standing change of its part, or none: the change's desk, its
 -- line and its commit's, or the open's line
-abbrev pub cameFrom : Audited → List StandingChange → Came
-cameFrom a [] = Opened a.openedAt
-cameFrom a (x ∷ l) = Set x.desk (number_at (linesIn a) x.place) (number_at (linesIn a) x.settled)
+abbrev pub came_from : Audited → List StandingChange → Came
+came_from a [] = Opened a.opened_at
+came_from a (x ∷ l) = Set x.desk (number_at (lines_in a) x.place) (number_at (lines_in a) x.settled)
 
 -- the page's shorter journal: the open, and the calls at the places kept, each line written anew
-unfoldable pub linesAt : List ℕ → List ℕ → List ℕ → List ℕ
-linesAt text starts [] = []
-linesAt text starts (p ∷ ps) = lineAccount text (number_at starts p) ++ linesAt text starts ps
+unfoldable pub lines_at : List ℕ → List ℕ → List ℕ → List ℕ
+lines_at text starts [] = []
+lines_at text starts (p ∷ ps) = line_account text (number_at starts p) ++ lines_at text starts ps
 
-abbrev pub placesKept : Audited → List ℕ
-placesKept a = keptPlaces a.marks a.kept.count
+abbrev pub places_kept : Audited → List ℕ
+places_kept a = kept_places a.marks a.kept.count
 
 -- the calls at some places, as they were written; a take-back for a place past their end
 unfoldable pub calls_at : List Numbered → List ℕ → List WrittenCall
 calls_at cs [] = []
-calls_at cs (p ∷ ps) = callTold cs p ∷ calls_at cs ps
+calls_at cs (p ∷ ps) = call_told cs p ∷ calls_at cs ps
 
-abbrev pub callsKept : Audited → List WrittenCall
-callsKept a = calls_at a.calls (placesKept a)
+abbrev pub calls_kept : Audited → List WrittenCall
+calls_kept a = calls_at a.calls (places_kept a)
 
-abbrev pub shorterText : Audited → List ℕ
-shorterText a = lineAccount a.text a.kept.start ++ linesAt a.text a.starts (placesKept a)
+abbrev pub shorter_text : Audited → List ℕ
+shorter_text a = line_account a.text a.kept.start ++ lines_at a.text a.starts (places_kept a)
 
 -- the last call shows the worksheet, stands on this line, and was not refused
 pub record ShownLast (a : Audited) (line : ℕ) : Type 0 where
@@ -110,8 +110,8 @@ pub record ShownLast (a : Audited) (line : ℕ) : Type 0 where
   pub uses : Uses
   pub figures : List Float
   pub answered :
-      entriesIn a
-      ≡ (runTold a.source a.opening before).entries ++ (acceptedShowing blank points uses figures ∷ [])
+      entries_in a
+      ≡ (run_told a.source a.opening before).entries ++ (accepted_showing blank points uses figures ∷ [])
 
 -- the last call shows the worksheet, stands on this line, and was refused
 pub record RefusedShowing (a : Audited) (line : ℕ) : Type 0 where
@@ -120,8 +120,8 @@ pub record RefusedShowing (a : Audited) (line : ℕ) : Type 0 where
   pub why : Refusal
   pub buffer : List Float
   pub answered :
-      entriesIn a
-      ≡ (runTold a.source a.opening before).entries
+      entries_in a
+      ≡ (run_told a.source a.opening before).entries
       ++ (record { call = show 0 blank; answer = shown (NotShown why) buffer } ∷ [])
 
 -- ---- of which lines there is a page
@@ -131,7 +131,7 @@ pub record RefusedShowing (a : Audited) (line : ℕ) : Type 0 where
 abbrev pub PageShowing : Type 0
 PageShowing =
     (a : Audited) (line : ℕ) →
-    (showingAt a.marks a.numbers a.kept.count line ≡ Shown) ↔ ShownLast a line
+    (showing_at a.marks a.numbers a.kept.count line ≡ Shown) ↔ ShownLast a line
 
 -- It answers `Refused`, on which `desk` prints the refusal instead, exactly where the last of them shows the
 -- worksheet, stands on the line asked for, and was refused. So with `PageShowing`, where neither is so, it
@@ -139,7 +139,7 @@ PageShowing =
 abbrev pub PageRefused : Type 0
 PageRefused =
     (a : Audited) (line : ℕ) →
-    (showingAt a.marks a.numbers a.kept.count line ≡ Refused) ↔ RefusedShowing a line
+    (showing_at a.marks a.numbers a.kept.count line ≡ Refused) ↔ RefusedShowing a line
 
 -- ---- where the fields come from
 
@@ -149,24 +149,24 @@ PageRefused =
 abbrev pub PageFields : Type 0
 PageFields =
     (a : Audited) (k : ℕ) →
-    fieldAccount a.kept.sheet.inputs a.kept.opened a.marks a.numbers a.kept.count k
-    ≡ cameLine (inForce (openedSheet a) (entriesIn a)) k
-    (cameFrom a (lastStanding (fieldPart k) (openedSheet a) (entriesIn a)))
+    field_account a.kept.sheet.inputs a.kept.opened a.marks a.numbers a.kept.count k
+    ≡ came_line (in_force (opened_sheet a) (entries_in a)) k
+    (came_from a (last_standing (field_part k) (opened_sheet a) (entries_in a)))
 
 -- Where a change is named for a field, the field's text is what that change makes of it on any inputs.
 -- That it is the change of the line named is `NamedStands` (Audit.antt)
 abbrev pub PageSetValue : Type 0
 PageSetValue =
     (a : Audited) (k : ℕ) → 1 ≤ k → k ≤ 15 → (x : StandingChange) (others : List StandingChange) →
-    lastStanding (fieldPart k) (openedSheet a) (entriesIn a) ≡ x ∷ others → (any : Inputs) →
-    fieldText (inForce (openedSheet a) (entriesIn a)) k ≡ fieldText (edited x.edit any) k
+    last_standing (field_part k) (opened_sheet a) (entries_in a) ≡ x ∷ others → (any : Inputs) →
+    field_text (in_force (opened_sheet a) (entries_in a)) k ≡ field_text (edited x.edit any) k
 
 -- Where none is, it is the text of the field as it was opened
 abbrev pub PageOpenedValue : Type 0
 PageOpenedValue =
     (a : Audited) (k : ℕ) → 1 ≤ k → k ≤ 15 →
-    lastStanding (fieldPart k) (openedSheet a) (entriesIn a) ≡ [] →
-    fieldText (inForce (openedSheet a) (entriesIn a)) k ≡ fieldText (inputsWritten a.opening) k
+    last_standing (field_part k) (opened_sheet a) (entries_in a) ≡ [] →
+    field_text (in_force (opened_sheet a) (entries_in a)) k ≡ field_text (inputs_written a.opening) k
 
 -- ---- the drafts that are not in it
 
@@ -175,27 +175,27 @@ PageOpenedValue =
 -- and before that the line of its last refused commit, if one was refused
 abbrev pub PageDrafts : Type 0
 PageDrafts =
-    (a : Audited) (n : ℕ) (front later : List Entry) (b : Entry) → entriesIn a ≡ front ++ (b ∷ later) →
+    (a : Audited) (n : ℕ) (front later : List Entry) (b : Entry) → entries_in a ≡ front ++ (b ∷ later) →
     begins n b ≡ true →
     let p = length front in
-    draftAccount a.marks a.numbers a.kept.count p
-    ≡ fateLine (linesIn a) n (number_at (linesIn a) p) (balkedBy (linesIn a) (refusedOf n Never (suc p) later))
-    (fateOf n (suc p) later)
+    draft_account a.marks a.numbers a.kept.count p
+    ≡ fate_line (lines_in a) n (number_at (lines_in a) p) (balked_by (lines_in a) (refused_of n Never (suc p) later))
+    (fate_of n (suc p) later)
 
 -- and no other call has a line
 abbrev pub PageNoDraft : Type 0
 PageNoDraft =
-    (a : Audited) (front later : List Entry) (x : Entry) → entriesIn a ≡ front ++ (x ∷ later) →
+    (a : Audited) (front later : List Entry) (x : Entry) → entries_in a ≡ front ++ (x ∷ later) →
     ((n : ℕ) → begins n x ≡ false) →
-    draftAccount a.marks a.numbers a.kept.count (length front) ≡ []
+    draft_account a.marks a.numbers a.kept.count (length front) ≡ []
 
 -- So `none` stands in their place exactly where every draft that was begun stands
 abbrev pub PageNone : Type 0
 PageNone =
     (a : Audited) →
-    (noDrafts a.marks a.numbers a.kept.count ≡ true)
-    ↔ ((n : ℕ) (front later : List Entry) (b : Entry) → entriesIn a ≡ front ++ (b ∷ later) → begins n b ≡ true →
-    (s : ℕ) × (fateOf n (suc (length front)) later ≡ Stands s))
+    (no_drafts a.marks a.numbers a.kept.count ≡ true)
+    ↔ ((n : ℕ) (front later : List Entry) (b : Entry) → entries_in a ≡ front ++ (b ∷ later) → begins n b ≡ true →
+    (s : ℕ) × (fate_of n (suc (length front)) later ≡ Stands s))
 
 -- ---- the shorter journal
 
@@ -203,9 +203,9 @@ PageNone =
 -- tells the open on line 1 and these calls from line 2 on, and they are the calls of document 01's
 -- shorter list
 pub record ShorterTold (a : Audited) : Type 0 where
-  pub written : shorterText a ≡ lineText (Open a.opening) ++ callLines (callsKept a)
-  pub told : toldBy (shorterText a) (suc (length (callsKept a))) ≡ sits a.opening 1 (numberedFrom 2 (callsKept a))
-  pub shorter-list : callsTold (numberedFrom 2 (callsKept a)) ≡ calls_of (shorter [] (entriesIn a))
+  pub written : shorter_text a ≡ line_text (Open a.opening) ++ call_lines (calls_kept a)
+  pub told : told_by (shorter_text a) (suc (length (calls_kept a))) ≡ sits a.opening 1 (numbered_from 2 (calls_kept a))
+  pub shorter_list : calls_told (numbered_from 2 (calls_kept a)) ≡ calls_of (shorter [] (entries_in a))
 
 -- The text of the shorter journal is the same open and exactly the calls of the shorter list, those of the
 -- journal at the places kept with the digits that were read there, each written anew on a line of its own,
@@ -216,28 +216,28 @@ PageShorter = (a : Audited) → ShorterTold a
 
 -- It has no more calls than the journal, so that what has room for these has room for it
 abbrev pub PageRoom : Type 0
-PageRoom = (a : Audited) → length (placesKept a) ≤ length a.calls
+PageRoom = (a : Audited) → length (places_kept a) ≤ length a.calls
 
--- So the parts that the page has of its calls (`shorterPart`), by the places that `kept_in` gave in a
+-- So the parts that the page has of its calls (`shorter_part`), by the places that `kept_in` gave in a
 -- buffer with room for the journal's calls, are all of them in their order
 abbrev pub PageCalls : Type 0
 PageCalls =
     (a : Audited) (places : List ℕ) (size : ℕ) → length a.calls ≤ length places →
-    size ≡ min (length (placesKept a)) (suc (length places)) →
-    (let n = min size (length places) in take n places ≡ take n (placesKept a)) →
-    in_turn (λ (j : ℕ). lineAccount a.text (number_at a.starts (number_at places j))) size
-    ≡ linesAt a.text a.starts (placesKept a)
+    size ≡ min (length (places_kept a)) (suc (length places)) →
+    (let n = min size (length places) in take n places ≡ take n (places_kept a)) →
+    in_turn (λ (j : ℕ). line_account a.text (number_at a.starts (number_at places j))) size
+    ≡ lines_at a.text a.starts (places_kept a)
 
 -- What is said of the shorter journal, heard line by line as `desk run` hears it, ends with the same
 -- showing: of the same inputs, with the same number of points, the same uses and the same figures
 abbrev pub PageSameSheet : Type 0
 PageSameSheet =
     (a : Audited) (line : ℕ) (s : ShownLast a line) →
-    let n = suc (length (callsKept a)) in
+    let n = suc (length (calls_kept a)) in
     (before : List ℕ)
-    × ((heardBy a.source firstSitting (shorterText a) n).text
+    × ((heard_by a.source first_sitting (shorter_text a) n).text
     ≡ before
-    ++ spokenText n (inForce (openedSheet a) (entriesIn a)) (shown (Points s.points s.uses) s.figures))
+    ++ spoken_text n (in_force (opened_sheet a) (entries_in a)) (shown (Points s.points s.uses) s.figures))
 
 -- ---- the sheet
 
@@ -246,29 +246,29 @@ PageSameSheet =
 abbrev pub PageSheet : Type 0
 PageSheet =
     (a : Audited) (line : ℕ) (s : ShownLast a line) →
-    let i = inForce (openedSheet a) (entriesIn a) in
-    (sheetAccount a.source a.kept.sheet ≡ columnsText i s.points s.uses s.figures)
+    let i = in_force (opened_sheet a) (entries_in a) in
+    (sheet_account a.source a.kept.sheet ≡ columns_text i s.points s.uses s.figures)
     × FiguresOf a.source i s.points s.uses s.figures
 
 -- ---- the whole
 
--- The parts of the page (`pagePart`), one after the other up to the last, are the title, the lines of
+-- The parts of the page (`page_part`), one after the other up to the last, are the title, the lines of
 -- the 15 fields, the drafts' heading and their lines or `none`, the shorter journal's heading and its
 -- text, and the sheet's heading and the sheet; the title has the number that is handed to it
 abbrev pub PageWhole : Type 0
 PageWhole =
     (a : Audited) (places : List ℕ) (size line : ℕ) → length a.calls ≤ length places →
-    size ≡ min (length (placesKept a)) (suc (length places)) →
-    (let n = min size (length places) in take n places ≡ take n (placesKept a)) →
+    size ≡ min (length (places_kept a)) (suc (length places)) →
+    (let n = min size (length places) in take n places ≡ take n (places_kept a)) →
     let g = a.kept in
-    in_turn (pagePart a.source a.text g a.marks a.numbers a.starts places size line)
-    (pageSize g.count size)
-    ≡ titleText line
-    ++ (in_turn (λ (k : ℕ). fieldAccount g.sheet.inputs g.opened a.marks a.numbers g.count (suc k)) 15
-    ++ (draftsHead
-    ++ (draftsText a.marks a.numbers g.count g.count
-    ++ (cond (noDrafts a.marks a.numbers g.count) noneLine []
-    ++ (shorterHead ++ (shorterText a ++ (sheetHead ++ sheetAccount a.source g.sheet)))))))
+    in_turn (page_part a.source a.text g a.marks a.numbers a.starts places size line)
+    (page_size g.count size)
+    ≡ title_text line
+    ++ (in_turn (λ (k : ℕ). field_account g.sheet.inputs g.opened a.marks a.numbers g.count (suc k)) 15
+    ++ (drafts_head
+    ++ (drafts_text a.marks a.numbers g.count g.count
+    ++ (cond (no_drafts a.marks a.numbers g.count) none_line []
+    ++ (shorter_head ++ (shorter_text a ++ (sheet_head ++ sheet_account a.source g.sheet)))))))
 
 -- ---- and there are such pages
 
@@ -276,17 +276,17 @@ PageWhole =
 pub record TwoLines (files : Source) (room : ℕ) : Type 0 where
   pub audited : Audited
   pub over : audited.source ≡ files
-  pub its-text : audited.text ≡ ascii "open month 6 sunspot 80 hour 12 from 62.47 6.15 to 64.13 -21.9\nshow\n"
-  pub marks-are : length audited.marks ≡ room
-  pub numbers-are : length audited.numbers ≡ room
-  pub starts-are : length audited.starts ≡ room
+  pub its_text : audited.text ≡ ascii "open month 6 sunspot 80 hour 12 from 62.47 6.15 to 64.13 -21.9\nshow\n"
+  pub marks_are : length audited.marks ≡ room
+  pub numbers_are : length audited.numbers ≡ room
+  pub starts_are : length audited.starts ≡ room
 
 -- Over every record and month file that pass their checks, and for every length of at least 1, there is
 -- an audited journal of two lines, an open and `show`, in buffers of that length, whose last call shows
 -- the worksheet, stands on line 2, and was not refused
 abbrev pub PageHad : Type 0
 PageHad =
-    (f2 file : List ℕ) → filesCheck f2 file ≡ Accepted → (room : ℕ) → 1 ≤ room →
+    (f2 file : List ℕ) → files_check f2 file ≡ Accepted → (room : ℕ) → 1 ≤ room →
     (two : TwoLines (pair f2 file) room) × ShownLast two.audited 2
 
 -- Over every record and month file that do not pass them there is an audited journal of the same two lines,
@@ -294,5 +294,5 @@ PageHad =
 -- refused by what the files are refused by
 abbrev pub PageRefusedHad : Type 0
 PageRefusedHad =
-    (f2 file : List ℕ) (why : Refusal) → filesCheck f2 file ≡ NotPassed why → (room : ℕ) → 1 ≤ room →
+    (f2 file : List ℕ) (why : Refusal) → files_check f2 file ≡ NotPassed why → (room : ℕ) → 1 ≤ room →
     (two : TwoLines (pair f2 file) room) × ((showing : RefusedShowing two.audited 2) × (showing.why ≡ why))

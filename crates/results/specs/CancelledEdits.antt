@@ -10,11 +10,11 @@ use Rattle.base.specs.declared.refusal.Verdict.TheVariants.{Accepted, Refused}
 use Rattle.maps.specs.declared.inputs.Inputs.{Inputs}
 use Rattle.maps.specs.declared.figures.Shown.TheVariants.{Refused as NotShown}
 use Rattle.worksheet.specs.declared.desks.Worksheet.{Worksheet}
-use Rattle.worksheet.specs.Desks.{openOf, opened_of, sheetOpenedOf}
-use Rattle.worksheet.specs.Showing.{Source, pair, showOf, showBuffer}
-use Rattle.worksheet.specs.Journal.{Call, commit, show, shown, Entry, good, step, run, own, shorter, keep, keptByItself, OwnCall, keptOf, Demand3, accepted}
-use Rattle.jutetrowel.specs.Words.{worksheetOf, wordsAfter}
-use Rattle.jutetrowel.specs.Calls.{CallsSingles, wordsLeft, Demand3Over}
+use Rattle.worksheet.specs.Desks.{open_of, opened_of, sheet_opened_of}
+use Rattle.worksheet.specs.Showing.{Source, pair, show_of, show_buffer}
+use Rattle.worksheet.specs.Journal.{Call, commit, show, shown, Entry, good, step, run, own, shorter, keep, kept_by_itself, OwnCall, kept_of, Demand3, accepted}
+use Rattle.jutetrowel.specs.Words.{worksheet_of, words_after}
+use Rattle.jutetrowel.specs.Calls.{CallsSingles, words_left, Demand3Over}
 use Rattle.results.specs.Insurer.{DesksClosed}
 
 -- ---- demand 3: 'every call kept answers alike in both, each showing's whole figures included, and
@@ -25,15 +25,15 @@ use Rattle.results.specs.Insurer.{DesksClosed}
 -- call by call as in the full list, and inputs and earlier set end the same
 abbrev pub DemandThree : Type 0
 DemandThree =
-    (f2 file : List ℕ) (i : Inputs) → (openOf i).answer ≡ Accepted → (cs : List Call) →
-    Demand3 (pair f2 file) (openOf i).sheet cs
+    (f2 file : List ℕ) (i : Inputs) → (open_of i).answer ≡ Accepted → (cs : List Call) →
+    Demand3 (pair f2 file) (open_of i).sheet cs
 
 -- The same of the library's calls, each on the words that the one before it left, whatever words
 -- were lent to the open, if the numbers of the changes are values of an f32
 abbrev pub DemandThreeOver : Type 0
 DemandThreeOver =
     (f2 file s lent : List ℕ) → (opened_of s).answer ≡ Accepted → (cs : List Call) → CallsSingles cs →
-    Demand3Over (pair f2 file) (wordsAfter (opened_of s) lent) cs
+    Demand3Over (pair f2 file) (words_after (opened_of s) lent) cs
 
 -- The same over any source of files, of every worksheet whose desks are closed, with or without an
 -- earlier set
@@ -43,7 +43,7 @@ DemandThreeLent = (source : Source) (w : Worksheet) → DesksClosed w → (cs : 
 -- The same of the library's calls, from all words that hold such a worksheet
 abbrev pub DemandThreeOverLent : Type 0
 DemandThreeOverLent =
-    (source : Source) (l : List ℕ) → DesksClosed (worksheetOf l) → (cs : List Call) → CallsSingles cs →
+    (source : Source) (l : List ℕ) → DesksClosed (worksheet_of l) → (cs : List Call) → CallsSingles cs →
     Demand3Over source l cs
 
 -- ---- demand 3: 'form the shorter list: the accepted commits and take-backs and the worksheet's
@@ -55,7 +55,7 @@ DemandThreeOverLent =
 abbrev pub KeptInOrder : Type 0
 KeptInOrder =
     (source : Source) (w : Worksheet) (cs : List Call) →
-    keep keptByItself (keptOf source w cs) ≡ keep keptByItself (run source cs w).entries
+    keep kept_by_itself (kept_of source w cs) ≡ keep kept_by_itself (run source cs w).entries
 
 -- Where a commit of desk n is accepted, its own calls stand just before it in the shorter list,
 -- after what is kept of the entries before it, and before what is kept of those after
@@ -69,7 +69,7 @@ JustBefore =
 -- an own call of an accepted commit of the full list
 abbrev pub NothingElse : Type 0
 NothingElse =
-    (full : List Entry) (y : Entry) → Memᴰ y (shorter [] full) → (keptByItself y ≡ true) ⊎ OwnCall full y
+    (full : List Entry) (y : Entry) → Memᴰ y (shorter [] full) → (kept_by_itself y ≡ true) ⊎ OwnCall full y
 
 -- ---- demand 1: 'A refusal changes neither worksheet nor lent buffer'
 
@@ -84,14 +84,14 @@ RefusedSheet =
 -- bit for bit,
 abbrev pub RefusedWords : Type 0
 RefusedWords =
-    (source : Source) (c : Call) (l : List ℕ) → accepted (step source c (worksheetOf l)).answer ≡ false →
-    wordsLeft source c l ≡ l
+    (source : Source) (c : Call) (l : List ℕ) → accepted (step source c (worksheet_of l)).answer ≡ false →
+    words_left source c l ≡ l
 
 -- and a showing that is refused leaves the buffer as it was lent
 abbrev pub RefusedBuffer : Type 0
 RefusedBuffer =
     (source : Source) (n : ℕ) (lent : List Float) (w : Worksheet) (why : Refusal) →
-    showOf source n lent w ≡ NotShown why → showBuffer source n lent w ≡ lent
+    show_of source n lent w ≡ NotShown why → show_buffer source n lent w ≡ lent
 
 -- ---- document 01, Open: 'a refused one gives no worksheet'
 
@@ -99,11 +99,11 @@ RefusedBuffer =
 -- the same number and place, whatever is lent; of its other calls nothing is said
 abbrev pub OpenRefused : Type 0
 OpenRefused =
-    (source : Source) (i : Inputs) (lent : List Float) (why : Refusal) → (openOf i).answer ≡ Refused why →
-    showOf source 0 lent (openOf i).sheet ≡ NotShown why
+    (source : Source) (i : Inputs) (lent : List Float) (why : Refusal) → (open_of i).answer ≡ Refused why →
+    show_of source 0 lent (open_of i).sheet ≡ NotShown why
 
 -- The same of the 14 words of a sheet, with the buffer left as it was lent
 abbrev pub SheetRefused : Type 0
 SheetRefused =
-    (source : Source) (s : List ℕ) (lent : List Float) (why : Refusal) → (sheetOpenedOf s).answer ≡ Refused why →
-    (step source (show 0 lent) (sheetOpenedOf s).sheet).answer ≡ shown (NotShown why) lent
+    (source : Source) (s : List ℕ) (lent : List Float) (why : Refusal) → (sheet_opened_of s).answer ≡ Refused why →
+    (step source (show 0 lent) (sheet_opened_of s).sheet).answer ≡ shown (NotShown why) lent

@@ -7,18 +7,18 @@ use Rattle.std.specs.Float.Ieee.Scale.{finite}
 use Rattle.base.specs.declared.angle.Degrees.{Degrees}
 use Rattle.base.specs.declared.angle.Radians.{Radians}
 use Rattle.base.specs.declared.refusal.Verdict.TheVariants.{Accepted}
-use Rattle.base.specs.Single.{◌⊕◌, ◌⊖◌, ◌⊗◌, ◌⊘◌, decimal, minusDecimal}
+use Rattle.base.specs.Single.{◌⊕◌, ◌⊖◌, ◌⊗◌, ◌⊘◌, decimal, minus_decimal}
 use Rattle.base.specs.Double.{fraction}
-use Rattle.base.specs.Number.{absOf, minOf, sqrtOf}
-use Rattle.base.specs.Angle.{radiansOf}
-use Rattle.base.specs.Elementary.{sin32Of, cos32Of}
-use Rattle.base.specs.Ranges.{isTo, isMonth}
+use Rattle.base.specs.Number.{abs_of, min_of, sqrt_of}
+use Rattle.base.specs.Angle.{radians_of}
+use Rattle.base.specs.Elementary.{sin32_of, cos32_of}
+use Rattle.base.specs.Ranges.{is_to, is_month}
 use Rattle.base.specs.Words.{float_at}
 use Rattle.base.specs.Tables.{start_of, words_of, xf2cof, xfm3cf, anew}
-use Rattle.base.specs.Index.{indexCheck}
-use Rattle.base.specs.Blend.{blend_of, f2Weights, fakmapOf}
+use Rattle.base.specs.Index.{index_check}
+use Rattle.base.specs.Blend.{blend_of, f2_weights, fakmap_of}
 use Rattle.base.specs.Finite.{FiniteRecord, FiniteMonth}
-use Rattle.base.specs.Files.{filesCheck}
+use Rattle.base.specs.Files.{files_check}
 use Rattle.maps.specs.declared.geometry.Uses.{Uses}
 use Rattle.maps.specs.declared.inputs.Inputs.{Inputs}
 use Rattle.maps.specs.declared.inputs.Factors.{Factors}
@@ -30,26 +30,26 @@ use Rattle.maps.specs.declared.ionosphere.layers.LayerParams.{LayerParams}
 use Rattle.maps.specs.declared.ionosphere.layers.EsParams.{EsParams}
 use Rattle.maps.specs.declared.ionosphere.layers.Ground.{Ground}
 use Rattle.maps.specs.Geometry.{nowhere}
-use Rattle.maps.specs.Magnetic.{HC, bvOf, bnOf, magfinOf, magvarOf}
-use Rattle.maps.specs.Layers.{sunOf, sspOf, sslOf, monthlyOf, layersOf, esindOf, groundOf}
-use Rattle.maps.specs.Ionosphere.{gammasAt}
-use Rattle.maps.specs.Figures.{hourOf, numbersOf, pointRow, sheetPath, figuresOf}
+use Rattle.maps.specs.Magnetic.{HC, bv_of, bn_of, magfin_of, magvar_of}
+use Rattle.maps.specs.Layers.{sun_of, ssp_of, ssl_of, monthly_of, layers_of, esind_of, ground_of}
+use Rattle.maps.specs.Ionosphere.{gammas_at}
+use Rattle.maps.specs.Figures.{hour_of, numbers_of, point_row, sheet_path, figures_of}
 use Rattle.maps.specs.declared.figures.Shown.TheVariants.{Points}
 use Rattle.worksheet.specs.declared.desks.Worksheet.{Worksheet}
-use Rattle.worksheet.specs.Inputs.{inputsCheck}
-use Rattle.worksheet.specs.Showing.{Source, inputsShown}
+use Rattle.worksheet.specs.Inputs.{inputs_check}
+use Rattle.worksheet.specs.Showing.{Source, inputs_shown}
 use Rattle.worksheet.specs.Journal.{show, shown, step}
 
 -- ---- of what it is said
 
 -- x is a number of at most 2 ^ n in size
 abbrev pub UpToPower : ℕ → Float → Type 0
-UpToPower n x = T (le (absOf x) (fin false 1 (pos n)))
+UpToPower n x = T (le (abs_of x) (fin false 1 (pos n)))
 
 -- 'degrees, -90 to 90 and -180 to 180'
 pub record PlaceInRange (latd lond : Degrees) : Type 0 where
-  pub latitude : T (isTo (minusDecimal 90 0) (decimal 90 0) latd.0)
-  pub longitude : T (isTo (minusDecimal 180 0) (decimal 180 0) lond.0)
+  pub latitude : T (is_to (minus_decimal 90 0) (decimal 90 0) latd.0)
+  pub longitude : T (is_to (minus_decimal 180 0) (decimal 180 0) lond.0)
 
 -- both ends of a sheet's route are in range; the flag may be any word
 pub record EndsInRange (i : Inputs) : Type 0 where
@@ -63,85 +63,85 @@ pub record RouteInRange (i : Inputs) : Type 0 where
 
 -- 'hour 0 to 24 (GMT)'
 abbrev pub HourInRange : Inputs → Type 0
-HourInRange i = T (isTo (decimal 0 1) (decimal 24 0) i.gmt)
+HourInRange i = T (is_to (decimal 0 1) (decimal 24 0) i.gmt)
 
 -- 'sunspot number 0 to 300', the hour, 'four factors 0.125 to 8'
 pub record FieldsInRange (i : Inputs) : Type 0 where
-  pub sunspots : T (isTo (decimal 0 1) (decimal 300 0) i.ssn)
+  pub sunspots : T (is_to (decimal 0 1) (decimal 300 0) i.ssn)
   pub hour : HourInRange i
-  pub e : T (isTo (decimal 125 3) (decimal 8 0) i.psc.e)
-  pub f1 : T (isTo (decimal 125 3) (decimal 8 0) i.psc.f1)
-  pub f2 : T (isTo (decimal 125 3) (decimal 8 0) i.psc.f2)
-  pub es : T (isTo (decimal 125 3) (decimal 8 0) i.psc.es)
+  pub e : T (is_to (decimal 125 3) (decimal 8 0) i.psc.e)
+  pub f1 : T (is_to (decimal 125 3) (decimal 8 0) i.psc.f1)
+  pub f2 : T (is_to (decimal 125 3) (decimal 8 0) i.psc.f2)
+  pub es : T (is_to (decimal 125 3) (decimal 8 0) i.psc.es)
 
 -- the tables of the month file that figures read numbers from: `xfm3cf`, and `anew` to `xercof`
 -- (`ikim`, which they read too, has whole numbers; a number above 20 has no words)
-abbrev pub isRead : ℕ → Bool
-isRead table = cond (eqb table xfm3cf) true (leb anew table)
+abbrev pub is_read : ℕ → Bool
+is_read table = cond (eqb table xfm3cf) true (leb anew table)
 
 -- each word of the F2 planes and of those tables is a number of at most 65,536 in size
 pub record Bounded (f2 file : List ℕ) : Type 0 where
-  pub inF2 : (n : ℕ) → n < words_of xf2cof → UpToPower 16 (float_at f2 (4 * n))
-  pub inMonth :
-      (table n : ℕ) → T (isRead table) → n < words_of table → UpToPower 16 (float_at file (start_of table + 4 * n))
+  pub in_f2 : (n : ℕ) → n < words_of xf2cof → UpToPower 16 (float_at f2 (4 * n))
+  pub in_month :
+      (table n : ℕ) → T (is_read table) → n < words_of table → UpToPower 16 (float_at file (start_of table + 4 * n))
 
 -- what the layers need: every field but the month and the flag in range, an index table that
 -- passes, and bounded words
 pub record SoundSheet (f2 file : List ℕ) (i : Inputs) : Type 0 where
   pub route : RouteInRange i
   pub fields : FieldsInRange i
-  pub index : indexCheck file ≡ Accepted
+  pub index : index_check file ≡ Accepted
   pub bounded : Bounded f2 file
 
 -- the point p of a sheet, counted from 1, is one of those that its path has
 pub record PointThere (i : Inputs) (p : ℕ) : Type 0 where
   pub first : 1 ≤ p
-  pub last : p ≤ (sheetPath i).count
+  pub last : p ≤ (sheet_path i).count
 
 -- number k of the point p, in its place among the 151
-abbrev pub pointNumber : List ℕ → List ℕ → Inputs → ℕ → ℕ → Float
-pointNumber f2 file i p k = get_or (figuresOf f2 file i) (6 + 29 * (p - 1) + k) nan
+abbrev pub point_number : List ℕ → List ℕ → Inputs → ℕ → ℕ → Float
+point_number f2 file i p k = get_or (figures_of f2 file i) (6 + 29 * (p - 1) + k) nan
 
 -- what the row of the point p is made of: the point, the field, the maps, the layers, Es and the
 -- ground there
-abbrev pub sheetPoint : Inputs → ℕ → ControlPoint
-sheetPoint i p = get_or (sheetPath i).points (p - 1) nowhere
+abbrev pub sheet_point : Inputs → ℕ → ControlPoint
+sheet_point i p = get_or (sheet_path i).points (p - 1) nowhere
 
-abbrev pub sheetField : Inputs → ℕ → MagneticVars
-sheetField i p = magvarOf (sheetPoint i p).lat (sheetPoint i p).lon
+abbrev pub sheet_field : Inputs → ℕ → MagneticVars
+sheet_field i p = magvar_of (sheet_point i p).lat (sheet_point i p).lon
 
-abbrev pub sheetMaps : List ℕ → List ℕ → Inputs → ℕ → Gammas
-sheetMaps f2 file i p =
-    let h = hourOf f2 file i in
-    gammasAt h.ab h.index (sheetPoint i p).lat (sheetPoint i p).lon (sheetField i p)
+abbrev pub sheet_maps : List ℕ → List ℕ → Inputs → ℕ → Gammas
+sheet_maps f2 file i p =
+    let h = hour_of f2 file i in
+    gammas_at h.ab h.index (sheet_point i p).lat (sheet_point i p).lon (sheet_field i p)
 
-abbrev pub sheetLayers : List ℕ → List ℕ → Inputs → ℕ → LayerParams
-sheetLayers f2 file i p =
-    let h = hourOf f2 file i in
-    layersOf h.monthly i.ssn i.gmt i.psc h.hmym (sheetPoint i p) (sheetField i p) (sheetMaps f2 file i p)
+abbrev pub sheet_layers : List ℕ → List ℕ → Inputs → ℕ → LayerParams
+sheet_layers f2 file i p =
+    let h = hour_of f2 file i in
+    layers_of h.monthly i.ssn i.gmt i.psc h.hmym (sheet_point i p) (sheet_field i p) (sheet_maps f2 file i p)
 
-abbrev pub sheetEs : List ℕ → List ℕ → Inputs → ℕ → EsParams
-sheetEs f2 file i p = esindOf (sheetMaps f2 file i p) i.psc.es
+abbrev pub sheet_es : List ℕ → List ℕ → Inputs → ℕ → EsParams
+sheet_es f2 file i p = esind_of (sheet_maps f2 file i p) i.psc.es
 
-abbrev pub sheetGround : List ℕ → List ℕ → Inputs → ℕ → Ground
-sheetGround f2 file i p =
-    let h = hourOf f2 file i in groundOf h.monthly h.fakmap (sheetPoint i p).lat (sheetField i p).east_lon
+abbrev pub sheet_ground : List ℕ → List ℕ → Inputs → ℕ → Ground
+sheet_ground f2 file i p =
+    let h = hour_of f2 file i in ground_of h.monthly h.fakmap (sheet_point i p).lat (sheet_field i p).east_lon
 
 -- these in document 01's order
-abbrev pub sheetRow : List ℕ → List ℕ → Inputs → ℕ → List Float
-sheetRow f2 file i p =
-    let l = sheetLayers f2 file i p in
-    numbersOf (sheetPoint i p) (sheetField i p) l (sheetEs f2 file i p) (sheetGround f2 file i p)
+abbrev pub sheet_row : List ℕ → List ℕ → Inputs → ℕ → List Float
+sheet_row f2 file i p =
+    let l = sheet_layers f2 file i p in
+    numbers_of (sheet_point i p) (sheet_field i p) l (sheet_es f2 file i p) (sheet_ground f2 file i p)
 
 -- the cosine whose arc cosine `cycen` is: sin * sin + cos * cos * cos
-unfoldable pub zenithCosine : Radians → Radians → Float → Radians → Float
-zenithCosine cenlat cenlg ssp ssl =
-    sin32Of cenlat.0 ⊗ sin32Of ssp ⊕ cos32Of cenlat.0 ⊗ cos32Of ssp ⊗ cos32Of (cenlg.0 ⊖ ssl.0)
+unfoldable pub zenith_cosine : Radians → Radians → Float → Radians → Float
+zenith_cosine cenlat cenlg ssp ssl =
+    sin32_of cenlat.0 ⊗ sin32_of ssp ⊕ cos32_of cenlat.0 ⊗ cos32_of ssp ⊗ cos32_of (cenlg.0 ⊖ ssl.0)
 
 -- that cosine at the point p
-abbrev pub sheetCosine : Inputs → ℕ → Float
-sheetCosine i p =
-    let pt = sheetPoint i p in zenithCosine pt.lat pt.lon (sspOf (sunOf i.month) pt.lat) (sslOf i.gmt)
+abbrev pub sheet_cosine : Inputs → ℕ → Float
+sheet_cosine i p =
+    let pt = sheet_point i p in zenith_cosine pt.lat pt.lon (ssp_of (sun_of i.month) pt.lat) (ssl_of i.gmt)
 
 -- ---- demand 2, the figures: what the names below are among the 151
 
@@ -150,80 +150,80 @@ sheetCosine i p =
 abbrev pub PointNumbers : Type 0
 PointNumbers =
     (f2 file : List ℕ) (i : Inputs) (p k : ℕ) → PointThere i p → k < 29 →
-    pointNumber f2 file i p k ≡ get_or (sheetRow f2 file i p) k nan
+    point_number f2 file i p k ≡ get_or (sheet_row f2 file i p) k nan
 
 -- Inputs that the worksheet accepts have every field in range, but for the flag and the model, of
 -- which nothing is said here.
 abbrev pub AcceptedInRange : Type 0
-AcceptedInRange = (i : Inputs) → inputsCheck i ≡ Accepted → RouteInRange i × FieldsInRange i × T (isMonth i.month)
+AcceptedInRange = (i : Inputs) → inputs_check i ≡ Accepted → RouteInRange i × FieldsInRange i × T (is_month i.month)
 
 -- ---- demand 2, the path and the field: no NaN and no infinity, whatever the files
 
 -- With both ends in range the six figures of the path are finite, whatever the pole.
 abbrev pub SheetPathFinite : Type 0
 SheetPathFinite =
-    (f2 file : List ℕ) (i : Inputs) → EndsInRange i → (k : ℕ) → k < 6 → T (finite (get_or (figuresOf f2 file i) k nan))
+    (f2 file : List ℕ) (i : Inputs) → EndsInRange i → (k : ℕ) → k < 6 → T (finite (get_or (figures_of f2 file i) k nan))
 
 -- With the pole in range too, so are the first seven numbers of every point that is there: its own
 -- four and the field's three.
 abbrev pub SheetPointFinite : Type 0
 SheetPointFinite =
     (f2 file : List ℕ) (i : Inputs) (p : ℕ) → RouteInRange i → PointThere i p →
-    (k : ℕ) → k < 7 → T (finite (pointNumber f2 file i p k))
+    (k : ℕ) → k < 7 → T (finite (point_number f2 file i p k))
 
 -- The field 300 km up is zero nowhere: for each number c from -1 to 1 as the sine of the latitude
 -- and each longitude from 0 to 101/16, a little over a turn, bv or bn is 1/64 at least in size.
 abbrev pub FieldNotZero : Type 0
 FieldNotZero =
-    (c : Float) (phi : Radians) → T (isTo (fin true 1 (pos 0)) (fin false 1 (pos 0)) c) →
-    T (isTo (fin false 0 (pos 0)) (fin false 101 (negsuc 3)) phi.0) →
-    let s = sqrtOf binary32 (decimal 10 1 ⊖ c ⊗ c) in
+    (c : Float) (phi : Radians) → T (is_to (fin true 1 (pos 0)) (fin false 1 (pos 0)) c) →
+    T (is_to (fin false 0 (pos 0)) (fin false 101 (negsuc 3)) phi.0) →
+    let s = sqrt_of binary32 (decimal 10 1 ⊖ c ⊗ c) in
     let ar = HC ⊘ (HC ⊕ decimal 3000000 1) in
-    T (le (fin false 1 (negsuc 5)) (absOf (bvOf c s phi ar)))
-    ⊎ T (le (fin false 1 (negsuc 5)) (absOf (bnOf c s phi ar)))
+    T (le (fin false 1 (negsuc 5)) (abs_of (bv_of c s phi ar)))
+    ⊎ T (le (fin false 1 (negsuc 5)) (abs_of (bn_of c s phi ar)))
 
 -- So at every latitude that is a number, and at each such longitude, `magfin` gives an up or a
 -- north of 1/64 at least in size.
 abbrev pub UneNotZero : Type 0
 UneNotZero =
-    (lat eastLon : Radians) → T (not (is_nan lat.0)) →
-    T (isTo (fin false 0 (pos 0)) (fin false 101 (negsuc 3)) eastLon.0) →
-    let une = magfinOf lat eastLon (decimal 3000000 1) in
-    T (le (fin false 1 (negsuc 5)) (absOf une.up)) ⊎ T (le (fin false 1 (negsuc 5)) (absOf une.north))
+    (lat east_lon : Radians) → T (not (is_nan lat.0)) →
+    T (is_to (fin false 0 (pos 0)) (fin false 101 (negsuc 3)) east_lon.0) →
+    let une = magfin_of lat east_lon (decimal 3000000 1) in
+    T (le (fin false 1 (negsuc 5)) (abs_of une.up)) ⊎ T (le (fin false 1 (negsuc 5)) (abs_of une.north))
 
 -- ---- demand 2, the ground and the constants, whatever inputs and files
 
 -- (0.001, 4.0)
-abbrev pub landPair : Ground
-landPair = record { 0 = decimal 1 3; 1 = decimal 40 1 }
+abbrev pub land_pair : Ground
+land_pair = record { 0 = decimal 1 3; 1 = decimal 40 1 }
 
 -- (5.0, 80.0)
-abbrev pub seaPair : Ground
-seaPair = record { 0 = decimal 50 1; 1 = decimal 800 1 }
+abbrev pub sea_pair : Ground
+sea_pair = record { 0 = decimal 50 1; 1 = decimal 800 1 }
 
 -- The ground is one of the two pairs, whatever the month's numbers, the land map and the place.
 abbrev pub GroundPair : Type 0
 GroundPair =
     (m : Monthly) (fakmap : List Float) (lat east : Radians) →
-    (groundOf m fakmap lat east ≡ landPair) ⊎ (groundOf m fakmap lat east ≡ seaPair)
+    (ground_of m fakmap lat east ≡ land_pair) ⊎ (ground_of m fakmap lat east ≡ sea_pair)
 
 -- Numbers 27 and 28 of every point that is there are finite, in range or not.
 abbrev pub SheetGroundFinite : Type 0
 SheetGroundFinite =
     (f2 file : List ℕ) (i : Inputs) (p : ℕ) → PointThere i p →
-    (k : ℕ) → k < 2 → T (finite (pointNumber f2 file i p (27 + k)))
+    (k : ℕ) → k < 2 → T (finite (point_number f2 file i p (27 + k)))
 
 -- The E layer's semithickness is 20 km and its height 110 km, of all arguments.
 abbrev pub EHeight : Type 0
 EHeight =
     (m : Monthly) (ssn gmt : Float) (psc : Factors) (hmym : List Float)
     (pt : ControlPoint) (mag : MagneticVars) (g : Gammas) →
-    let l = layersOf m ssn gmt psc hmym pt mag g in
+    let l = layers_of m ssn gmt psc hmym pt mag g in
     (get_or l.yi 0 nan ≡ decimal 200 1) × (get_or l.hi 0 nan ≡ decimal 1100 1)
 
 -- The height of Es is 110 km, of all arguments.
 abbrev pub EsHeight : Type 0
-EsHeight = (g : Gammas) (psc3 : Float) → (esindOf g psc3).hs ≡ decimal 1100 1
+EsHeight = (g : Gammas) (psc3 : Float) → (esind_of g psc3).hs ≡ decimal 1100 1
 
 -- ---- demand 2, the maps, Es and the layers at every point of a sound sheet
 
@@ -231,11 +231,11 @@ EsHeight = (g : Gammas) (psc3 : Float) → (esindOf g psc3).hs ≡ decimal 1100 
 pub record SoundFiles (i : Inputs) : Type 0 where
   pub f2 : List ℕ
   pub file : List ℕ
-  pub accepted : filesCheck f2 file ≡ Accepted
+  pub accepted : files_check f2 file ≡ Accepted
   pub sound : SoundSheet f2 file i
 
 -- A sheet is sound if every field but month, flag and model is in range, the index table passes, and every
--- word of the F2 planes and of each table that figures read numbers from (`isRead`) is a number of
+-- word of the F2 planes and of each table that figures read numbers from (`is_read`) is a number of
 -- at most 65,536 in size. For all inputs with those fields in range there are files that the checks
 -- accept, and with which the sheet is sound (`SoundFiles`).
 abbrev pub SoundSheets : Type 0
@@ -254,17 +254,17 @@ pub record MapsBounded (g : Gammas) : Type 0 where
 abbrev pub PointMapped : Type 0
 PointMapped =
     (f2 file : List ℕ) (i : Inputs) (p : ℕ) → SoundSheet f2 file i → PointThere i p →
-    MapsBounded (sheetMaps f2 file i p)
+    MapsBounded (sheet_maps f2 file i p)
 
 -- Numbers 23 to 26, the three frequencies of Es and its height, are finite.
 abbrev pub SheetEsFinite : Type 0
 SheetEsFinite =
     (f2 file : List ℕ) (i : Inputs) (p : ℕ) → SoundSheet f2 file i → PointThere i p →
-    (k : ℕ) → k < 4 → T (finite (pointNumber f2 file i p (23 + k)))
+    (k : ℕ) → k < 4 → T (finite (point_number f2 file i p (23 + k)))
 
 -- f2m3 is 2 ^ -60 at least in size
 abbrev pub FactorClear : LayerParams → Type 0
-FactorClear l = T (le (fin false 1 (negsuc 59)) (absOf l.f2m3))
+FactorClear l = T (le (fin false 1 (negsuc 59)) (abs_of l.f2m3))
 
 -- fi[1] is 2 ^ -40 at least, if it is above 0
 abbrev pub F1Clear : LayerParams → Type 0
@@ -276,7 +276,7 @@ EClear l = T (le (get_or l.fi 0 nan) (decimal 560 1))
 
 -- the cosine c is a number of at most 1 in size
 abbrev pub CosineClear : Float → Type 0
-CosineClear c = T (le (absOf c) (fraction 1 1))
+CosineClear c = T (le (abs_of c) (fraction 1 1))
 
 -- what is known of each figure of the layers l, where the cosine is c; yi[0] and hi[0] are
 -- constants
@@ -284,16 +284,16 @@ pub record LayerFigures (c : Float) (l : LayerParams) : Type 0 where
   -- finite
   pub clck : T (finite l.clck)
   pub zenmax : UpToPower 27 l.zenmax.0
-  pub fi0 : T (isTo (fin false 1 (negsuc 4)) (fin false 1 (pos 53)) (get_or l.fi 0 nan))
+  pub fi0 : T (is_to (fin false 1 (negsuc 4)) (fin false 1 (pos 53)) (get_or l.fi 0 nan))
   pub fi1 : UpToPower 55 (get_or l.fi 1 nan)
   pub fi2 : UpToPower 54 (get_or l.fi 2 nan)
   pub f2m3 : UpToPower 50 l.f2m3
   -- where the cosine is at most 1 in size, from 0 to 230 degrees, and from 1 to 2 ^ 111
-  pub zenang : CosineClear c → T (isTo (decimal 0 1) (decimal 2300 1) l.zenang.0)
-  pub rat : CosineClear c → T (isTo (fin false 1 (pos 0)) (fin false 1 (pos 111)) l.rat)
+  pub zenang : CosineClear c → T (is_to (decimal 0 1) (decimal 2300 1) l.zenang.0)
+  pub rat : CosineClear c → T (is_to (fin false 1 (pos 0)) (fin false 1 (pos 111)) l.rat)
   -- never NaN
-  pub hpf2-number : T (not (is_nan l.hpf2))
-  pub abiy-number : T (not (is_nan l.abiy))
+  pub hpf2_number : T (not (is_nan l.hpf2))
+  pub abiy_number : T (not (is_nan l.abiy))
   -- finite under conditions
   pub hpf2 : FactorClear l → UpToPower 71 l.hpf2
   pub abiy : EClear l → UpToPower 125 l.abiy
@@ -311,7 +311,7 @@ pub record LayerFigures (c : Float) (l : LayerParams) : Type 0 where
 abbrev pub SheetLayers : Type 0
 SheetLayers =
     (f2 file : List ℕ) (i : Inputs) (p : ℕ) → SoundSheet f2 file i → PointThere i p →
-    LayerFigures (sheetCosine i p) (sheetLayers f2 file i p)
+    LayerFigures (sheet_cosine i p) (sheet_layers f2 file i p)
 
 -- the four conditions together
 pub record Ordinary (c : Float) (l : LayerParams) : Type 0 where
@@ -326,29 +326,29 @@ pub record Ordinary (c : Float) (l : LayerParams) : Type 0 where
 abbrev pub SheetFinite : Type 0
 SheetFinite =
     (f2 file : List ℕ) (i : Inputs) (p : ℕ) → SoundSheet f2 file i → PointThere i p →
-    Ordinary (sheetCosine i p) (sheetLayers f2 file i p) → (k : ℕ) → k < 29 → T (finite (pointNumber f2 file i p k))
+    Ordinary (sheet_cosine i p) (sheet_layers f2 file i p) → (k : ℕ) → k < 29 → T (finite (point_number f2 file i p k))
 
 -- ---- demand 2, where a figure is NaN or infinite
 
--- Whatever inputs and files: where the cosine whose arc cosine the zenith angle is (`sheetCosine`)
+-- Whatever inputs and files: where the cosine whose arc cosine the zenith angle is (`sheet_cosine`)
 -- is a number of at most 1 in size, `zenang` is from 0 to 230 degrees.
 abbrev pub ZenangRange : Type 0
 ZenangRange =
-    (f2 file : List ℕ) (i : Inputs) (p : ℕ) → CosineClear (sheetCosine i p) →
-    T (isTo (decimal 0 1) (decimal 2300 1) (sheetLayers f2 file i p).zenang.0)
+    (f2 file : List ℕ) (i : Inputs) (p : ℕ) → CosineClear (sheet_cosine i p) →
+    T (is_to (decimal 0 1) (decimal 2300 1) (sheet_layers f2 file i p).zenang.0)
 
 -- With both ends, hour and month in range, and whatever the rest: where the cosine came out beyond
 -- 1 in size, `zenang` is NaN,
 abbrev pub BeyondNone : Type 0
 BeyondNone =
-    (f2 file : List ℕ) (i : Inputs) (p : ℕ) → EndsInRange i → HourInRange i → T (isMonth i.month) →
-    PointThere i p → T (lt (fraction 1 1) (absOf (sheetCosine i p))) → (sheetLayers f2 file i p).zenang.0 ≡ nan
+    (f2 file : List ℕ) (i : Inputs) (p : ℕ) → EndsInRange i → HourInRange i → T (is_month i.month) →
+    PointThere i p → T (lt (fraction 1 1) (abs_of (sheet_cosine i p))) → (sheet_layers f2 file i p).zenang.0 ≡ nan
 
 -- and nowhere else.
 abbrev pub NoneBeyond : Type 0
 NoneBeyond =
-    (f2 file : List ℕ) (i : Inputs) (p : ℕ) → EndsInRange i → HourInRange i → T (isMonth i.month) →
-    PointThere i p → (sheetLayers f2 file i p).zenang.0 ≡ nan → T (lt (fraction 1 1) (absOf (sheetCosine i p)))
+    (f2 file : List ℕ) (i : Inputs) (p : ℕ) → EndsInRange i → HourInRange i → T (is_month i.month) →
+    PointThere i p → (sheet_layers f2 file i p).zenang.0 ≡ nan → T (lt (fraction 1 1) (abs_of (sheet_cosine i p)))
 
 -- It happens at a point that is given: of longitude +0 and latitude -14.83 degrees (times D2R), in
 -- April at hour 0, `zenang` is NaN, whatever the rest. That a route has this point is not stated.
@@ -356,36 +356,36 @@ abbrev pub ZenangExample : Type 0
 ZenangExample =
     (file : List ℕ) (ssn : Float) (psc : Factors) (hmym : List Float)
     (pt : ControlPoint) (mag : MagneticVars) (g : Gammas) →
-    pt.lat ≡ radiansOf (record { 0 = minusDecimal 1483 2 }) → pt.lon ≡ record { 0 = decimal 0 1 } →
-    (layersOf (monthlyOf file 4 ssn) ssn (decimal 0 1) psc hmym pt mag g).zenang.0 ≡ nan
+    pt.lat ≡ radians_of (record { 0 = minus_decimal 1483 2 }) → pt.lon ≡ record { 0 = decimal 0 1 } →
+    (layers_of (monthly_of file 4 ssn) ssn (decimal 0 1) psc hmym pt mag g).zenang.0 ≡ nan
 
 -- Of all arguments: where `zenang` is NaN, so is `rat`,
 abbrev pub RatNan : Type 0
 RatNan =
     (m : Monthly) (ssn gmt : Float) (psc : Factors) (hmym : List Float)
     (pt : ControlPoint) (mag : MagneticVars) (g : Gammas) →
-    let l = layersOf m ssn gmt psc hmym pt mag g in l.zenang.0 ≡ nan → l.rat ≡ nan
+    let l = layers_of m ssn gmt psc hmym pt mag g in l.zenang.0 ≡ nan → l.rat ≡ nan
 
 -- and so is yi[2].
 abbrev pub Yi2Nan : Type 0
 Yi2Nan =
     (m : Monthly) (ssn gmt : Float) (psc : Factors) (hmym : List Float)
     (pt : ControlPoint) (mag : MagneticVars) (g : Gammas) →
-    let l = layersOf m ssn gmt psc hmym pt mag g in l.zenang.0 ≡ nan → get_or l.yi 2 nan ≡ nan
+    let l = layers_of m ssn gmt psc hmym pt mag g in l.zenang.0 ≡ nan → get_or l.yi 2 nan ≡ nan
 
 -- Of all arguments: where f2m3 is 2 ^ -60 at least in size, `hpf2` is finite,
 abbrev pub Hpf2Finite : Type 0
 Hpf2Finite =
     (m : Monthly) (ssn gmt : Float) (psc : Factors) (hmym : List Float)
     (pt : ControlPoint) (mag : MagneticVars) (g : Gammas) →
-    let l = layersOf m ssn gmt psc hmym pt mag g in FactorClear l → UpToPower 71 l.hpf2
+    let l = layers_of m ssn gmt psc hmym pt mag g in FactorClear l → UpToPower 71 l.hpf2
 
 -- and where f2m3 is a zero, `hpf2` is the infinity of its sign.
 abbrev pub Hpf2AtZero : Type 0
 Hpf2AtZero =
     (m : Monthly) (ssn gmt : Float) (psc : Factors) (hmym : List Float)
     (pt : ControlPoint) (mag : MagneticVars) (g : Gammas) →
-    let l = layersOf m ssn gmt psc hmym pt mag g in (s : Bool) (e : ℤ) → l.f2m3 ≡ fin s 0 e → l.hpf2 ≡ inf s
+    let l = layers_of m ssn gmt psc hmym pt mag g in (s : Bool) (e : ℤ) → l.f2m3 ≡ fin s 0 e → l.hpf2 ≡ inf s
 
 -- the layers of a month that there is not
 pub record NoSun (l : LayerParams) : Type 0 where
@@ -395,7 +395,7 @@ pub record NoSun (l : LayerParams) : Type 0 where
   pub yi2 : get_or l.yi 2 nan ≡ nan
   -- no F1 layer: its frequency is 0.0, or that of F2 less 0.2 where this is below, and so never
   -- above 0; its semithickness and height are 0.0
-  pub fi1 : get_or l.fi 1 nan ≡ minOf (decimal 0 1) (get_or l.fi 2 nan ⊖ decimal 2 1)
+  pub fi1 : get_or l.fi 1 nan ≡ min_of (decimal 0 1) (get_or l.fi 2 nan ⊖ decimal 2 1)
   pub none : lt (decimal 0 1) (get_or l.fi 1 nan) ≡ false
   pub yi1 : get_or l.yi 1 nan ≡ decimal 0 1
   pub hi1 : get_or l.hi 1 nan ≡ decimal 0 1
@@ -406,21 +406,21 @@ abbrev pub NoSunLayers : Type 0
 NoSunLayers =
     (file : List ℕ) (month : ℕ) (ssn gmt : Float) (psc : Factors) (hmym : List Float)
     (pt : ControlPoint) (mag : MagneticVars) (g : Gammas) →
-    (month ≡ 0) ⊎ (12 < month) → NoSun (layersOf (monthlyOf file month ssn) ssn gmt psc hmym pt mag g)
+    (month ≡ 0) ⊎ (12 < month) → NoSun (layers_of (monthly_of file month ssn) ssn gmt psc hmym pt mag g)
 
 -- and so in the row of every point `zenang`, `rat` and yi[2], numbers 21, 18 and 12, are NaN.
 abbrev pub NoSunRow : Type 0
 NoSunRow =
     (f2 file : List ℕ) (i : Inputs) (pt : ControlPoint) → (i.month ≡ 0) ⊎ (12 < i.month) →
-    let row = pointRow (hourOf f2 file i) i pt in
+    let row = point_row (hour_of f2 file i) i pt in
     (get_or row 21 nan ≡ nan) × (get_or row 18 nan ≡ nan) × (get_or row 12 nan ≡ nan)
 
 -- ---- request 10: the words of the files
 
 -- every f32 word of the record and of the month file's tables, used or not, is a finite number
 pub record FiniteFiles (f2 file : List ℕ) : Type 0 where
-  pub in-record : FiniteRecord f2
-  pub in-month : FiniteMonth file
+  pub in_record_law : FiniteRecord f2
+  pub in_month_law : FiniteMonth file
 
 -- Every accepted showing, of the worksheet or of a desk, on any worksheet and over any source of
 -- files, is from files of finite words only.
@@ -428,16 +428,16 @@ abbrev pub ShownFinite : Type 0
 ShownFinite =
     (source : Source) (w : Worksheet) (n : ℕ) (lent figures : List Float) (count : ℕ) (uses : Uses) →
     (step source (show n lent) w).answer ≡ shown (Points count uses) figures →
-    let i = inputsShown n w in FiniteFiles (source i).f2 (source i).file
+    let i = inputs_shown n w in FiniteFiles (source i).f2 (source i).file
 
 -- of what a sheet takes of a month file and does not blend: the land map's 464 numbers and the four of
 -- `abmap` are finite, and the sums that `zenmax` and foF1 are made of are no NaN
 pub record MonthNumbers (file : List ℕ) (m : Monthly) : Type 0 where
-  pub land-map : (k : ℕ) → k < 464 → T (finite (get_or (fakmapOf file) k nan))
-  pub land-alf : T (finite m.land_alf)
-  pub land-bet : T (finite m.land_bet)
-  pub ratio-alf : T (finite m.ratio_alf)
-  pub ratio-bet : T (finite m.ratio_bet)
+  pub land_map : (k : ℕ) → k < 464 → T (finite (get_or (fakmap_of file) k nan))
+  pub land_alf : T (finite m.land_alf)
+  pub land_bet : T (finite m.land_bet)
+  pub ratio_alf : T (finite m.ratio_alf)
+  pub ratio_bet : T (finite m.ratio_bet)
   pub chi0 : T (not (is_nan m.chi0))
   pub chi1 : T (not (is_nan m.chi1))
   pub new0 : T (not (is_nan m.new0))
@@ -449,20 +449,20 @@ pub record MonthNumbers (file : List ℕ) (m : Monthly) : Type 0 where
 -- `zenmax` and foF1 are made of are no NaN (`MonthNumbers`). Whether these are finite is not said.
 abbrev pub MonthNumbersSound : Type 0
 MonthNumbersSound =
-    (file : List ℕ) (month : ℕ) (ssn : Float) → FiniteMonth file → T (isTo (decimal 0 1) (decimal 300 0) ssn) →
-    MonthNumbers file (monthlyOf file month ssn)
+    (file : List ℕ) (month : ℕ) (ssn : Float) → FiniteMonth file → T (is_to (decimal 0 1) (decimal 300 0) ssn) →
+    MonthNumbers file (monthly_of file month ssn)
 
 -- A blended coefficient can still be NaN: of the largest finite number in both planes of the F2 map,
 -- at sunspot number 300, the two products overflow to infinities of both signs.
 abbrev pub BlendOverflows : Type 0
 BlendOverflows =
-    let x = of_bits binary32 2139095039 in T (finite x) × (blend_of (f2Weights (decimal 300 0)) x x ≡ nan)
+    let x = of_bits binary32 2139095039 in T (finite x) × (blend_of (f2_weights (decimal 300 0)) x x ≡ nan)
 
 -- ---- left open
 
 -- Whether that cosine can come out above +1: none was found. Whether `abiy` is finite for an E
 -- frequency above 56 MHz; what `hpf2` (but at 0), yi[1], yi[2], hi[1] and hi[2] are for an f2m3
 -- nearer to 0 than 2 ^ -60, what the last four are for an fi[1] above 0 and below 2 ^ -40, and the
--- best bounds. No ordinary point is exhibited by proof: in the files of `sound-sheets` the numbers
+-- best bounds. No ordinary point is exhibited by proof: in the files of `sound_sheets` the numbers
 -- that figures read, all but the index table, are zero. No accepted showing with a figure that is NaN
 -- is exhibited either: that there are some is run (docs/DIFFERENCES.md).

@@ -1,36 +1,36 @@
 -- The insurer's question: where does a printed line come from? The words of the answer stand in
 -- crates/worksheet/specs/Journal.antt (calls, entries, `run`) and InForce.antt (`Insured`,
--- `NeverCancelled`, `takenBack`), those over the library's words in
+-- `NeverCancelled`, `taken_back`), those over the library's words in
 -- crates/jutetrowel/specs/Calls.antt. Where the library's calls are named, the numbers of their
 -- changes are values of an f32 (`CallsSingles`), as every number that crosses is. Assumes nothing.
 use mathlib.Core.List.{List, [], ◌∷◌, ◌++◌, reverse, Memᴰ}
 use Rattle.std.specs.Prelude.{true, ◌≡◌, ℕ, length, Float}
 use Rattle.base.specs.declared.refusal.Verdict.TheVariants.{Accepted}
-use Rattle.base.specs.Files.{filesCheck}
+use Rattle.base.specs.Files.{files_check}
 use Rattle.maps.specs.declared.geometry.Uses.{Uses}
 use Rattle.maps.specs.declared.inputs.Inputs.{Inputs}
 use Rattle.maps.specs.declared.figures.Shown.TheVariants.{Points}
-use Rattle.maps.specs.Figures.{sheetPath, figuresOf, points_of}
+use Rattle.maps.specs.Figures.{sheet_path, figures_of, points_of}
 use Rattle.worksheet.specs.declared.inputs.Edit.{Edit}
 use Rattle.worksheet.specs.declared.desks.Draft.TheVariants.{Closed, Fresh}
 use Rattle.worksheet.specs.declared.desks.Worksheet.{Worksheet}
-use Rattle.worksheet.specs.Inputs.{inputsCheck}
-use Rattle.worksheet.specs.Desks.{draftAt, openOf, opened_of}
+use Rattle.worksheet.specs.Inputs.{inputs_check}
+use Rattle.worksheet.specs.Desks.{draft_at, open_of, opened_of}
 use Rattle.worksheet.specs.Showing.{Source, pair}
 use Rattle.worksheet.specs.Journal.{Call, begin, commit, show, shown, Entry, accepted, good, step, run}
-use Rattle.worksheet.specs.InForce.{AcceptedCommit, changed, changesBy, commitsInForce, inForce, commitsLeft, startLeft, FiguresOf, DraftUndisturbed, CommitInForce, InForceBy, NeverCancelled, Insured}
+use Rattle.worksheet.specs.InForce.{AcceptedCommit, changed, changes_by, commits_in_force, in_force, commits_left, start_left, FiguresOf, DraftUndisturbed, CommitInForce, InForceBy, NeverCancelled, Insured}
 use Rattle.jutetrowel.specs.declared.answers.Showing.{Showing}
-use Rattle.jutetrowel.specs.Answers.{usesCoded}
-use Rattle.jutetrowel.specs.Words.{worksheetOf, wordsAfter}
-use Rattle.jutetrowel.specs.Calls.{CallsSingles, Shows, entriesOver, wordsOver}
+use Rattle.jutetrowel.specs.Answers.{uses_coded}
+use Rattle.jutetrowel.specs.Words.{worksheet_of, words_after}
+use Rattle.jutetrowel.specs.Calls.{CallsSingles, Shows, entries_over, words_over}
 use Rattle.results.specs.ExhibitedFiles.{Below}
 
 -- ---- two words of this page
 
 -- the entry of an accepted showing of the worksheet: this buffer was lent to it, and it gave this
 -- many points, these uses and these figures
-abbrev pub acceptedShowing : List Float → ℕ → Uses → List Float → Entry
-acceptedShowing lent count uses figures = record { call = show 0 lent; answer = shown (Points count uses) figures }
+abbrev pub accepted_showing : List Float → ℕ → Uses → List Float → Entry
+accepted_showing lent count uses figures = record { call = show 0 lent; answer = shown (Points count uses) figures }
 
 -- no desk has a draft
 pub record DesksClosed (w : Worksheet) : Type 0 where
@@ -51,10 +51,10 @@ pub record DesksClosed (w : Worksheet) : Type 0 where
 -- (`NeverCancelled`; of each commit for itself `CommitUndisturbed`)
 abbrev pub InsurersSentence : Type 0
 InsurersSentence =
-    (f2 file : List ℕ) (opened : Inputs) → (openOf opened).answer ≡ Accepted →
+    (f2 file : List ℕ) (opened : Inputs) → (open_of opened).answer ≡ Accepted →
     (cs : List Call) (before later : List Entry) (lent figures : List Float) (count : ℕ) (uses : Uses) →
-    (run (pair f2 file) cs (openOf opened).sheet).entries
-    ≡ before ++ (acceptedShowing lent count uses figures ∷ later) →
+    (run (pair f2 file) cs (open_of opened).sheet).entries
+    ≡ before ++ (accepted_showing lent count uses figures ∷ later) →
     Insured (pair f2 file) opened before count uses figures
 
 -- The same of the library's calls, each on the words that the one before it left, whatever words
@@ -63,50 +63,50 @@ abbrev pub InsurersSentenceOpened : Type 0
 InsurersSentenceOpened =
     (f2 file s words : List ℕ) → (opened_of s).answer ≡ Accepted → (cs : List Call) → CallsSingles cs →
     (before later : List Entry) (lent figures : List Float) (count : ℕ) (uses : Uses) →
-    entriesOver (pair f2 file) cs (wordsAfter (opened_of s) words)
-    ≡ before ++ (acceptedShowing lent count uses figures ∷ later) →
+    entries_over (pair f2 file) cs (words_after (opened_of s) words)
+    ≡ before ++ (accepted_showing lent count uses figures ∷ later) →
     Insured (pair f2 file) (opened_of s).sheet.inputs before count uses figures
 
 -- The same by what the caller sees: after an open that is accepted and any list of the library's
 -- calls, `jt_show` of the worksheet hands back r and leaves `figures` in the buffer (`Shows`, its
 -- contract); where r's number is 0, the figures, r's points and the uses that its codes stand for
--- (`usesCoded`) are insured by the list before
+-- (`uses_coded`) are insured by the list before
 abbrev pub InsurersSentenceHanded : Type 0
 InsurersSentenceHanded =
     (f2 file s words : List ℕ) → (opened_of s).answer ≡ Accepted → (cs : List Call) → CallsSingles cs →
     (lent figures : List Float) (r : Showing) →
-    let l = wordsAfter (opened_of s) words in
-    Shows (step (pair f2 file) (show 0 lent) (worksheetOf (wordsOver (pair f2 file) cs l))).answer r figures →
+    let l = words_after (opened_of s) words in
+    Shows (step (pair f2 file) (show 0 lent) (worksheet_of (words_over (pair f2 file) cs l))).answer r figures →
     r.number ≡ 0 →
-    Insured (pair f2 file) (opened_of s).sheet.inputs (entriesOver (pair f2 file) cs l)
-    r.points (usesCoded r.uses) figures
+    Insured (pair f2 file) (opened_of s).sheet.inputs (entries_over (pair f2 file) cs l)
+    r.points (uses_coded r.uses) figures
 
 -- ---- and there are such showings
 
 -- After every list of calls on a worksheet that opens, its inputs are in range
 abbrev pub StayInRange : Type 0
 StayInRange =
-    (source : Source) (opened : Inputs) → (openOf opened).answer ≡ Accepted → (cs : List Call) →
-    inputsCheck (run source cs (openOf opened).sheet).sheet.inputs ≡ Accepted
+    (source : Source) (opened : Inputs) → (open_of opened).answer ≡ Accepted → (cs : List Call) →
+    inputs_check (run source cs (open_of opened).sheet).sheet.inputs ≡ Accepted
 
 -- so over every record and month file that pass their checks a showing of the worksheet is accepted
 -- then, in every buffer of 151 numbers: with the number of points, their uses and the figures of its
 -- inputs
 abbrev pub AlwaysShown : Type 0
 AlwaysShown =
-    (f2 file : List ℕ) → filesCheck f2 file ≡ Accepted → (opened : Inputs) → (openOf opened).answer ≡ Accepted →
+    (f2 file : List ℕ) → files_check f2 file ≡ Accepted → (opened : Inputs) → (open_of opened).answer ≡ Accepted →
     (cs : List Call) (lent : List Float) → length lent ≡ 151 →
-    let w = (run (pair f2 file) cs (openOf opened).sheet).sheet in
+    let w = (run (pair f2 file) cs (open_of opened).sheet).sheet in
     (step (pair f2 file) (show 0 lent) w).answer
-    ≡ shown (points_of (sheetPath w.inputs).count) (figuresOf f2 file w.inputs)
+    ≡ shown (points_of (sheet_path w.inputs).count) (figures_of f2 file w.inputs)
 
 -- The same of the worksheet that was just opened
 abbrev pub FirstShowing : Type 0
 FirstShowing =
-    (f2 file : List ℕ) → filesCheck f2 file ≡ Accepted → (i : Inputs) → (openOf i).answer ≡ Accepted →
+    (f2 file : List ℕ) → files_check f2 file ≡ Accepted → (i : Inputs) → (open_of i).answer ≡ Accepted →
     (lent : List Float) → length lent ≡ 151 →
-    (step (pair f2 file) (show 0 lent) (openOf i).sheet).answer
-    ≡ shown (points_of (sheetPath i).count) (figuresOf f2 file i)
+    (step (pair f2 file) (show 0 lent) (open_of i).sheet).answer
+    ≡ shown (points_of (sheet_path i).count) (figures_of f2 file i)
 
 -- There are 56 bytes, the 14 words of a sheet, that open; a 15th word, the model, then counts as 0
 abbrev pub SomeOpen : Type 0
@@ -117,29 +117,29 @@ SomeOpen = (s : List ℕ) × ((length s ≡ 56) × (Below 256 s × ((opened_of s
 abbrev pub ShowingsExist : Type 0
 ShowingsExist =
     (f2 : List ℕ) × ((file : List ℕ) × (
-    (i : Inputs) → (openOf i).answer ≡ Accepted → (lent : List Float) → length lent ≡ 151 →
-    (step (pair f2 file) (show 0 lent) (openOf i).sheet).answer
-    ≡ shown (points_of (sheetPath i).count) (figuresOf f2 file i)))
+    (i : Inputs) → (open_of i).answer ≡ Accepted → (lent : List Float) → length lent ≡ 151 →
+    (step (pair f2 file) (show 0 lent) (open_of i).sheet).answer
+    ≡ shown (points_of (sheet_path i).count) (figures_of f2 file i)))
 
 -- ---- the same from other starts: a worksheet that may have an earlier set, any source of files
 
 -- Over any source of files, of every worksheet whose desks are closed: the set has those changes on
 -- top of the worksheet's inputs, or of its earlier set, where the first accepted commit or
--- take-back before the showing is a take-back (`startLeft`)
+-- take-back before the showing is a take-back (`start_left`)
 abbrev pub InsurersSentenceLent : Type 0
 InsurersSentenceLent =
     (source : Source) (w : Worksheet) → DesksClosed w →
     (cs : List Call) (before later : List Entry) (lent figures : List Float) (count : ℕ) (uses : Uses) →
-    (run source cs w).entries ≡ before ++ (acceptedShowing lent count uses figures ∷ later) →
-    Insured source (startLeft w before) before count uses figures
+    (run source cs w).entries ≡ before ++ (accepted_showing lent count uses figures ∷ later) →
+    Insured source (start_left w before) before count uses figures
 
 -- The same of the library's calls, from all words that hold such a worksheet
 abbrev pub InsurersSentenceOver : Type 0
 InsurersSentenceOver =
-    (source : Source) (l : List ℕ) → DesksClosed (worksheetOf l) → (cs : List Call) → CallsSingles cs →
+    (source : Source) (l : List ℕ) → DesksClosed (worksheet_of l) → (cs : List Call) → CallsSingles cs →
     (before later : List Entry) (lent figures : List Float) (count : ℕ) (uses : Uses) →
-    entriesOver source cs l ≡ before ++ (acceptedShowing lent count uses figures ∷ later) →
-    Insured source (startLeft (worksheetOf l) before) before count uses figures
+    entries_over source cs l ≡ before ++ (accepted_showing lent count uses figures ∷ later) →
+    Insured source (start_left (worksheet_of l) before) before count uses figures
 
 -- ---- 'from no edit that somebody had cancelled', of every worksheet whose desks are closed at the
 -- start
@@ -150,28 +150,28 @@ InsurersSentenceOver =
 abbrev pub ChangeNeverCancelled : Type 0
 ChangeNeverCancelled =
     (source : Source) (w : Worksheet) → DesksClosed w → (cs : List Call) (e : Edit) →
-    Memᴰ e (changesBy (commitsInForce w (run source cs w).entries)) →
+    Memᴰ e (changes_by (commits_in_force w (run source cs w).entries)) →
     NeverCancelled (run source cs w).entries e
 
 -- The same of the library's calls
 abbrev pub ChangeNeverCancelledOver : Type 0
 ChangeNeverCancelledOver =
-    (source : Source) (l : List ℕ) → DesksClosed (worksheetOf l) → (cs : List Call) → CallsSingles cs → (e : Edit) →
-    Memᴰ e (changesBy (commitsInForce (worksheetOf l) (entriesOver source cs l))) →
-    NeverCancelled (entriesOver source cs l) e
+    (source : Source) (l : List ℕ) → DesksClosed (worksheet_of l) → (cs : List Call) → CallsSingles cs → (e : Edit) →
+    Memᴰ e (changes_by (commits_in_force (worksheet_of l) (entries_over source cs l))) →
+    NeverCancelled (entries_over source cs l) e
 
 -- A commit in force stands among the entries, was accepted, and was not taken back
 abbrev pub CommitSource : Type 0
 CommitSource =
     (source : Source) (w : Worksheet) → DesksClosed w → (cs : List Call) (c : AcceptedCommit) →
-    Memᴰ c (commitsInForce w (run source cs w).entries) →
+    Memᴰ c (commits_in_force w (run source cs w).entries) →
     CommitInForce (run source cs w).entries c
 
 -- A change in force, as a value, was accepted, among the own calls of such a commit
 abbrev pub ChangeSource : Type 0
 ChangeSource =
     (source : Source) (w : Worksheet) → DesksClosed w → (cs : List Call) (e : Edit) →
-    Memᴰ e (changesBy (commitsInForce w (run source cs w).entries)) →
+    Memᴰ e (changes_by (commits_in_force w (run source cs w).entries)) →
     InForceBy (run source cs w).entries e
 
 -- A draft that is committed was begun before, while the inputs were in force that still are at the
@@ -189,7 +189,7 @@ UndisturbedDraft =
 abbrev pub CommitUndisturbed : Type 0
 CommitUndisturbed =
     (source : Source) (w : Worksheet) → DesksClosed w → (cs : List Call) (c : AcceptedCommit) →
-    Memᴰ c (commitsInForce w (run source cs w).entries) →
+    Memᴰ c (commits_in_force w (run source cs w).entries) →
     CommitInForce (run source cs w).entries c × DraftUndisturbed w c.desk (reverse c.past)
 
 -- ---- 'from one sunspot number, one hour and one route': the set is the inputs in force, a fold
@@ -199,49 +199,49 @@ CommitUndisturbed =
 -- uses and all figures of the inputs in force after the entries before it
 abbrev pub InsurersLine : Type 0
 InsurersLine =
-    (f2 file : List ℕ) (opened : Inputs) → (openOf opened).answer ≡ Accepted →
+    (f2 file : List ℕ) (opened : Inputs) → (open_of opened).answer ≡ Accepted →
     (cs : List Call) (before later : List Entry) (lent figures : List Float) (count : ℕ) (uses : Uses) →
-    (run (pair f2 file) cs (openOf opened).sheet).entries
-    ≡ before ++ (acceptedShowing lent count uses figures ∷ later) →
-    FiguresOf (pair f2 file) (inForce (openOf opened).sheet before) count uses figures
+    (run (pair f2 file) cs (open_of opened).sheet).entries
+    ≡ before ++ (accepted_showing lent count uses figures ∷ later) →
+    FiguresOf (pair f2 file) (in_force (open_of opened).sheet before) count uses figures
 
 -- The same over any source of files, of every worksheet whose desks are closed
 abbrev pub InsurersLineLent : Type 0
 InsurersLineLent =
     (source : Source) (w : Worksheet) → DesksClosed w →
     (cs : List Call) (before later : List Entry) (lent figures : List Float) (count : ℕ) (uses : Uses) →
-    (run source cs w).entries ≡ before ++ (acceptedShowing lent count uses figures ∷ later) →
-    FiguresOf source (inForce w before) count uses figures
+    (run source cs w).entries ≡ before ++ (accepted_showing lent count uses figures ∷ later) →
+    FiguresOf source (in_force w before) count uses figures
 
 -- The same of the library's calls, from all words that open
 abbrev pub InsurersLineOver : Type 0
 InsurersLineOver =
     (f2 file s words : List ℕ) → (opened_of s).answer ≡ Accepted → (cs : List Call) → CallsSingles cs →
     (before later : List Entry) (lent figures : List Float) (count : ℕ) (uses : Uses) →
-    entriesOver (pair f2 file) cs (wordsAfter (opened_of s) words)
-    ≡ before ++ (acceptedShowing lent count uses figures ∷ later) →
-    FiguresOf (pair f2 file) (inForce (worksheetOf (wordsAfter (opened_of s) words)) before) count uses figures
+    entries_over (pair f2 file) cs (words_after (opened_of s) words)
+    ≡ before ++ (accepted_showing lent count uses figures ∷ later) →
+    FiguresOf (pair f2 file) (in_force (worksheet_of (words_after (opened_of s) words)) before) count uses figures
 
 -- ---- the inputs in force are the worksheet's inputs
 
 -- After every list of calls on a worksheet that opens, its inputs are those in force
 abbrev pub OpenedInForce : Type 0
 OpenedInForce =
-    (f2 file : List ℕ) (opened : Inputs) → (openOf opened).answer ≡ Accepted → (cs : List Call) →
-    (run (pair f2 file) cs (openOf opened).sheet).sheet.inputs
-    ≡ inForce (openOf opened).sheet (run (pair f2 file) cs (openOf opened).sheet).entries
+    (f2 file : List ℕ) (opened : Inputs) → (open_of opened).answer ≡ Accepted → (cs : List Call) →
+    (run (pair f2 file) cs (open_of opened).sheet).sheet.inputs
+    ≡ in_force (open_of opened).sheet (run (pair f2 file) cs (open_of opened).sheet).entries
 
 -- The same over any source of files, of every worksheet whose desks are closed
 abbrev pub InputsInForce : Type 0
 InputsInForce =
     (source : Source) (w : Worksheet) → DesksClosed w → (cs : List Call) →
-    (run source cs w).sheet.inputs ≡ inForce w (run source cs w).entries
+    (run source cs w).sheet.inputs ≡ in_force w (run source cs w).entries
 
 -- The same of the library's calls: of the inputs that the words hold
 abbrev pub InForceOver : Type 0
 InForceOver =
-    (source : Source) (l : List ℕ) → DesksClosed (worksheetOf l) → (cs : List Call) → CallsSingles cs →
-    (worksheetOf (wordsOver source cs l)).inputs ≡ inForce (worksheetOf l) (entriesOver source cs l)
+    (source : Source) (l : List ℕ) → DesksClosed (worksheet_of l) → (cs : List Call) → CallsSingles cs →
+    (worksheet_of (words_over source cs l)).inputs ≡ in_force (worksheet_of l) (entries_over source cs l)
 
 -- Of such a worksheet, what an accepted begin copies after every list of calls is the inputs in
 -- force then
@@ -250,7 +250,7 @@ BegunInForce =
     (source : Source) (w : Worksheet) → DesksClosed w → (cs : List Call) (n : ℕ) →
     let r = run source cs w in
     let begun = step source (begin n) r.sheet in
-    accepted begun.answer ≡ true → draftAt n begun.sheet ≡ Fresh (inForce w r.entries)
+    accepted begun.answer ≡ true → draft_at n begun.sheet ≡ Fresh (in_force w r.entries)
 
 -- ---- the same without the fold, of every worksheet whose desks are closed at the start
 
@@ -259,18 +259,18 @@ BegunInForce =
 abbrev pub CommitsExactly : Type 0
 CommitsExactly =
     (source : Source) (w : Worksheet) → DesksClosed w → (cs : List Call) →
-    commitsInForce w (run source cs w).entries ≡ commitsLeft [] (run source cs w).entries
+    commits_in_force w (run source cs w).entries ≡ commits_left [] (run source cs w).entries
 
--- The inputs in force are those at the start (`startLeft`) with the changes of those commits
+-- The inputs in force are those at the start (`start_left`) with the changes of those commits
 abbrev pub InForceExactly : Type 0
 InForceExactly =
     (source : Source) (w : Worksheet) → DesksClosed w → (cs : List Call) →
     let entries = (run source cs w).entries in
-    inForce w entries ≡ changed (startLeft w entries) (changesBy (commitsLeft [] entries))
+    in_force w entries ≡ changed (start_left w entries) (changes_by (commits_left [] entries))
 
 -- On a worksheet that opens, they are the opened inputs with the changes of those commits
 abbrev pub OpenedExactly : Type 0
 OpenedExactly =
-    (f2 file : List ℕ) (opened : Inputs) → (openOf opened).answer ≡ Accepted → (cs : List Call) →
-    let entries = (run (pair f2 file) cs (openOf opened).sheet).entries in
-    inForce (openOf opened).sheet entries ≡ changed opened (changesBy (commitsLeft [] entries))
+    (f2 file : List ℕ) (opened : Inputs) → (open_of opened).answer ≡ Accepted → (cs : List Call) →
+    let entries = (run (pair f2 file) cs (open_of opened).sheet).entries in
+    in_force (open_of opened).sheet entries ≡ changed opened (changes_by (commits_left [] entries))

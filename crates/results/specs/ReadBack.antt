@@ -4,7 +4,7 @@
 use Rattle.std.specs.Prelude.{ℕ, suc, ◌^◌, ◌<◌, true, ◌≡◌, length}
 use mathlib.Core.List.{List, [], ◌∷◌, ◌++◌, Memᴰ}
 use Rattle.base.specs.declared.refusal.Verdict.TheVariants.{Accepted}
-use Rattle.worksheet.specs.Desks.{openOf}
+use Rattle.worksheet.specs.Desks.{open_of}
 use Rattle.wording.specs.declared.number.Decimal.{Decimal}
 use Rattle.wording.specs.declared.line.Line.TheVariants.{Open, Call}
 use Rattle.wording.specs.declared.written.WrittenRoute.{WrittenRoute}
@@ -16,10 +16,10 @@ use Rattle.wording.specs.declared.written.WrittenEdit.TheVariants.{Sunspot, Hour
 use Rattle.wording.specs.declared.written.WrittenCall.{WrittenCall}
 use Rattle.wording.specs.declared.written.WrittenCall.TheVariants.{Begin, Change, Commit, Cancel, TakeBack, Show}
 use Rattle.wording.specs.Number.{is_written}
-use Rattle.wording.specs.Line.{lineIn}
-use Rattle.wording.specs.Written.{inputsWritten}
-use Rattle.listing.specs.Written.{openText, callText, lineText}
-use Rattle.auditing.specs.Gathered.{textLines, Numbered, sits, toldBy}
+use Rattle.wording.specs.Line.{line_in}
+use Rattle.wording.specs.Written.{inputs_written}
+use Rattle.listing.specs.Written.{open_text, call_text, line_text}
+use Rattle.auditing.specs.Gathered.{text_lines, Numbered, sits, told_by}
 
 -- ---- words of this page
 
@@ -87,14 +87,14 @@ pub data GoodCall : WrittenCall → Type 0 where
   show : {n : ℕ} → Fits n → GoodCall (Show n)
 
 -- calls written anew, a line each
-unfoldable pub callLines : List WrittenCall → List ℕ
-callLines [] = []
-callLines (c ∷ cs) = lineText (Call c) ++ callLines cs
+unfoldable pub call_lines : List WrittenCall → List ℕ
+call_lines [] = []
+call_lines (c ∷ cs) = line_text (Call c) ++ call_lines cs
 
 -- calls with the numbers of their lines, of which the first is line n
-unfoldable pub numberedFrom : ℕ → List WrittenCall → List Numbered
-numberedFrom n [] = []
-numberedFrom n (c ∷ cs) = record { call = c; line = n } ∷ numberedFrom (suc n) cs
+unfoldable pub numbered_from : ℕ → List WrittenCall → List Numbered
+numbered_from n [] = []
+numbered_from n (c ∷ cs) = record { call = c; line = n } ∷ numbered_from (suc n) cs
 
 -- ---- a call
 
@@ -104,19 +104,19 @@ numberedFrom n (c ∷ cs) = record { call = c; line = n } ∷ numberedFrom (suc 
 -- The text of every call that can be written (`GoodCall`: decimals of at most 18 digits, whole numbers
 -- below 2^32, flags and models 0 or 1) reads as that call
 abbrev pub CallReread : Type 0
-CallReread = (c : WrittenCall) → GoodCall c → lineIn (callText c) ≡ Call c
+CallReread = (c : WrittenCall) → GoodCall c → line_in (call_text c) ≡ Call c
 
 -- The text of every open that can be written (`GoodInputs`) reads as that open
 abbrev pub OpenReread : Type 0
-OpenReread = (o : WrittenInputs) → GoodInputs o → lineIn (openText o) ≡ Open o
+OpenReread = (o : WrittenInputs) → GoodInputs o → line_in (open_text o) ≡ Open o
 
 -- Every call that some line reads as can be written
 abbrev pub CallsGood : Type 0
-CallsGood = (l : List ℕ) (c : WrittenCall) → lineIn l ≡ Call c → GoodCall c
+CallsGood = (l : List ℕ) (c : WrittenCall) → line_in l ≡ Call c → GoodCall c
 
 -- Every open that some line reads as can be written
 abbrev pub OpensGood : Type 0
-OpensGood = (l : List ℕ) (o : WrittenInputs) → lineIn l ≡ Open o → GoodInputs o
+OpensGood = (l : List ℕ) (o : WrittenInputs) → line_in l ≡ Open o → GoodInputs o
 
 -- ---- a line
 
@@ -124,15 +124,15 @@ OpensGood = (l : List ℕ) (o : WrittenInputs) → lineIn l ≡ Open o → GoodI
 abbrev pub CallOneLine : Type 0
 CallOneLine =
     (c : WrittenCall) → GoodCall c →
-    (textLines (lineText (Call c)) ≡ callText c ∷ [])
-    × ((rest : List ℕ) → textLines (lineText (Call c) ++ rest) ≡ callText c ∷ textLines rest)
+    (text_lines (line_text (Call c)) ≡ call_text c ∷ [])
+    × ((rest : List ℕ) → text_lines (line_text (Call c) ++ rest) ≡ call_text c ∷ text_lines rest)
 
 -- So is an open that can be written
 abbrev pub OpenOneLine : Type 0
 OpenOneLine =
     (o : WrittenInputs) → GoodInputs o →
-    (textLines (lineText (Open o)) ≡ openText o ∷ [])
-    × ((rest : List ℕ) → textLines (lineText (Open o) ++ rest) ≡ openText o ∷ textLines rest)
+    (text_lines (line_text (Open o)) ≡ open_text o ∷ [])
+    × ((rest : List ℕ) → text_lines (line_text (Open o) ++ rest) ≡ open_text o ∷ text_lines rest)
 
 -- ---- a journal
 
@@ -140,6 +140,6 @@ OpenOneLine =
 -- are told as that open on line 1 and those calls from line 2 on
 abbrev pub JournalRewritten : Type 0
 JournalRewritten =
-    (o : WrittenInputs) (cs : List WrittenCall) → GoodInputs o → (openOf (inputsWritten o)).answer ≡ Accepted →
+    (o : WrittenInputs) (cs : List WrittenCall) → GoodInputs o → (open_of (inputs_written o)).answer ≡ Accepted →
     ((c : WrittenCall) → Memᴰ c cs → GoodCall c) →
-    toldBy (lineText (Open o) ++ callLines cs) (suc (length cs)) ≡ sits o 1 (numberedFrom 2 cs)
+    told_by (line_text (Open o) ++ call_lines cs) (suc (length cs)) ≡ sits o 1 (numbered_from 2 cs)

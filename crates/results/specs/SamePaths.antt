@@ -3,8 +3,8 @@ use Rattle.std.specs.Prelude.{◌≡◌, Bool, ℕ, get_or}
 use Rattle.std.specs.Float.Ieee.{lt}
 use Rattle.base.specs.declared.angle.Degrees.{Degrees}
 use Rattle.base.specs.Single.{decimal}
-use Rattle.base.specs.Number.{absOf}
-use Rattle.base.specs.Angle.{radiansOf}
+use Rattle.base.specs.Number.{abs_of}
+use Rattle.base.specs.Angle.{radians_of}
 use Rattle.maps.specs.declared.inputs.MagneticPole.{MagneticPole}
 use Rattle.maps.specs.declared.geometry.ControlPoint.{ControlPoint}
 use Rattle.maps.specs.declared.geometry.PathGeometry.{PathGeometry}
@@ -32,19 +32,19 @@ pub record SamePath (g h : PathGeometry) : Type 0 where
 -- ---- ends and poles that are typed otherwise and worked alike
 
 -- |latd| > 89.9, as it is asked of degrees as typed
-abbrev pub nearPole : Degrees → Bool
-nearPole latd = lt (decimal 899 1) (absOf latd.0)
+abbrev pub near_pole : Degrees → Bool
+near_pole latd = lt (decimal 899 1) (abs_of latd.0)
 
 -- two ends that are the same in radians and in that test
 pub record SameEnd (latd longd latd' longd' : Degrees) : Type 0 where
-  pub lat : radiansOf latd ≡ radiansOf latd'
-  pub lon : radiansOf longd ≡ radiansOf longd'
-  pub polar : nearPole latd ≡ nearPole latd'
+  pub lat : radians_of latd ≡ radians_of latd'
+  pub lon : radians_of longd ≡ radians_of longd'
+  pub polar : near_pole latd ≡ near_pole latd'
 
 -- two poles that are the same in radians
 pub record SamePole (p q : MagneticPole) : Type 0 where
-  pub lat : radiansOf p.lat ≡ radiansOf q.lat
-  pub lon : radiansOf p.lon ≡ radiansOf q.lon
+  pub lat : radians_of p.lat ≡ radians_of q.lat
+  pub lon : radians_of p.lon ≡ radians_of q.lon
 
 -- all of a path but `rlatd`, which is typed
 pub record SameWork (g h : PathGeometry) : Type 0 where

@@ -3,7 +3,7 @@ use Rattle.std.specs.Prelude.{ℕ, List, []}
 use Rattle.base.specs.declared.refusal.Verdict.{Verdict}
 use Rattle.base.specs.declared.refusal.Verdict.TheVariants.{Accepted, Refused}
 use Rattle.worksheet.specs.declared.desks.Worksheet.{Worksheet}
-use Rattle.worksheet.specs.Desks.{openOf, opened_of}
+use Rattle.worksheet.specs.Desks.{open_of, opened_of}
 use Rattle.worksheet.specs.Showing.{Source}
 use Rattle.worksheet.specs.Journal.{step}
 use Rattle.worksheet.specs.Calls.{called}
@@ -12,11 +12,11 @@ use Rattle.wording.specs.declared.line.Line.{Line}
 use Rattle.wording.specs.declared.line.Line.TheVariants.{Blank, Open, Call, Wrong}
 use Rattle.wording.specs.declared.written.WrittenCall.{WrittenCall}
 use Rattle.wording.specs.declared.written.WrittenInputs.{WrittenInputs}
-use Rattle.wording.specs.Line.{lineIn}
-use Rattle.wording.specs.Written.{inputsWritten, callWritten}
+use Rattle.wording.specs.Line.{line_in}
+use Rattle.wording.specs.Written.{inputs_written, call_written}
 use Rattle.listing.specs.Turn.{blank}
-use Rattle.listing.specs.Spoken.{spokenVerdict, spokenText, inputsAsked}
-use Rattle.listing.specs.Fault.{faultText, againText, unopenedText}
+use Rattle.listing.specs.Spoken.{spoken_verdict, spoken_text, inputs_asked}
+use Rattle.listing.specs.Fault.{fault_text, again_text, unopened_text}
 use Rattle.sitting.specs.declared.Sitting.{Sitting}
 use Rattle.sitting.specs.declared.Stage.{Stage}
 use Rattle.sitting.specs.declared.Stage.TheVariants as stage
@@ -27,65 +27,65 @@ pub record Hearing : Type 0 where
   pub text : List ℕ
 
 -- before the first line: the worksheet is that of no words at all, and nothing is made on it
-unfoldable pub firstSitting : Sitting
-firstSitting = record { stage = stage.Waiting; sheet = (opened_of []).sheet }
+unfoldable pub first_sitting : Sitting
+first_sitting = record { stage = stage.Waiting; sheet = (opened_of []).sheet }
 
 -- ---- a line that ends the journal: it is no call, or the open is refused
 
-abbrev pub endedBy : Sitting → Sitting
-endedBy s = record { stage = stage.Ended; sheet = s.sheet }
+abbrev pub ended_by : Sitting → Sitting
+ended_by s = record { stage = stage.Ended; sheet = s.sheet }
 
-abbrev pub endedWith : Sitting → List ℕ → Hearing
-endedWith s text = record { sitting = endedBy s; text = text }
+abbrev pub ended_with : Sitting → List ℕ → Hearing
+ended_with s text = record { sitting = ended_by s; text = text }
 
-abbrev pub stageAfter : Verdict → Stage
-stageAfter Accepted = stage.Open
-stageAfter (Refused why) = stage.Ended
+abbrev pub stage_after : Verdict → Stage
+stage_after Accepted = stage.Open
+stage_after (Refused why) = stage.Ended
 
 -- 'a refused one gives no worksheet'
-abbrev pub openedBy : ℕ → WrittenInputs → Hearing
-openedBy n o =
-    let done = openOf (inputsWritten o) in
+abbrev pub opened_by : ℕ → WrittenInputs → Hearing
+opened_by n o =
+    let done = open_of (inputs_written o) in
     record {
-      sitting = record { stage = stageAfter done.answer; sheet = done.sheet };
-      text = spokenVerdict n done.answer;
+      sitting = record { stage = stage_after done.answer; sheet = done.sheet };
+      text = spoken_verdict n done.answer;
     }
 
 -- ---- by the stage, at line n; once the journal has ended, nothing is said
 
 -- a journal has one open, its first call
-abbrev pub hearOpen : ℕ → WrittenInputs → Stage → Sitting → Hearing
-hearOpen n o stage.Waiting s = openedBy n o
-hearOpen n o stage.Open s = endedWith s (againText n)
-hearOpen n o stage.Ended s = endedWith s []
+abbrev pub hear_open : ℕ → WrittenInputs → Stage → Sitting → Hearing
+hear_open n o stage.Waiting s = opened_by n o
+hear_open n o stage.Open s = ended_with s (again_text n)
+hear_open n o stage.Ended s = ended_with s []
 
 -- a line that is no call
-abbrev pub hearWrong : ℕ → Fault → Stage → Sitting → Hearing
-hearWrong n f stage.Waiting s = endedWith s (faultText n f)
-hearWrong n f stage.Open s = endedWith s (faultText n f)
-hearWrong n f stage.Ended s = endedWith s []
+abbrev pub hear_wrong : ℕ → Fault → Stage → Sitting → Hearing
+hear_wrong n f stage.Waiting s = ended_with s (fault_text n f)
+hear_wrong n f stage.Open s = ended_with s (fault_text n f)
+hear_wrong n f stage.Ended s = ended_with s []
 
 module _ (source : Source) where
   -- on the worksheet that is open
-  abbrev pub madeBy : ℕ → WrittenCall → Worksheet → Hearing
-  madeBy n c w =
-      let next = step source (called (callWritten c) blank) w in
+  abbrev pub made_by : ℕ → WrittenCall → Worksheet → Hearing
+  made_by n c w =
+      let next = step source (called (call_written c) blank) w in
       record {
         sitting = record { stage = stage.Open; sheet = next.sheet };
-        text = spokenText n (inputsAsked (callWritten c) w) next.answer;
+        text = spoken_text n (inputs_asked (call_written c) w) next.answer;
       }
 
-  abbrev pub hearCall : ℕ → WrittenCall → Stage → Sitting → Hearing
-  hearCall n c stage.Waiting s = endedWith s (unopenedText n)
-  hearCall n c stage.Open s = madeBy n c s.sheet
-  hearCall n c stage.Ended s = endedWith s []
+  abbrev pub hear_call : ℕ → WrittenCall → Stage → Sitting → Hearing
+  hear_call n c stage.Waiting s = ended_with s (unopened_text n)
+  hear_call n c stage.Open s = made_by n c s.sheet
+  hear_call n c stage.Ended s = ended_with s []
 
-  abbrev pub hearLine : ℕ → Sitting → Line → Hearing
-  hearLine n s Blank = record { sitting = s; text = [] }
-  hearLine n s (Open o) = hearOpen n o s.stage s
-  hearLine n s (Call c) = hearCall n c s.stage s
-  hearLine n s (Wrong f) = hearWrong n f s.stage s
+  abbrev pub hear_line : ℕ → Sitting → Line → Hearing
+  hear_line n s Blank = record { sitting = s; text = [] }
+  hear_line n s (Open o) = hear_open n o s.stage s
+  hear_line n s (Call c) = hear_call n c s.stage s
+  hear_line n s (Wrong f) = hear_wrong n f s.stage s
 
   -- THE HEARING of line n of a journal
   unfoldable pub hearing : ℕ → Sitting → List ℕ → Hearing
-  hearing n s line = hearLine n s (lineIn line)
+  hearing n s line = hear_line n s (line_in line)

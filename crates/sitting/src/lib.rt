@@ -8,9 +8,9 @@ ghost use Rattle.worksheet.specs.Showing.{Source, lent_as};
 ghost use Rattle.worksheet.specs.Journal.{step};
 ghost use Rattle.worksheet.specs.Calls.{called};
 ghost use Rattle.listing.specs.Turn.{blank};
-ghost use Rattle.wording.specs.Written.{callWritten};
-ghost use Rattle.sitting.specs.Sitting.{firstSitting, endedBy, stageAfter, openedBy, hearOpen, hearWrong};
-ghost use Rattle.sitting.specs.Sitting.{madeBy, hearCall, hearing};
+ghost use Rattle.wording.specs.Written.{call_written};
+ghost use Rattle.sitting.specs.Sitting.{first_sitting, ended_by, stage_after, opened_by, hear_open, hear_wrong};
+ghost use Rattle.sitting.specs.Sitting.{made_by, hear_call, hearing};
 
 use base::refusal::Verdict;
 use listing::fault::{again_text, fault_text, unopened_text};
@@ -46,7 +46,7 @@ pub struct Heard {
 
 // A sitting before its first line. The worksheet in it is none that anything was opened with.
 pub fn waiting() -> Sitting
-    ensures { result ≡ firstSitting }
+    ensures { result ≡ first_sitting }
 {
     let o = opened(b"");
     let sheet = o.sheet;
@@ -57,7 +57,7 @@ pub fn waiting() -> Sitting
 }
 
 fn stage_after(v: Verdict) -> Stage
-    ensures { result ≡ stageAfter v }
+    ensures { result ≡ stage_after v }
 {
     match v {
         Verdict::Accepted => Stage::Open,
@@ -67,7 +67,7 @@ fn stage_after(v: Verdict) -> Stage
 
 // Nothing is heard any more.
 fn ended(s: Sitting) -> Sitting
-    ensures { result ≡ endedBy s }
+    ensures { result ≡ ended_by s }
 {
     let sheet = s.sheet;
     Sitting {
@@ -78,8 +78,8 @@ fn ended(s: Sitting) -> Sitting
 
 // The open of a journal that nothing is open on yet.
 fn open_first(number: u64, o: WrittenInputs, out: &mut [u8; SPOKEN]) -> Heard
-    ensures sitting { result.sitting ≡ (openedBy number o).sitting }
-    ensures text { take result.size out.new ≡ (openedBy number o).text }
+    ensures sitting { result.sitting ≡ (opened_by number o).sitting }
+    ensures text { take result.size out.new ≡ (opened_by number o).text }
     ensures count { IsPrefixLen result.size out.new }
 {
     let done = open(inputs_written(o));
@@ -98,8 +98,8 @@ fn open_first(number: u64, o: WrittenInputs, out: &mut [u8; SPOKEN]) -> Heard
 
 // What is said of an open by the stage: a journal has one, its first call.
 fn hear_open(s: Sitting, number: u64, o: WrittenInputs, out: &mut [u8; SPOKEN]) -> Heard
-    ensures sitting { result.sitting ≡ (hearOpen number o s.stage s).sitting }
-    ensures text { take result.size out.new ≡ (hearOpen number o s.stage s).text }
+    ensures sitting { result.sitting ≡ (hear_open number o s.stage s).sitting }
+    ensures text { take result.size out.new ≡ (hear_open number o s.stage s).text }
     ensures count { IsPrefixLen result.size out.new }
 {
     let stage = s.stage;
@@ -127,9 +127,9 @@ fn call_open(
     out: &mut [u8; SPOKEN],
 ) -> Heard
     ensures sitting { let source = lent_as lent a.now b.now in
-        result.sitting ≡ (madeBy source number c w).sitting }
+        result.sitting ≡ (made_by source number c w).sitting }
     ensures text { let source = lent_as lent a.now b.now in
-        take result.size out.new ≡ (madeBy source number c w).text }
+        take result.size out.new ≡ (made_by source number c w).text }
     ensures count { IsPrefixLen result.size out.new }
 {
     let turn = spoken(w, call_written(c), number, lent, a, b, out);
@@ -154,9 +154,9 @@ fn hear_call(
     out: &mut [u8; SPOKEN],
 ) -> Heard
     ensures sitting { let source = lent_as lent a.now b.now in
-        result.sitting ≡ (hearCall source number c s.stage s).sitting }
+        result.sitting ≡ (hear_call source number c s.stage s).sitting }
     ensures text { let source = lent_as lent a.now b.now in
-        take result.size out.new ≡ (hearCall source number c s.stage s).text }
+        take result.size out.new ≡ (hear_call source number c s.stage s).text }
     ensures count { IsPrefixLen result.size out.new }
 {
     let stage = s.stage;
@@ -178,8 +178,8 @@ fn hear_call(
 
 // What is said of a line that is no call by the stage: nothing, once the journal has ended.
 fn hear_wrong(s: Sitting, number: u64, f: Fault, out: &mut [u8; SPOKEN]) -> Heard
-    ensures sitting { result.sitting ≡ (hearWrong number f s.stage s).sitting }
-    ensures text { take result.size out.new ≡ (hearWrong number f s.stage s).text }
+    ensures sitting { result.sitting ≡ (hear_wrong number f s.stage s).sitting }
+    ensures text { take result.size out.new ≡ (hear_wrong number f s.stage s).text }
     ensures count { IsPrefixLen result.size out.new }
 {
     let stage = s.stage;
@@ -230,7 +230,7 @@ pub fn hear(
 
 // The worksheet after a call, whatever files are lent: none, so that a showing costs nothing.
 fn sheet_after(w: Worksheet, c: WrittenCall) -> Worksheet
-    ensures { (source : Source) → result ≡ (step source (called (callWritten c) blank) w).sheet }
+    ensures { (source : Source) → result ≡ (step source (called (call_written c) blank) w).sheet }
 {
     let mut figures = [0.0f32; FIGURES];
     let next = make(w, call_written(c), Lent::Pair, b"", b"", &mut figures);
@@ -238,7 +238,7 @@ fn sheet_after(w: Worksheet, c: WrittenCall) -> Worksheet
 }
 
 fn pass_open(s: Sitting, o: WrittenInputs) -> Sitting
-    ensures { (n : ℕ) → result ≡ (hearOpen n o s.stage s).sitting }
+    ensures { (n : ℕ) → result ≡ (hear_open n o s.stage s).sitting }
 {
     let stage = s.stage;
     match stage {
@@ -258,7 +258,7 @@ fn pass_open(s: Sitting, o: WrittenInputs) -> Sitting
 }
 
 fn pass_call(s: Sitting, c: WrittenCall) -> Sitting
-    ensures { (source : Source) (n : ℕ) → result ≡ (hearCall source n c s.stage s).sitting }
+    ensures { (source : Source) (n : ℕ) → result ≡ (hear_call source n c s.stage s).sitting }
 {
     let stage = s.stage;
     match stage {

@@ -19,7 +19,7 @@ use Rattle.wording.specs.declared.written.WrittenEdit.{WrittenEdit}
 use Rattle.wording.specs.declared.written.WrittenEdit.TheVariants.{Sunspot, Hour, Path, Psc, Pole, Month, Model}
 use Rattle.wording.specs.declared.written.WrittenCall.{WrittenCall}
 use Rattle.wording.specs.declared.written.WrittenCall.TheVariants.{Begin, Change, Commit, Cancel, TakeBack, Show}
-use Rattle.wording.specs.Token.{tokensOf, tokenAt}
+use Rattle.wording.specs.Token.{tokens_of, token_at}
 
 -- ---- the words by number, as `names` of Token.antt has them
 
@@ -82,49 +82,49 @@ BACK = 18
 
 -- ---- one word
 
-abbrev pub isNamed : ℕ → Token → Bool
-isNamed w (token.Word k) = eqb k w
-isNamed w (token.Number d) = false
-isNamed w token.Other = false
-isNamed w token.End = false
+abbrev pub is_named : ℕ → Token → Bool
+is_named w (token.Word k) = eqb k w
+is_named w (token.Number d) = false
+is_named w token.Other = false
+is_named w token.End = false
 
-abbrev pub isNumber : Token → Bool
-isNumber (token.Word k) = false
-isNumber (token.Number d) = true
-isNumber token.Other = false
-isNumber token.End = false
+abbrev pub is_number : Token → Bool
+is_number (token.Word k) = false
+is_number (token.Number d) = true
+is_number token.Other = false
+is_number token.End = false
 
 -- digits without a minus sign and with none after the point, of a number that fits a `u32`
-abbrev pub isWholeDecimal : Decimal → Bool
-isWholeDecimal d = not d.negative && eqb d.places 0 && ltb d.digits (2 ^ 32)
+abbrev pub is_whole_decimal : Decimal → Bool
+is_whole_decimal d = not d.negative && eqb d.places 0 && ltb d.digits (2 ^ 32)
 
-abbrev pub isWhole : Token → Bool
-isWhole (token.Word k) = false
-isWhole (token.Number d) = isWholeDecimal d
-isWhole token.Other = false
-isWhole token.End = false
+abbrev pub is_whole : Token → Bool
+is_whole (token.Word k) = false
+is_whole (token.Number d) = is_whole_decimal d
+is_whole token.Other = false
+is_whole token.End = false
 
-abbrev pub isEnd : Token → Bool
-isEnd (token.Word k) = false
-isEnd (token.Number d) = false
-isEnd token.Other = false
-isEnd token.End = true
+abbrev pub is_end : Token → Bool
+is_end (token.Word k) = false
+is_end (token.Number d) = false
+is_end token.Other = false
+is_end token.End = true
 
 -- 0 as a decimal: what stands for a number that is not there, which no call has
 abbrev pub nought : Decimal
 nought = record { negative = false; digits = 0; places = 0 }
 
-abbrev pub decimalIn : Token → Decimal
-decimalIn (token.Word k) = nought
-decimalIn (token.Number d) = d
-decimalIn token.Other = nought
-decimalIn token.End = nought
+abbrev pub decimal_in : Token → Decimal
+decimal_in (token.Word k) = nought
+decimal_in (token.Number d) = d
+decimal_in token.Other = nought
+decimal_in token.End = nought
 
 -- ---- whether words fit
 
 -- the word at place k is the (k + 1)th
-abbrev pub fitUnless : Bool → ℕ → Wanted → Fit
-fitUnless good k wanted = cond good Good (Wrong (record { word = suc k; wanted = wanted }))
+abbrev pub fit_unless : Bool → ℕ → Wanted → Fit
+fit_unless good k wanted = cond good Good (Wrong (record { word = suc k; wanted = wanted }))
 
 infixr 20 ◌andThen◌
 -- the first that does not fit
@@ -137,11 +137,11 @@ Good and_then f = f
 abbrev pub one : Decimal
 one = record { negative = false; digits = 1; places = 0 }
 
-abbrev pub usualFactors : WrittenFactors
-usualFactors = record { e = one; f1 = one; f2 = one; es = one }
+abbrev pub usual_factors : WrittenFactors
+usual_factors = record { e = one; f1 = one; f2 = one; es = one }
 
-abbrev pub usualPole : WrittenPole
-usualPole =
+abbrev pub usual_pole : WrittenPole
+usual_pole =
     record {
       lat = record { negative = false; digits = 785; places = 1 };
       lon = record { negative = true; digits = 69; places = 0 };
@@ -149,195 +149,195 @@ usualPole =
 
 -- ---- a line, if all its words fit
 
-abbrev pub lineIf : Fit → Line → Line
-lineIf Good l = l
-lineIf (Wrong x) l = line.Wrong x
+abbrev pub line_if : Fit → Line → Line
+line_if Good l = l
+line_if (Wrong x) l = line.Wrong x
 
-abbrev pub callIf : Fit → WrittenCall → Line
-callIf f c = lineIf f (line.Call c)
+abbrev pub call_if : Fit → WrittenCall → Line
+call_if f c = line_if f (line.Call c)
 
 module _ (t : Tokens) where
   -- ---- whether the word at place k fits
 
-  unfoldable pub wordFit : ℕ → ℕ → Fit
-  wordFit k w = fitUnless (isNamed w (tokenAt t k)) k (Word w)
+  unfoldable pub word_fit : ℕ → ℕ → Fit
+  word_fit k w = fit_unless (is_named w (token_at t k)) k (Word w)
 
-  unfoldable pub numberFit : ℕ → Fit
-  numberFit k = fitUnless (isNumber (tokenAt t k)) k Number
+  unfoldable pub number_fit : ℕ → Fit
+  number_fit k = fit_unless (is_number (token_at t k)) k Number
 
-  unfoldable pub wholeFit : ℕ → Fit
-  wholeFit k = fitUnless (isWhole (tokenAt t k)) k Whole
+  unfoldable pub whole_fit : ℕ → Fit
+  whole_fit k = fit_unless (is_whole (token_at t k)) k Whole
 
   -- 'ccir or ursi'
-  unfoldable pub modelFit : ℕ → Fit
-  modelFit k = cond (isNamed CCIR (tokenAt t k)) Good (fitUnless (isNamed URSI (tokenAt t k)) k AModel)
+  unfoldable pub model_fit : ℕ → Fit
+  model_fit k = cond (is_named CCIR (token_at t k)) Good (fit_unless (is_named URSI (token_at t k)) k AModel)
 
-  unfoldable pub endFit : ℕ → Fit
-  endFit k = fitUnless (isEnd (tokenAt t k)) k Nothing
+  unfoldable pub end_fit : ℕ → Fit
+  end_fit k = fit_unless (is_end (token_at t k)) k Nothing
 
   -- ---- the numbers at place k
 
-  unfoldable pub decimalAt : ℕ → Decimal
-  decimalAt k = decimalIn (tokenAt t k)
+  unfoldable pub decimal_at : ℕ → Decimal
+  decimal_at k = decimal_in (token_at t k)
 
   unfoldable pub whole_at : ℕ → ℕ
-  whole_at k = cond (isWhole (tokenAt t k)) (decimalAt k).digits 0
+  whole_at k = cond (is_whole (token_at t k)) (decimal_at k).digits 0
 
   -- '(0 CCIR, 1 URSI)'
   unfoldable pub model_at : ℕ → ℕ
-  model_at k = cond (isNamed URSI (tokenAt t k)) 1 0
+  model_at k = cond (is_named URSI (token_at t k)) 1 0
 
   -- ---- the parts of the inputs, from place k on
 
   -- two numbers, four numbers
-  unfoldable pub pairFit : ℕ → Fit
-  pairFit k = numberFit k and_then numberFit (k + 1)
+  unfoldable pub pair_fit : ℕ → Fit
+  pair_fit k = number_fit k and_then number_fit (k + 1)
 
-  unfoldable pub fourFit : ℕ → Fit
-  fourFit k = pairFit k and_then pairFit (k + 2)
+  unfoldable pub four_fit : ℕ → Fit
+  four_fit k = pair_fit k and_then pair_fit (k + 2)
 
   -- 'from LAT LON to LAT LON', and 'long' or not
-  unfoldable pub routeFit : ℕ → Fit
-  routeFit k = wordFit k FROM and_then pairFit (k + 1) and_then wordFit (k + 3) TO and_then pairFit (k + 4)
+  unfoldable pub route_fit : ℕ → Fit
+  route_fit k = word_fit k FROM and_then pair_fit (k + 1) and_then word_fit (k + 3) TO and_then pair_fit (k + 4)
 
-  abbrev pub isLongAt : ℕ → Bool
-  isLongAt k = isNamed LONG (tokenAt t (k + 6))
+  abbrev pub is_long_at : ℕ → Bool
+  is_long_at k = is_named LONG (token_at t (k + 6))
 
-  unfoldable pub routeAt : ℕ → WrittenRoute
-  routeAt k =
+  unfoldable pub route_at : ℕ → WrittenRoute
+  route_at k =
       record {
-        tlat = decimalAt (k + 1);
-        tlong = decimalAt (k + 2);
-        rlat = decimalAt (k + 4);
-        rlong = decimalAt (k + 5);
-        long_path = cond (isLongAt k) 1 0;
+        tlat = decimal_at (k + 1);
+        tlong = decimal_at (k + 2);
+        rlat = decimal_at (k + 4);
+        rlong = decimal_at (k + 5);
+        long_path = cond (is_long_at k) 1 0;
       }
 
   -- the place after it
-  unfoldable pub routeEnd : ℕ → ℕ
-  routeEnd k = cond (isLongAt k) (k + 7) (k + 6)
+  unfoldable pub route_end : ℕ → ℕ
+  route_end k = cond (is_long_at k) (k + 7) (k + 6)
 
   -- 'E F1 F2 ES'
-  unfoldable pub factorsAt : ℕ → WrittenFactors
-  factorsAt k = record { e = decimalAt k; f1 = decimalAt (k + 1); f2 = decimalAt (k + 2); es = decimalAt (k + 3) }
+  unfoldable pub factors_at : ℕ → WrittenFactors
+  factors_at k = record { e = decimal_at k; f1 = decimal_at (k + 1); f2 = decimal_at (k + 2); es = decimal_at (k + 3) }
 
   -- 'LAT LON'
-  unfoldable pub poleAt : ℕ → WrittenPole
-  poleAt k = record { lat = decimalAt k; lon = decimalAt (k + 1) }
+  unfoldable pub pole_at : ℕ → WrittenPole
+  pole_at k = record { lat = decimal_at k; lon = decimal_at (k + 1) }
 
   -- ---- 'open month 6 sunspot 80 hour 12 from 62.47 6.15 to 64.13 -21.9'; it 'may add `long`,
   -- `factors ..`, `pole ..`, `model ..` (else 1 1 1 1, 78.5 -69, ccir)', in this order
 
   -- from month to path: the thirteen words after which the others may stand
-  unfoldable pub headFit : Fit
-  headFit =
-      wordFit 1 MONTH and_then wholeFit 2 and_then wordFit 3 SUNSPOT and_then numberFit 4
-      and_then wordFit 5 HOUR and_then numberFit 6 and_then routeFit 7
+  unfoldable pub head_fit : Fit
+  head_fit =
+      word_fit 1 MONTH and_then whole_fit 2 and_then word_fit 3 SUNSPOT and_then number_fit 4
+      and_then word_fit 5 HOUR and_then number_fit 6 and_then route_fit 7
 
   -- whether the word at place k brings an optional part
   abbrev pub brings : ℕ → ℕ → Bool
-  brings w k = isNamed w (tokenAt t k)
+  brings w k = is_named w (token_at t k)
 
   -- where the factors, the pole, the model and the end of the line are to be
-  unfoldable pub factorsStart : ℕ
-  factorsStart = routeEnd 7
+  unfoldable pub factors_start : ℕ
+  factors_start = route_end 7
 
-  unfoldable pub poleStart : ℕ
-  poleStart = cond (brings FACTORS factorsStart) (factorsStart + 5) factorsStart
+  unfoldable pub pole_start : ℕ
+  pole_start = cond (brings FACTORS factors_start) (factors_start + 5) factors_start
 
-  unfoldable pub modelStart : ℕ
-  modelStart = cond (brings POLE poleStart) (poleStart + 3) poleStart
+  unfoldable pub model_start : ℕ
+  model_start = cond (brings POLE pole_start) (pole_start + 3) pole_start
 
-  unfoldable pub openEnd : ℕ
-  openEnd = cond (brings MODEL modelStart) (modelStart + 2) modelStart
+  unfoldable pub open_end : ℕ
+  open_end = cond (brings MODEL model_start) (model_start + 2) model_start
 
-  unfoldable pub factorsFit : Fit
-  factorsFit = cond (brings FACTORS factorsStart) (fourFit (factorsStart + 1)) Good
+  unfoldable pub factors_fit : Fit
+  factors_fit = cond (brings FACTORS factors_start) (four_fit (factors_start + 1)) Good
 
-  unfoldable pub poleFit : Fit
-  poleFit = cond (brings POLE poleStart) (pairFit (poleStart + 1)) Good
+  unfoldable pub pole_fit : Fit
+  pole_fit = cond (brings POLE pole_start) (pair_fit (pole_start + 1)) Good
 
-  unfoldable pub modelsFit : Fit
-  modelsFit = cond (brings MODEL modelStart) (modelFit (modelStart + 1)) Good
+  unfoldable pub models_fit : Fit
+  models_fit = cond (brings MODEL model_start) (model_fit (model_start + 1)) Good
 
-  unfoldable pub openFit : Fit
-  openFit = headFit and_then factorsFit and_then poleFit and_then modelsFit and_then endFit openEnd
+  unfoldable pub open_fit : Fit
+  open_fit = head_fit and_then factors_fit and_then pole_fit and_then models_fit and_then end_fit open_end
 
-  unfoldable pub openingFactors : WrittenFactors
-  openingFactors = cond (brings FACTORS factorsStart) (factorsAt (factorsStart + 1)) usualFactors
+  unfoldable pub opening_factors : WrittenFactors
+  opening_factors = cond (brings FACTORS factors_start) (factors_at (factors_start + 1)) usual_factors
 
-  unfoldable pub openingPole : WrittenPole
-  openingPole = cond (brings POLE poleStart) (poleAt (poleStart + 1)) usualPole
+  unfoldable pub opening_pole : WrittenPole
+  opening_pole = cond (brings POLE pole_start) (pole_at (pole_start + 1)) usual_pole
 
-  unfoldable pub openingModel : ℕ
-  openingModel = cond (brings MODEL modelStart) (model_at (modelStart + 1)) 0
+  unfoldable pub opening_model : ℕ
+  opening_model = cond (brings MODEL model_start) (model_at (model_start + 1)) 0
 
-  unfoldable pub openingAt : WrittenInputs
-  openingAt =
+  unfoldable pub opening_at : WrittenInputs
+  opening_at =
       record {
         month = whole_at 2;
-        ssn = decimalAt 4;
-        gmt = decimalAt 6;
-        route = routeAt 7;
-        psc = openingFactors;
-        pole = openingPole;
-        model = openingModel;
+        ssn = decimal_at 4;
+        gmt = decimal_at 6;
+        route = route_at 7;
+        psc = opening_factors;
+        pole = opening_pole;
+        model = opening_model;
       }
 
   -- ---- a call of desk n, what it does being the word w at place 1
 
   -- a change
-  unfoldable pub changeLine : ℕ → ℕ → Line
-  changeLine n w =
-      cond (eqb w SUNSPOT) (callIf (numberFit 2 and_then endFit 3) (Change n (Sunspot (decimalAt 2))))
-      (cond (eqb w HOUR) (callIf (numberFit 2 and_then endFit 3) (Change n (Hour (decimalAt 2))))
-      (cond (eqb w PATH) (callIf (routeFit 2 and_then endFit (routeEnd 2)) (Change n (Path (routeAt 2))))
-      (cond (eqb w FACTORS) (callIf (fourFit 2 and_then endFit 6) (Change n (Psc (factorsAt 2))))
-      (cond (eqb w POLE) (callIf (pairFit 2 and_then endFit 4) (Change n (Pole (poleAt 2))))
-      (cond (eqb w MONTH) (callIf (wholeFit 2 and_then endFit 3) (Change n (Month (whole_at 2))))
-      (cond (eqb w MODEL) (callIf (modelFit 2 and_then endFit 3) (Change n (Model (model_at 2))))
+  unfoldable pub change_line : ℕ → ℕ → Line
+  change_line n w =
+      cond (eqb w SUNSPOT) (call_if (number_fit 2 and_then end_fit 3) (Change n (Sunspot (decimal_at 2))))
+      (cond (eqb w HOUR) (call_if (number_fit 2 and_then end_fit 3) (Change n (Hour (decimal_at 2))))
+      (cond (eqb w PATH) (call_if (route_fit 2 and_then end_fit (route_end 2)) (Change n (Path (route_at 2))))
+      (cond (eqb w FACTORS) (call_if (four_fit 2 and_then end_fit 6) (Change n (Psc (factors_at 2))))
+      (cond (eqb w POLE) (call_if (pair_fit 2 and_then end_fit 4) (Change n (Pole (pole_at 2))))
+      (cond (eqb w MONTH) (call_if (whole_fit 2 and_then end_fit 3) (Change n (Month (whole_at 2))))
+      (cond (eqb w MODEL) (call_if (model_fit 2 and_then end_fit 3) (Change n (Model (model_at 2))))
       (line.Wrong (record { word = 2; wanted = Deed }))))))))
 
   -- any call
-  unfoldable pub deedLine : ℕ → ℕ → Line
-  deedLine n w =
-      cond (eqb w BEGIN) (callIf (endFit 2) (Begin n))
-      (cond (eqb w COMMIT) (callIf (endFit 2) (Commit n))
-      (cond (eqb w CANCEL) (callIf (endFit 2) (Cancel n))
-      (cond (eqb w SHOW) (callIf (endFit 2) (Show n)) (changeLine n w))))
+  unfoldable pub deed_line : ℕ → ℕ → Line
+  deed_line n w =
+      cond (eqb w BEGIN) (call_if (end_fit 2) (Begin n))
+      (cond (eqb w COMMIT) (call_if (end_fit 2) (Commit n))
+      (cond (eqb w CANCEL) (call_if (end_fit 2) (Cancel n))
+      (cond (eqb w SHOW) (call_if (end_fit 2) (Show n)) (change_line n w))))
 
   -- what it does being the word at place 1, if that is one
-  abbrev pub deskLine : ℕ → Token → Line
-  deskLine n (token.Word w) = deedLine n w
-  deskLine n (token.Number d) = line.Wrong (record { word = 2; wanted = Deed })
-  deskLine n token.Other = line.Wrong (record { word = 2; wanted = Deed })
-  deskLine n token.End = line.Wrong (record { word = 2; wanted = Deed })
+  abbrev pub desk_line : ℕ → Token → Line
+  desk_line n (token.Word w) = deed_line n w
+  desk_line n (token.Number d) = line.Wrong (record { word = 2; wanted = Deed })
+  desk_line n token.Other = line.Wrong (record { word = 2; wanted = Deed })
+  desk_line n token.End = line.Wrong (record { word = 2; wanted = Deed })
 
   -- ---- a line
 
   -- one that begins with the word w
   unfoldable pub word_line : ℕ → Line
   word_line w =
-      cond (eqb w OPEN) (lineIf openFit (line.Open openingAt))
-      (cond (eqb w SHOW) (callIf (endFit 1) (Show 0))
-      (cond (eqb w TAKE) (callIf (wordFit 1 BACK and_then endFit 2) TakeBack)
+      cond (eqb w OPEN) (line_if open_fit (line.Open opening_at))
+      (cond (eqb w SHOW) (call_if (end_fit 1) (Show 0))
+      (cond (eqb w TAKE) (call_if (word_fit 1 BACK and_then end_fit 2) TakeBack)
       (line.Wrong (record { word = 1; wanted = Start }))))
 
   -- one that begins with a number, the desk's
-  unfoldable pub numberLine : Decimal → Line
-  numberLine d =
-      cond (isWholeDecimal d) (deskLine d.digits (tokenAt t 1)) (line.Wrong (record { word = 1; wanted = Start }))
+  unfoldable pub number_line : Decimal → Line
+  number_line d =
+      cond (is_whole_decimal d) (desk_line d.digits (token_at t 1)) (line.Wrong (record { word = 1; wanted = Start }))
 
   -- by its first word
-  abbrev pub startLine : Token → Line
-  startLine token.End = line.Blank
-  startLine (token.Word w) = word_line w
-  startLine (token.Number d) = numberLine d
-  startLine token.Other = line.Wrong (record { word = 1; wanted = Start })
+  abbrev pub start_line : Token → Line
+  start_line token.End = line.Blank
+  start_line (token.Word w) = word_line w
+  start_line (token.Number d) = number_line d
+  start_line token.Other = line.Wrong (record { word = 1; wanted = Start })
 
 -- THE LINE that bytes are
-unfoldable pub lineIn : List ℕ → Line
-lineIn l = let t = tokensOf l in startLine t (tokenAt t 0)
+unfoldable pub line_in : List ℕ → Line
+line_in l = let t = tokens_of l in start_line t (token_at t 0)
 
 -- ---- on the way: nothing below need be believed
 
@@ -345,47 +345,47 @@ lineIn l = let t = tokensOf l in startLine t (tokenAt t 0)
 -- they then are, each by itself.
 
 module _ (t : Tokens) where
-  unfoldable pub changeFit : ℕ → Fit
-  changeFit w =
-      cond (eqb w SUNSPOT) (numberFit t 2 and_then endFit t 3)
-      (cond (eqb w HOUR) (numberFit t 2 and_then endFit t 3)
-      (cond (eqb w PATH) (routeFit t 2 and_then endFit t (routeEnd t 2))
-      (cond (eqb w FACTORS) (fourFit t 2 and_then endFit t 6)
-      (cond (eqb w POLE) (pairFit t 2 and_then endFit t 4)
-      (cond (eqb w MONTH) (wholeFit t 2 and_then endFit t 3)
-      (cond (eqb w MODEL) (modelFit t 2 and_then endFit t 3) (Wrong (record { word = 2; wanted = Deed }))))))))
+  unfoldable pub change_fit : ℕ → Fit
+  change_fit w =
+      cond (eqb w SUNSPOT) (number_fit t 2 and_then end_fit t 3)
+      (cond (eqb w HOUR) (number_fit t 2 and_then end_fit t 3)
+      (cond (eqb w PATH) (route_fit t 2 and_then end_fit t (route_end t 2))
+      (cond (eqb w FACTORS) (four_fit t 2 and_then end_fit t 6)
+      (cond (eqb w POLE) (pair_fit t 2 and_then end_fit t 4)
+      (cond (eqb w MONTH) (whole_fit t 2 and_then end_fit t 3)
+      (cond (eqb w MODEL) (model_fit t 2 and_then end_fit t 3) (Wrong (record { word = 2; wanted = Deed }))))))))
 
-  unfoldable pub changeEdit : ℕ → WrittenEdit
-  changeEdit w =
-      cond (eqb w SUNSPOT) (Sunspot (decimalAt t 2))
-      (cond (eqb w HOUR) (Hour (decimalAt t 2))
-      (cond (eqb w PATH) (Path (routeAt t 2))
-      (cond (eqb w FACTORS) (Psc (factorsAt t 2))
-      (cond (eqb w POLE) (Pole (poleAt t 2)) (cond (eqb w MONTH) (Month (whole_at t 2)) (Model (model_at t 2)))))))
+  unfoldable pub change_edit : ℕ → WrittenEdit
+  change_edit w =
+      cond (eqb w SUNSPOT) (Sunspot (decimal_at t 2))
+      (cond (eqb w HOUR) (Hour (decimal_at t 2))
+      (cond (eqb w PATH) (Path (route_at t 2))
+      (cond (eqb w FACTORS) (Psc (factors_at t 2))
+      (cond (eqb w POLE) (Pole (pole_at t 2)) (cond (eqb w MONTH) (Month (whole_at t 2)) (Model (model_at t 2)))))))
 
-  unfoldable pub deedFit : ℕ → Fit
-  deedFit w =
-      cond (eqb w BEGIN) (endFit t 2)
-      (cond (eqb w COMMIT) (endFit t 2)
-      (cond (eqb w CANCEL) (endFit t 2) (cond (eqb w SHOW) (endFit t 2) (changeFit w))))
+  unfoldable pub deed_fit : ℕ → Fit
+  deed_fit w =
+      cond (eqb w BEGIN) (end_fit t 2)
+      (cond (eqb w COMMIT) (end_fit t 2)
+      (cond (eqb w CANCEL) (end_fit t 2) (cond (eqb w SHOW) (end_fit t 2) (change_fit w))))
 
-  unfoldable pub deedCall : ℕ → ℕ → WrittenCall
-  deedCall n w =
+  unfoldable pub deed_call : ℕ → ℕ → WrittenCall
+  deed_call n w =
       cond (eqb w BEGIN) (Begin n)
       (cond (eqb w COMMIT) (Commit n)
-      (cond (eqb w CANCEL) (Cancel n) (cond (eqb w SHOW) (Show n) (Change n (changeEdit w)))))
+      (cond (eqb w CANCEL) (Cancel n) (cond (eqb w SHOW) (Show n) (Change n (change_edit w)))))
 
-  unfoldable pub bareFit : ℕ → Fit
-  bareFit w =
-      cond (eqb w SHOW) (endFit t 1)
-      (cond (eqb w TAKE) (wordFit t 1 BACK and_then endFit t 2) (Wrong (record { word = 1; wanted = Start })))
+  unfoldable pub bare_fit : ℕ → Fit
+  bare_fit w =
+      cond (eqb w SHOW) (end_fit t 1)
+      (cond (eqb w TAKE) (word_fit t 1 BACK and_then end_fit t 2) (Wrong (record { word = 1; wanted = Start })))
 
-unfoldable pub bareCall : ℕ → WrittenCall
-bareCall w = cond (eqb w SHOW) (Show 0) TakeBack
+unfoldable pub bare_call : ℕ → WrittenCall
+bare_call w = cond (eqb w SHOW) (Show 0) TakeBack
 
 -- no word has the number 19
-abbrev pub wordNumber : Token → ℕ
-wordNumber (token.Word w) = w
-wordNumber (token.Number d) = 19
-wordNumber token.Other = 19
-wordNumber token.End = 19
+abbrev pub word_number : Token → ℕ
+word_number (token.Word w) = w
+word_number (token.Number d) = 19
+word_number token.Other = 19
+word_number token.End = 19

@@ -10,48 +10,48 @@ use Rattle.wording.specs.declared.number.Number.TheVariants.{Is, Not}
 -- ---- reading
 
 -- '0' to '9'
-abbrev pub isDigit : ℕ → Bool
-isDigit c = leb 48 c && leb c 57
+abbrev pub is_digit : ℕ → Bool
+is_digit c = leb 48 c && leb c 57
 
-unfoldable pub allDigits : List ℕ → Bool
-allDigits [] = true
-allDigits (c ∷ l) = isDigit c && allDigits l
+unfoldable pub all_digits : List ℕ → Bool
+all_digits [] = true
+all_digits (c ∷ l) = is_digit c && all_digits l
 
 -- the whole number that digits are, after those that are n
-unfoldable pub valueFrom : ℕ → List ℕ → ℕ
-valueFrom n [] = n
-valueFrom n (c ∷ l) = valueFrom (10 * n + (c - 48)) l
+unfoldable pub value_from : ℕ → List ℕ → ℕ
+value_from n [] = n
+value_from n (c ∷ l) = value_from (10 * n + (c - 48)) l
 
 -- what stands before the first point, and what after it: nothing where there is no point
-unfoldable pub beforePoint : List ℕ → List ℕ
-beforePoint [] = []
-beforePoint (c ∷ l) = cond (eqb c 46) [] (c ∷ beforePoint l)
+unfoldable pub before_point : List ℕ → List ℕ
+before_point [] = []
+before_point (c ∷ l) = cond (eqb c 46) [] (c ∷ before_point l)
 
-unfoldable pub afterPoint : List ℕ → List ℕ
-afterPoint [] = []
-afterPoint (c ∷ l) = cond (eqb c 46) l (afterPoint l)
+unfoldable pub after_point : List ℕ → List ℕ
+after_point [] = []
+after_point (c ∷ l) = cond (eqb c 46) l (after_point l)
 
 -- the digits of a number, its point left out
-abbrev pub digitsIn : List ℕ → List ℕ
-digitsIn l = beforePoint l ++ afterPoint l
+abbrev pub digits_in : List ℕ → List ℕ
+digits_in l = before_point l ++ after_point l
 
 -- a number without its sign: digits, one at least, with a point among, before or after them or none;
 -- at most 18 of them, zeros in front not counted, and at most 18 after the point
-unfoldable pub isUnsigned : List ℕ → Bool
-isUnsigned l =
-    allDigits (digitsIn l) && ltb 0 (length (digitsIn l))
-    && ltb (valueFrom 0 (digitsIn l)) (10 ^ 18) && leb (length (afterPoint l)) 18
+unfoldable pub is_unsigned : List ℕ → Bool
+is_unsigned l =
+    all_digits (digits_in l) && ltb 0 (length (digits_in l))
+    && ltb (value_from 0 (digits_in l)) (10 ^ 18) && leb (length (after_point l)) 18
 
-unfoldable pub unsignedIn : Bool → List ℕ → Number
-unsignedIn negative l =
-    cond (isUnsigned l)
-    (Is (record { negative = negative; digits = valueFrom 0 (digitsIn l); places = length (afterPoint l) }))
+unfoldable pub unsigned_in : Bool → List ℕ → Number
+unsigned_in negative l =
+    cond (is_unsigned l)
+    (Is (record { negative = negative; digits = value_from 0 (digits_in l); places = length (after_point l) }))
     Not
 
 -- with '-' (45), '+' (43) or no sign
 unfoldable pub number_in : List ℕ → Number
 number_in [] = Not
-number_in (c ∷ l) = cond (eqb c 45) (unsignedIn true l) (cond (eqb c 43) (unsignedIn false l) (unsignedIn false (c ∷ l)))
+number_in (c ∷ l) = cond (eqb c 45) (unsigned_in true l) (cond (eqb c 43) (unsigned_in false l) (unsigned_in false (c ∷ l)))
 
 -- ---- its value
 
@@ -60,7 +60,7 @@ abbrev pub is_written : Decimal → Bool
 is_written d = ltb d.digits (10 ^ 18) && leb d.places 18
 
 -- the `f32` nearest to the decimal as written, a tie to the even one, -0 kept: `decimal`, or
--- `minusDecimal`, of base/specs/Single.antt
+-- `minus_decimal`, of base/specs/Single.antt
 unfoldable pub float_of : Decimal → Float
 float_of d = cond (is_written d) (round binary32 d.negative d.digits (10 ^ d.places)) nan
 
@@ -75,8 +75,8 @@ abbrev pub spoilt : Scan
 spoilt = record { digits = 0; places = 0; any = false; point = false; good = false }
 
 -- with a digit after what is read, a point after it, any byte after it
-unfoldable pub withDigit : Scan → ℕ → Scan
-withDigit s x =
+unfoldable pub with_digit : Scan → ℕ → Scan
+with_digit s x =
     cond (ltb s.digits (10 ^ 17) && ltb s.places 18)
     (record {
       digits = 10 * s.digits + x;
@@ -87,17 +87,17 @@ withDigit s x =
     })
     spoilt
 
-unfoldable pub withPoint : Scan → Scan
-withPoint s =
+unfoldable pub with_point : Scan → Scan
+with_point s =
     cond s.point spoilt
     (record { digits = s.digits; places = s.places; any = s.any; point = true; good = s.good })
 
-unfoldable pub withByte : Scan → ℕ → Scan
-withByte s c = cond (isDigit c) (withDigit s (c - 48)) (cond (eqb c 46) (withPoint s) spoilt)
+unfoldable pub with_byte : Scan → ℕ → Scan
+with_byte s c = cond (is_digit c) (with_digit s (c - 48)) (cond (eqb c 46) (with_point s) spoilt)
 
 unfoldable pub scanned : Scan → List ℕ → Scan
 scanned s [] = s
-scanned s (c ∷ l) = scanned (withByte s c) l
+scanned s (c ∷ l) = scanned (with_byte s c) l
 
 -- what is read, as a number with this sign
 unfoldable pub number_of : Bool → Scan → Number

@@ -33,8 +33,8 @@ same (c ∷ l) (d ∷ m) = eqb c d && same l m
 -- ---- words
 
 -- a blank, a tab or the carriage return that some editors put at a line's end
-abbrev pub isBlank : ℕ → Bool
-isBlank c = eqb c 32 || eqb c 9 || eqb c 13
+abbrev pub is_blank : ℕ → Bool
+is_blank c = eqb c 32 || eqb c 9 || eqb c 13
 
 -- a comment begins at '#'
 unfoldable pub uncommented : List ℕ → List ℕ
@@ -47,57 +47,57 @@ closed [] = []
 closed (c ∷ w) = (c ∷ w) ∷ []
 
 -- the words of the bytes that follow, w being the letters of the word that was begun
-unfoldable pub wordsFrom : List ℕ → List ℕ → List (List ℕ)
-wordsFrom w [] = closed w
-wordsFrom w (c ∷ l) = cond (isBlank c) (closed w ++ wordsFrom [] l) (wordsFrom (w ++ (c ∷ [])) l)
+unfoldable pub words_from : List ℕ → List ℕ → List (List ℕ)
+words_from w [] = closed w
+words_from w (c ∷ l) = cond (is_blank c) (closed w ++ words_from [] l) (words_from (w ++ (c ∷ [])) l)
 
 -- the runs of a line's bytes that are no blanks, up to a comment
-abbrev pub lineWords : List ℕ → List (List ℕ)
-lineWords line = wordsFrom [] (uncommented line)
+abbrev pub line_words : List ℕ → List (List ℕ)
+line_words line = words_from [] (uncommented line)
 
 -- ---- what a word is
 
 -- the number of the word among the names, from k on; `Other` where it is not there
-unfoldable pub nameFrom : ℕ → List String → List ℕ → Token
-nameFrom k [] w = Other
-nameFrom k (s ∷ l) w = cond (same (ascii s) w) (Word k) (nameFrom (suc k) l w)
+unfoldable pub name_from : ℕ → List String → List ℕ → Token
+name_from k [] w = Other
+name_from k (s ∷ l) w = cond (same (ascii s) w) (Word k) (name_from (suc k) l w)
 
 -- a number, if it is no such word
-abbrev pub numberOr : Written → Token
-numberOr (Is d) = Number d
-numberOr Not = Other
+abbrev pub number_or : Written → Token
+number_or (Is d) = Number d
+number_or Not = Other
 
-abbrev pub nameOr : Token → List ℕ → Token
-nameOr Other w = numberOr (number_in w)
-nameOr (Word k) w = Word k
-nameOr (Number d) w = Number d
-nameOr End w = End
+abbrev pub name_or : Token → List ℕ → Token
+name_or Other w = number_or (number_in w)
+name_or (Word k) w = Word k
+name_or (Number d) w = Number d
+name_or End w = End
 
-unfoldable pub tokenOf : List ℕ → Token
-tokenOf w = nameOr (nameFrom 0 names w) w
+unfoldable pub token_of : List ℕ → Token
+token_of w = name_or (name_from 0 names w) w
 
 -- ---- the words of a line by their places
 
 unfoldable pub slots_of : List (List ℕ) → List Slot
 slots_of [] = []
-slots_of (w ∷ l) = record { token = tokenOf w } ∷ slots_of l
+slots_of (w ∷ l) = record { token = token_of w } ∷ slots_of l
 
 -- 25 of them, `End` after the last
-unfoldable pub firstTokens : List (List ℕ) → Tokens
-firstTokens words = record { slots = take 25 (slots_of words ++ replicate 25 (record { token = End })) }
+unfoldable pub first_tokens : List (List ℕ) → Tokens
+first_tokens words = record { slots = take 25 (slots_of words ++ replicate 25 (record { token = End })) }
 
-unfoldable pub tokensOf : List ℕ → Tokens
-tokensOf line = firstTokens (lineWords line)
+unfoldable pub tokens_of : List ℕ → Tokens
+tokens_of line = first_tokens (line_words line)
 
 -- the word at place k, from 0 on
-unfoldable pub tokenAt : Tokens → ℕ → Token
-tokenAt t k = (get_or t.slots k (record { token = End })).token
+unfoldable pub token_at : Tokens → ℕ → Token
+token_at t k = (get_or t.slots k (record { token = End })).token
 
 -- ---- on the way: nothing below need be believed
 
 -- Only private contracts and proofs use what follows.
 
 -- the letters of a name, which a table has with blanks behind
-unfoldable pub beforeBlank : List ℕ → List ℕ
-beforeBlank [] = []
-beforeBlank (c ∷ l) = cond (eqb c 32) [] (c ∷ beforeBlank l)
+unfoldable pub before_blank : List ℕ → List ℕ
+before_blank [] = []
+before_blank (c ∷ l) = cond (eqb c 32) [] (c ∷ before_blank l)

@@ -19,50 +19,50 @@ use Rattle.wording.specs.declared.written.WrittenCall.{WrittenCall}
 use Rattle.wording.specs.declared.written.WrittenCall.TheVariants.{Begin, Change, Commit, Cancel, TakeBack, Show}
 use Rattle.wording.specs.Number.{float_of}
 
-abbrev pub degreesWritten : Decimal → Degrees
-degreesWritten d = record { 0 = float_of d }
+abbrev pub degrees_written : Decimal → Degrees
+degrees_written d = record { 0 = float_of d }
 
-unfoldable pub routeWritten : WrittenRoute → Route
-routeWritten p =
+unfoldable pub route_written : WrittenRoute → Route
+route_written p =
     record {
-      tlat = degreesWritten p.tlat;
-      tlong = degreesWritten p.tlong;
-      rlat = degreesWritten p.rlat;
-      rlong = degreesWritten p.rlong;
+      tlat = degrees_written p.tlat;
+      tlong = degrees_written p.tlong;
+      rlat = degrees_written p.rlat;
+      rlong = degrees_written p.rlong;
       long_path = p.long_path;
     }
 
-unfoldable pub factorsWritten : WrittenFactors → Factors
-factorsWritten p = record { e = float_of p.e; f1 = float_of p.f1; f2 = float_of p.f2; es = float_of p.es }
+unfoldable pub factors_written : WrittenFactors → Factors
+factors_written p = record { e = float_of p.e; f1 = float_of p.f1; f2 = float_of p.f2; es = float_of p.es }
 
-unfoldable pub poleWritten : WrittenPole → MagneticPole
-poleWritten p = record { lat = degreesWritten p.lat; lon = degreesWritten p.lon }
+unfoldable pub pole_written : WrittenPole → MagneticPole
+pole_written p = record { lat = degrees_written p.lat; lon = degrees_written p.lon }
 
-unfoldable pub inputsWritten : WrittenInputs → Inputs
-inputsWritten o =
+unfoldable pub inputs_written : WrittenInputs → Inputs
+inputs_written o =
     record {
       month = o.month;
       ssn = float_of o.ssn;
       gmt = float_of o.gmt;
-      route = routeWritten o.route;
-      psc = factorsWritten o.psc;
-      pole = poleWritten o.pole;
+      route = route_written o.route;
+      psc = factors_written o.psc;
+      pole = pole_written o.pole;
       model = o.model;
     }
 
-unfoldable pub editWritten : WrittenEdit → Edit
-editWritten (Sunspot d) = edit.Sunspot (float_of d)
-editWritten (Hour d) = edit.Hour (float_of d)
-editWritten (Path p) = edit.Path (routeWritten p)
-editWritten (Psc p) = edit.Psc (factorsWritten p)
-editWritten (Pole p) = edit.Pole (poleWritten p)
-editWritten (Month m) = edit.Month m
-editWritten (Model m) = edit.Model m
+unfoldable pub edit_written : WrittenEdit → Edit
+edit_written (Sunspot d) = edit.Sunspot (float_of d)
+edit_written (Hour d) = edit.Hour (float_of d)
+edit_written (Path p) = edit.Path (route_written p)
+edit_written (Psc p) = edit.Psc (factors_written p)
+edit_written (Pole p) = edit.Pole (pole_written p)
+edit_written (Month m) = edit.Month m
+edit_written (Model m) = edit.Model m
 
-unfoldable pub callWritten : WrittenCall → Call
-callWritten (Begin n) = call.Begin n
-callWritten (Change n e) = call.Change n (editWritten e)
-callWritten (Commit n) = call.Commit n
-callWritten (Cancel n) = call.Cancel n
-callWritten TakeBack = call.TakeBack
-callWritten (Show n) = call.Show n
+unfoldable pub call_written : WrittenCall → Call
+call_written (Begin n) = call.Begin n
+call_written (Change n e) = call.Change n (edit_written e)
+call_written (Commit n) = call.Commit n
+call_written (Cancel n) = call.Cancel n
+call_written TakeBack = call.TakeBack
+call_written (Show n) = call.Show n

@@ -1,9 +1,9 @@
 // A line of a journal: nothing, an open, a call, or what is wrong with it. Each form of a call is
 // checked word by word from the left, and the first word that does not fit decides.
 ghost use Rattle.std.specs.Prelude.{◌≡◌, cond, ◌+◌, ◌≤◌, ◌<◌};
-ghost use Rattle.wording.specs.Token.{tokenAt};
+ghost use Rattle.wording.specs.Token.{token_at};
 ghost use Rattle.wording.specs.declared.line.Line.TheVariants.{Open, Wrong};
-ghost use Rattle.wording.specs.Line.{isNamed, isNumber, isWholeDecimal, isWhole, isEnd, decimalIn, fitUnless, ◌andThen◌, usualFactors, usualPole, lineIf, callIf, wordFit, numberFit, wholeFit, modelFit, endFit, decimalAt, whole_at, model_at, pairFit, fourFit, routeFit, isLongAt, routeAt, routeEnd, factorsAt, poleAt, headFit, brings, factorsStart, poleStart, modelStart, openEnd, factorsFit, poleFit, modelsFit, openFit, openingFactors, openingPole, openingModel, openingAt, deedLine, numberLine, word_line, startLine, lineIn, changeFit, changeEdit, deedFit, deedCall, wordNumber, bareFit, bareCall};
+ghost use Rattle.wording.specs.Line.{is_named, is_number, is_whole_decimal, is_whole, is_end, decimal_in, fit_unless, ◌andThen◌, usual_factors, usual_pole, line_if, call_if, word_fit, number_fit, whole_fit, model_fit, end_fit, decimal_at, whole_at, model_at, pair_fit, four_fit, route_fit, is_long_at, route_at, route_end, factors_at, pole_at, head_fit, brings, factors_start, pole_start, model_start, open_end, factors_fit, pole_fit, models_fit, open_fit, opening_factors, opening_pole, opening_model, opening_at, deed_line, number_line, word_line, start_line, line_in, change_fit, change_edit, deed_fit, deed_call, word_number, bare_fit, bare_call};
 
 use crate::number::Decimal;
 use crate::token::{
@@ -58,7 +58,7 @@ pub enum Line {
 // ---- one word
 
 fn is_named(w: u32, t: Token) -> bool
-    ensures { result ≡ isNamed w t }
+    ensures { result ≡ is_named w t }
 {
     match t {
         Token::Word(k) => k == w,
@@ -69,7 +69,7 @@ fn is_named(w: u32, t: Token) -> bool
 }
 
 fn is_number(t: Token) -> bool
-    ensures { result ≡ isNumber t }
+    ensures { result ≡ is_number t }
 {
     match t {
         Token::Word(_) => false,
@@ -81,7 +81,7 @@ fn is_number(t: Token) -> bool
 
 // Whether it is a whole number, not below 0, that fits a `u32`.
 fn is_whole_decimal(d: Decimal) -> bool
-    ensures { result ≡ isWholeDecimal d }
+    ensures { result ≡ is_whole_decimal d }
 {
     if d.negative {
         return false;
@@ -93,7 +93,7 @@ fn is_whole_decimal(d: Decimal) -> bool
 }
 
 fn is_whole(t: Token) -> bool
-    ensures { result ≡ isWhole t }
+    ensures { result ≡ is_whole t }
 {
     match t {
         Token::Word(_) => false,
@@ -104,7 +104,7 @@ fn is_whole(t: Token) -> bool
 }
 
 fn is_end(t: Token) -> bool
-    ensures { result ≡ isEnd t }
+    ensures { result ≡ is_end t }
 {
     match t {
         Token::Word(_) => false,
@@ -116,7 +116,7 @@ fn is_end(t: Token) -> bool
 
 // The number that a word is, 0 where it is none.
 fn decimal_in(t: Token) -> Decimal
-    ensures { result ≡ decimalIn t }
+    ensures { result ≡ decimal_in t }
 {
     let nought = Decimal {
         negative: false,
@@ -136,7 +136,7 @@ fn decimal_in(t: Token) -> Decimal
 // The word at place k is the (k + 1)th.
 fn fit_unless(good: bool, k: u32, wanted: Wanted) -> Fit
     requires { k < 32 }
-    ensures { result ≡ fitUnless good k wanted }
+    ensures { result ≡ fit_unless good k wanted }
 {
     if good {
         Fit::Good
@@ -159,35 +159,35 @@ fn and_then(a: Fit, b: Fit) -> Fit
 }
 
 fn token(t: Tokens, k: u32) -> Token
-    ensures { result ≡ tokenAt t k }
+    ensures { result ≡ token_at t k }
 {
     token_at(t, k as usize)
 }
 
 fn word_fit(t: Tokens, k: u32, w: u32) -> Fit
     requires { k < 32 }
-    ensures { result ≡ wordFit t k w }
+    ensures { result ≡ word_fit t k w }
 {
     fit_unless(is_named(w, token(t, k)), k, Wanted::Word(w))
 }
 
 fn number_fit(t: Tokens, k: u32) -> Fit
     requires { k < 32 }
-    ensures { result ≡ numberFit t k }
+    ensures { result ≡ number_fit t k }
 {
     fit_unless(is_number(token(t, k)), k, Wanted::Number)
 }
 
 fn whole_fit(t: Tokens, k: u32) -> Fit
     requires { k < 32 }
-    ensures { result ≡ wholeFit t k }
+    ensures { result ≡ whole_fit t k }
 {
     fit_unless(is_whole(token(t, k)), k, Wanted::Whole)
 }
 
 fn end_fit(t: Tokens, k: u32) -> Fit
     requires { k < 32 }
-    ensures { result ≡ endFit t k }
+    ensures { result ≡ end_fit t k }
 {
     fit_unless(is_end(token(t, k)), k, Wanted::Nothing)
 }
@@ -207,7 +207,7 @@ fn number_if(yes: bool, one: u32, other: u32) -> u32
 
 fn model_fit(t: Tokens, k: u32) -> Fit
     requires { k < 32 }
-    ensures { result ≡ modelFit t k }
+    ensures { result ≡ model_fit t k }
 {
     let word = token(t, k);
     let other = fit_unless(is_named(URSI, word), k, Wanted::Model);
@@ -217,7 +217,7 @@ fn model_fit(t: Tokens, k: u32) -> Fit
 // ---- the numbers at a place
 
 fn decimal_at(t: Tokens, k: u32) -> Decimal
-    ensures { result ≡ decimalAt t k }
+    ensures { result ≡ decimal_at t k }
 {
     decimal_in(token(t, k))
 }
@@ -243,21 +243,21 @@ fn model_at(t: Tokens, k: u32) -> u32
 
 fn pair_fit(t: Tokens, k: u32) -> Fit
     requires { k < 31 }
-    ensures { result ≡ pairFit t k }
+    ensures { result ≡ pair_fit t k }
 {
     and_then(number_fit(t, k), number_fit(t, k + 1))
 }
 
 fn four_fit(t: Tokens, k: u32) -> Fit
     requires { k < 29 }
-    ensures { result ≡ fourFit t k }
+    ensures { result ≡ four_fit t k }
 {
     and_then(pair_fit(t, k), pair_fit(t, k + 2))
 }
 
 fn route_fit(t: Tokens, k: u32) -> Fit
     requires { k < 27 }
-    ensures { result ≡ routeFit t k }
+    ensures { result ≡ route_fit t k }
 {
     let second = and_then(word_fit(t, k + 3, TO), pair_fit(t, k + 4));
     let first = and_then(pair_fit(t, k + 1), second);
@@ -266,14 +266,14 @@ fn route_fit(t: Tokens, k: u32) -> Fit
 
 fn is_long_at(t: Tokens, k: u32) -> bool
     requires { k < 32 }
-    ensures { result ≡ isLongAt t k }
+    ensures { result ≡ is_long_at t k }
 {
     is_named(LONG, token(t, k + 6))
 }
 
 fn route_at(t: Tokens, k: u32) -> WrittenRoute
     requires { k < 32 }
-    ensures { result ≡ routeAt t k }
+    ensures { result ≡ route_at t k }
 {
     WrittenRoute {
         tlat: decimal_at(t, k + 1),
@@ -287,7 +287,7 @@ fn route_at(t: Tokens, k: u32) -> WrittenRoute
 // The place after it.
 fn route_end(t: Tokens, k: u32) -> u32
     requires { k < 32 }
-    ensures place { result ≡ routeEnd t k }
+    ensures place { result ≡ route_end t k }
     ensures bound { result ≤ k + 7 }
 {
     number_if(is_long_at(t, k), k + 7, k + 6)
@@ -296,7 +296,7 @@ fn route_end(t: Tokens, k: u32) -> u32
 // 'E F1 F2 ES'
 fn factors_at(t: Tokens, k: u32) -> WrittenFactors
     requires { k < 32 }
-    ensures { result ≡ factorsAt t k }
+    ensures { result ≡ factors_at t k }
 {
     WrittenFactors {
         e: decimal_at(t, k),
@@ -309,7 +309,7 @@ fn factors_at(t: Tokens, k: u32) -> WrittenFactors
 // 'LAT LON'
 fn pole_at(t: Tokens, k: u32) -> WrittenPole
     requires { k < 32 }
-    ensures { result ≡ poleAt t k }
+    ensures { result ≡ pole_at t k }
 {
     WrittenPole {
         lat: decimal_at(t, k),
@@ -320,7 +320,7 @@ fn pole_at(t: Tokens, k: u32) -> WrittenPole
 // ---- an open
 
 fn usual_factors() -> WrittenFactors
-    ensures { result ≡ usualFactors }
+    ensures { result ≡ usual_factors }
 {
     let one = Decimal {
         negative: false,
@@ -336,7 +336,7 @@ fn usual_factors() -> WrittenFactors
 }
 
 fn usual_pole() -> WrittenPole
-    ensures { result ≡ usualPole }
+    ensures { result ≡ usual_pole }
 {
     WrittenPole {
         lat: Decimal {
@@ -353,7 +353,7 @@ fn usual_pole() -> WrittenPole
 }
 
 fn head_fit(t: Tokens) -> Fit
-    ensures { result ≡ headFit t }
+    ensures { result ≡ head_fit t }
 {
     let hour = and_then(
         word_fit(t, 5, HOUR),
@@ -371,14 +371,14 @@ fn brings(t: Tokens, w: u32, k: u32) -> bool
 }
 
 fn factors_start(t: Tokens) -> u32
-    ensures place { result ≡ factorsStart t }
+    ensures place { result ≡ factors_start t }
     ensures bound { result ≤ 14 }
 {
     route_end(t, 7)
 }
 
 fn pole_start(t: Tokens) -> u32
-    ensures place { result ≡ poleStart t }
+    ensures place { result ≡ pole_start t }
     ensures bound { result ≤ 19 }
 {
     let k = factors_start(t);
@@ -386,7 +386,7 @@ fn pole_start(t: Tokens) -> u32
 }
 
 fn model_start(t: Tokens) -> u32
-    ensures place { result ≡ modelStart t }
+    ensures place { result ≡ model_start t }
     ensures bound { result ≤ 22 }
 {
     let k = pole_start(t);
@@ -394,7 +394,7 @@ fn model_start(t: Tokens) -> u32
 }
 
 fn open_end(t: Tokens) -> u32
-    ensures place { result ≡ openEnd t }
+    ensures place { result ≡ open_end t }
     ensures bound { result ≤ 24 }
 {
     let k = model_start(t);
@@ -402,28 +402,28 @@ fn open_end(t: Tokens) -> u32
 }
 
 fn factors_fit(t: Tokens) -> Fit
-    ensures { result ≡ factorsFit t }
+    ensures { result ≡ factors_fit t }
 {
     let k = factors_start(t);
     fit_if(brings(t, FACTORS, k), four_fit(t, k + 1), Fit::Good)
 }
 
 fn pole_fit(t: Tokens) -> Fit
-    ensures { result ≡ poleFit t }
+    ensures { result ≡ pole_fit t }
 {
     let k = pole_start(t);
     fit_if(brings(t, POLE, k), pair_fit(t, k + 1), Fit::Good)
 }
 
 fn models_fit(t: Tokens) -> Fit
-    ensures { result ≡ modelsFit t }
+    ensures { result ≡ models_fit t }
 {
     let k = model_start(t);
     fit_if(brings(t, MODEL, k), model_fit(t, k + 1), Fit::Good)
 }
 
 fn open_fit(t: Tokens) -> Fit
-    ensures { result ≡ openFit t }
+    ensures { result ≡ open_fit t }
 {
     let end = and_then(models_fit(t), end_fit(t, open_end(t)));
     and_then(
@@ -433,7 +433,7 @@ fn open_fit(t: Tokens) -> Fit
 }
 
 fn opening_factors(t: Tokens) -> WrittenFactors
-    ensures { result ≡ openingFactors t }
+    ensures { result ≡ opening_factors t }
 {
     let k = factors_start(t);
     let usual = usual_factors();
@@ -446,7 +446,7 @@ fn opening_factors(t: Tokens) -> WrittenFactors
 }
 
 fn opening_pole(t: Tokens) -> WrittenPole
-    ensures { result ≡ openingPole t }
+    ensures { result ≡ opening_pole t }
 {
     let k = pole_start(t);
     let usual = usual_pole();
@@ -455,14 +455,14 @@ fn opening_pole(t: Tokens) -> WrittenPole
 }
 
 fn opening_model(t: Tokens) -> u32
-    ensures { result ≡ openingModel t }
+    ensures { result ≡ opening_model t }
 {
     let k = model_start(t);
     number_if(brings(t, MODEL, k), model_at(t, k + 1), 0)
 }
 
 fn opening_at(t: Tokens) -> WrittenInputs
-    ensures { result ≡ openingAt t }
+    ensures { result ≡ opening_at t }
 {
     WrittenInputs {
         month: whole_at(t, 2),
@@ -478,7 +478,7 @@ fn opening_at(t: Tokens) -> WrittenInputs
 // ---- a line, if all its words fit
 
 fn line_if(f: Fit, l: Line) -> Line
-    ensures { result ≡ lineIf f l }
+    ensures { result ≡ line_if f l }
 {
     match f {
         Fit::Good => l,
@@ -487,7 +487,7 @@ fn line_if(f: Fit, l: Line) -> Line
 }
 
 fn call_if(f: Fit, c: WrittenCall) -> Line
-    ensures { result ≡ callIf f c }
+    ensures { result ≡ call_if f c }
 {
     line_if(f, Line::Call(c))
 }
@@ -501,7 +501,7 @@ fn wrong(word: u32, wanted: Wanted) -> Line
 // Whether the words of a change fit, what it changes being the word w. What fits and what is meant
 // are decided apart and put together once: a branch over lines is dear.
 fn change_fit(t: Tokens, w: u32) -> Fit
-    ensures { result ≡ changeFit t w }
+    ensures { result ≡ change_fit t w }
 {
     if w == SUNSPOT {
         return and_then(number_fit(t, 2), end_fit(t, 3));
@@ -531,7 +531,7 @@ fn change_fit(t: Tokens, w: u32) -> Fit
 }
 
 fn change_edit(t: Tokens, w: u32) -> WrittenEdit
-    ensures { result ≡ changeEdit t w }
+    ensures { result ≡ change_edit t w }
 {
     if w == SUNSPOT {
         return WrittenEdit::Sunspot(decimal_at(t, 2));
@@ -555,7 +555,7 @@ fn change_edit(t: Tokens, w: u32) -> WrittenEdit
 }
 
 fn deed_fit(t: Tokens, w: u32) -> Fit
-    ensures { result ≡ deedFit t w }
+    ensures { result ≡ deed_fit t w }
 {
     let end = end_fit(t, 2);
     if w == BEGIN {
@@ -574,7 +574,7 @@ fn deed_fit(t: Tokens, w: u32) -> Fit
 }
 
 fn deed_call(t: Tokens, n: u32, w: u32) -> WrittenCall
-    ensures { result ≡ deedCall t n w }
+    ensures { result ≡ deed_call t n w }
 {
     if w == BEGIN {
         return WrittenCall::Begin(n);
@@ -593,14 +593,14 @@ fn deed_call(t: Tokens, n: u32, w: u32) -> WrittenCall
 
 // Of desk n, what it does being the word w.
 fn deed_line(t: Tokens, n: u32, w: u32) -> Line
-    ensures { result ≡ deedLine t n w }
+    ensures { result ≡ deed_line t n w }
 {
     call_if(deed_fit(t, w), deed_call(t, n, w))
 }
 
 // A word's number, and one that no word has where it is none.
 fn word_number(t: Token) -> u32
-    ensures { result ≡ wordNumber t }
+    ensures { result ≡ word_number t }
 {
     match t {
         Token::Word(w) => w,
@@ -612,7 +612,7 @@ fn word_number(t: Token) -> u32
 
 // A line that begins with a number, the desk's.
 fn number_line(t: Tokens, d: Decimal) -> Line
-    ensures { result ≡ numberLine t d }
+    ensures { result ≡ number_line t d }
 {
     if is_whole_decimal(d) {
         return deed_line(t, d.digits as u32, word_number(token(t, 1)));
@@ -622,7 +622,7 @@ fn number_line(t: Tokens, d: Decimal) -> Line
 
 // What fits and what is meant, of a line that begins with a word and is no open.
 fn bare_fit(t: Tokens, w: u32) -> Fit
-    ensures { result ≡ bareFit t w }
+    ensures { result ≡ bare_fit t w }
 {
     if w == SHOW {
         return end_fit(t, 1);
@@ -637,7 +637,7 @@ fn bare_fit(t: Tokens, w: u32) -> Fit
 }
 
 fn bare_call(w: u32) -> WrittenCall
-    ensures { result ≡ bareCall w }
+    ensures { result ≡ bare_call w }
 {
     if w == SHOW {
         WrittenCall::Show(0)
@@ -647,7 +647,7 @@ fn bare_call(w: u32) -> WrittenCall
 }
 
 fn open_line(t: Tokens) -> Line
-    ensures { result ≡ lineIf (openFit t) (Open (openingAt t)) }
+    ensures { result ≡ line_if (open_fit t) (Open (opening_at t)) }
 {
     line_if(open_fit(t), Line::Open(opening_at(t)))
 }
@@ -663,7 +663,7 @@ fn word_line(t: Tokens, w: u32) -> Line
 }
 
 fn start_line(t: Tokens, first: Token) -> Line
-    ensures { result ≡ startLine t first }
+    ensures { result ≡ start_line t first }
 {
     match first {
         Token::End => Line::Blank,
@@ -675,7 +675,7 @@ fn start_line(t: Tokens, first: Token) -> Line
 
 // What a line of a journal says.
 pub fn line_in(line: &[u8]) -> Line
-    ensures { result ≡ lineIn line.now }
+    ensures { result ≡ line_in line.now }
 {
     let t = tokens_in(line);
     start_line(t, token(t, 0))

@@ -3,7 +3,7 @@ ghost use Rattle.std.specs.Prelude.{◌≡◌, Bool, cond, length, drop};
 ghost use Prim.Native.Nat.{◌+◌, ◌*◌, ◌^◌, ◌≤◌, ◌<◌, compare};
 ghost use Rattle.std.specs.Float.{binary32};
 ghost use Rattle.std.specs.Float.Ieee.{nearest, of_bits, round};
-ghost use Rattle.wording.specs.Number.{number_in, float_of, isDigit, unsignedIn, unread, spoilt, withDigit, withPoint, withByte, scanned, number_of};
+ghost use Rattle.wording.specs.Number.{number_in, float_of, is_digit, unsigned_in, unread, spoilt, with_digit, with_point, with_byte, scanned, number_of};
 
 use base::number::float32;
 
@@ -48,7 +48,7 @@ fn spoil() -> Scan
 
 // '0' to '9'.
 fn is_digit(c: u8) -> bool
-    ensures { result ≡ isDigit c }
+    ensures { result ≡ is_digit c }
 {
     if c < 48 {
         return false;
@@ -59,7 +59,7 @@ fn is_digit(c: u8) -> bool
 // With the digit x after what is read; spoilt where that is too many.
 fn with_digit(s: Scan, x: u64) -> Scan
     requires { x ≤ 9 }
-    ensures { result ≡ withDigit s x }
+    ensures { result ≡ with_digit s x }
 {
     if s.digits >= 100000000000000000 {
         return spoil();
@@ -79,7 +79,7 @@ fn with_digit(s: Scan, x: u64) -> Scan
 
 // With a point after what is read; spoilt where there was one.
 fn with_point(s: Scan) -> Scan
-    ensures { result ≡ withPoint s }
+    ensures { result ≡ with_point s }
 {
     if s.point {
         return spoil();
@@ -95,7 +95,7 @@ fn with_point(s: Scan) -> Scan
 
 // With the byte c after what is read; spoilt where it is no digit and no point.
 fn with_byte(s: Scan, c: u8) -> Scan
-    ensures { result ≡ withByte s c }
+    ensures { result ≡ with_byte s c }
 {
     if is_digit(c) {
         return with_digit(s, (c - 48) as u64);
@@ -145,7 +145,7 @@ fn number_of(negative: bool, s: Scan) -> Number
 // What the bytes from `from` on, which have no sign, are as a number with this one.
 fn unsigned_in(negative: bool, word: &[u8], from: usize) -> Number
     requires { from ≤ length word.now }
-    ensures { result ≡ unsignedIn negative (drop from word.now) }
+    ensures { result ≡ unsigned_in negative (drop from word.now) }
 {
     number_of(negative, scan_from(word, from))
 }

@@ -2,7 +2,7 @@
 // neither.
 ghost use Rattle.std.specs.Prelude.{◌≡◌, [], ◌++◌, ◌+◌, ◌-◌, ◌≤◌, ◌<◌, length, get_or, take, drop};
 ghost use Rattle.wording.specs.declared.token.Token.TheVariants.{End};
-ghost use Rattle.wording.specs.Token.{names, ascii, same, isBlank, uncommented, closed, wordsFrom, nameFrom, numberOr, tokenOf, tokensOf, tokenAt, firstTokens, beforeBlank};
+ghost use Rattle.wording.specs.Token.{names, ascii, same, is_blank, uncommented, closed, words_from, name_from, number_or, token_of, tokens_of, token_at, first_tokens, before_blank};
 
 use crate::number::{Decimal, Number, number_in};
 
@@ -97,7 +97,7 @@ const NAMES: [[u8; 8]; 19] = [
 // The letters of a word, and blanks.
 fn name(k: usize) -> [u8; 8]
     requires { k < 19 }
-    ensures { beforeBlank result ≡ ascii (get_or names k "") }
+    ensures { before_blank result ≡ ascii (get_or names k "") }
 {
     NAMES[k]
 }
@@ -111,7 +111,7 @@ fn letter(name: &[u8], i: usize) -> u8
 
 // Whether a word is a name, that is its letters up to the first blank.
 fn is_name(name: &[u8], word: &[u8]) -> bool
-    ensures { result ≡ same (beforeBlank name.now) word.now }
+    ensures { result ≡ same (before_blank name.now) word.now }
 {
     let mut i: usize = 0;
     while i < word.len() {
@@ -129,7 +129,7 @@ fn is_name(name: &[u8], word: &[u8]) -> bool
 
 // The word by its number, where it is one of the names.
 fn name_in(word: &[u8]) -> Token
-    ensures { result ≡ nameFrom 0 names word.now }
+    ensures { result ≡ name_from 0 names word.now }
 {
     // Each begins with a small letter: no number is sought among them.
     if letter(word, 0) < b'a' {
@@ -147,7 +147,7 @@ fn name_in(word: &[u8]) -> Token
 }
 
 fn number_or(n: Number) -> Token
-    ensures { result ≡ numberOr n }
+    ensures { result ≡ number_or n }
 {
     match n {
         Number::Is(d) => Token::Number(d),
@@ -157,7 +157,7 @@ fn number_or(n: Number) -> Token
 
 // What a word is.
 pub fn token_in(word: &[u8]) -> Token
-    ensures { result ≡ tokenOf word.now }
+    ensures { result ≡ token_of word.now }
 {
     let name = name_in(word);
     match name {
@@ -169,7 +169,7 @@ pub fn token_in(word: &[u8]) -> Token
 }
 
 fn is_blank(c: u8) -> bool
-    ensures { result ≡ isBlank c }
+    ensures { result ≡ is_blank c }
 {
     if c == b' ' {
         return true;
@@ -200,8 +200,8 @@ fn word_end(line: &[u8], from: usize) -> usize
     requires { from ≤ length line.now }
     ensures within { (from ≤ result) × (result ≤ length line.now) }
     ensures words { let l = line.now in
-        wordsFrom [] (drop from l)
-        ≡ closed (take (result - from) (drop from l)) ++ wordsFrom [] (drop (result + 1) l) }
+        words_from [] (drop from l)
+        ≡ closed (take (result - from) (drop from l)) ++ words_from [] (drop (result + 1) l) }
 {
     let mut i = from;
     while i < line.len() {
@@ -215,7 +215,7 @@ fn word_end(line: &[u8], from: usize) -> usize
 
 // The words of a line that has no comment; those that no slot is left for are not read.
 fn words_in(line: &[u8]) -> Tokens
-    ensures { result ≡ firstTokens (wordsFrom [] line.now) }
+    ensures { result ≡ first_tokens (words_from [] line.now) }
 {
     let mut slots = [Slot { token: Token::End }; WORDS];
     let mut n: usize = 0;
@@ -238,7 +238,7 @@ fn words_in(line: &[u8]) -> Tokens
 
 // The words of a line, each as what it is.
 pub fn tokens_in(line: &[u8]) -> Tokens
-    ensures { result ≡ tokensOf line.now }
+    ensures { result ≡ tokens_of line.now }
 {
     let end = comment_at(line);
     words_in(&line[..end])
@@ -257,7 +257,7 @@ fn slot_at(slots: [Slot; WORDS], k: usize) -> Token
 
 // The word at place k, from 0 on.
 pub fn token_at(t: Tokens, k: usize) -> Token
-    ensures { result ≡ tokenAt t k }
+    ensures { result ≡ token_at t k }
 {
     let slots = t.slots;
     slot_at(slots, k)

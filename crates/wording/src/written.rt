@@ -1,6 +1,6 @@
 // Calls as they are written, their numbers as decimals, and the calls on a worksheet that they are.
 ghost use Rattle.std.specs.Prelude.{◌≡◌};
-ghost use Rattle.wording.specs.Written.{degreesWritten, routeWritten, factorsWritten, poleWritten, inputsWritten, editWritten, callWritten};
+ghost use Rattle.wording.specs.Written.{degrees_written, route_written, factors_written, pole_written, inputs_written, edit_written, call_written};
 
 use crate::number::{Decimal, float_of};
 use base::angle::Degrees;
@@ -65,13 +65,13 @@ pub enum WrittenCall {
 }
 
 fn degrees_written(d: Decimal) -> Degrees
-    ensures { result ≡ degreesWritten d }
+    ensures { result ≡ degrees_written d }
 {
     Degrees(float_of(d))
 }
 
 fn route_written(p: WrittenRoute) -> Route
-    ensures { result ≡ routeWritten p }
+    ensures { result ≡ route_written p }
 {
     Route {
         tlat: degrees_written(p.tlat),
@@ -83,7 +83,7 @@ fn route_written(p: WrittenRoute) -> Route
 }
 
 fn factors_written(p: WrittenFactors) -> Factors
-    ensures { result ≡ factorsWritten p }
+    ensures { result ≡ factors_written p }
 {
     Factors {
         e: float_of(p.e),
@@ -94,7 +94,7 @@ fn factors_written(p: WrittenFactors) -> Factors
 }
 
 fn pole_written(p: WrittenPole) -> MagneticPole
-    ensures { result ≡ poleWritten p }
+    ensures { result ≡ pole_written p }
 {
     MagneticPole {
         lat: degrees_written(p.lat),
@@ -104,7 +104,7 @@ fn pole_written(p: WrittenPole) -> MagneticPole
 
 // The inputs that an open names.
 pub fn inputs_written(o: WrittenInputs) -> Inputs
-    ensures { result ≡ inputsWritten o }
+    ensures { result ≡ inputs_written o }
 {
     Inputs {
         month: o.month,
@@ -118,7 +118,7 @@ pub fn inputs_written(o: WrittenInputs) -> Inputs
 }
 
 fn edit_written(e: WrittenEdit) -> Edit
-    ensures { result ≡ editWritten e }
+    ensures { result ≡ edit_written e }
 {
     match e {
         WrittenEdit::Sunspot(d) => Edit::Sunspot(float_of(d)),
@@ -133,7 +133,7 @@ fn edit_written(e: WrittenEdit) -> Edit
 
 // The call that a written one is.
 pub fn call_written(c: WrittenCall) -> Call
-    ensures { result ≡ callWritten c }
+    ensures { result ≡ call_written c }
 {
     match c {
         WrittenCall::Begin(n) => Call::Begin(n),

@@ -6,7 +6,7 @@ use Rattle.base.specs.declared.refusal.Verdict.{Verdict}
 use Rattle.base.specs.declared.refusal.Verdict.TheVariants.{Accepted, Refused}
 use Rattle.maps.specs.declared.inputs.Inputs.{Inputs}
 use Rattle.base.specs.Words.{word_at}
-use Rattle.maps.specs.Inputs.{inputsFrom, wordOfSheet}
+use Rattle.maps.specs.Inputs.{inputs_from, word_of_sheet}
 use Rattle.worksheet.specs.declared.inputs.Edit.{Edit}
 use Rattle.worksheet.specs.declared.desks.Draft.{Draft}
 use Rattle.worksheet.specs.declared.desks.Draft.TheVariants.{Closed, Fresh, Stale}
@@ -14,18 +14,18 @@ use Rattle.worksheet.specs.declared.desks.Earlier.{Earlier}
 use Rattle.worksheet.specs.declared.desks.Earlier.TheVariants.{Nothing, Set}
 use Rattle.worksheet.specs.declared.desks.Worksheet.{Worksheet}
 use Rattle.worksheet.specs.declared.desks.Outcome.{Outcome}
-use Rattle.base.specs.Refusal.{refuseUnless, ◌then◌, writtenOver}
-use Rattle.worksheet.specs.Inputs.{inputsCheck, editCheck, edited}
+use Rattle.base.specs.Refusal.{refuse_unless, ◌then◌, written_over}
+use Rattle.worksheet.specs.Inputs.{inputs_check, edit_check, edited}
 
 -- ---- 'a draft or none for each desk 1 to 4'
 
 -- the draft of desk n; any other number has none
-unfoldable pub draftAt : ℕ → Worksheet → Draft
-draftAt n w = cond (eqb n 1) w.d1 (cond (eqb n 2) w.d2 (cond (eqb n 3) w.d3 (cond (eqb n 4) w.d4 Closed)))
+unfoldable pub draft_at : ℕ → Worksheet → Draft
+draft_at n w = cond (eqb n 1) w.d1 (cond (eqb n 2) w.d2 (cond (eqb n 3) w.d3 (cond (eqb n 4) w.d4 Closed)))
 
 -- the worksheet with d as the draft of desk n, and all else as it was
-unfoldable pub withDraft : ℕ → Draft → Worksheet → Worksheet
-withDraft n d w =
+unfoldable pub with_draft : ℕ → Draft → Worksheet → Worksheet
+with_draft n d w =
     record {
       inputs = w.inputs;
       earlier = w.earlier;
@@ -36,146 +36,146 @@ withDraft n d w =
     }
 
 -- the inputs in a draft; i where there is no draft
-unfoldable pub inputsOf : Draft → Inputs → Inputs
-inputsOf Closed i = i
-inputsOf (Fresh x) i = x
-inputsOf (Stale x) i = x
+unfoldable pub inputs_of : Draft → Inputs → Inputs
+inputs_of Closed i = i
+inputs_of (Fresh x) i = x
+inputs_of (Stale x) i = x
 
-unfoldable pub staleOf : Draft → Draft
-staleOf Closed = Closed
-staleOf (Fresh x) = Stale x
-staleOf (Stale x) = Stale x
+unfoldable pub stale_of : Draft → Draft
+stale_of Closed = Closed
+stale_of (Fresh x) = Stale x
+stale_of (Stale x) = Stale x
 
 -- the worksheet with new inputs and a new earlier set, where every open draft turns stale
-unfoldable pub movedTo : Inputs → Earlier → Worksheet → Worksheet
-movedTo i e w =
+unfoldable pub moved_to : Inputs → Earlier → Worksheet → Worksheet
+moved_to i e w =
     record {
       inputs = i;
       earlier = e;
-      d1 = staleOf w.d1;
-      d2 = staleOf w.d2;
-      d3 = staleOf w.d3;
-      d4 = staleOf w.d4;
+      d1 = stale_of w.d1;
+      d2 = stale_of w.d2;
+      d3 = stale_of w.d3;
+      d4 = stale_of w.d4;
     }
 
 -- a refusal leaves the worksheet as it was
 unfoldable pub outcome : Verdict → Worksheet → Worksheet → Outcome
-outcome v after w = record { answer = v; sheet = writtenOver v after w }
+outcome v after w = record { answer = v; sheet = written_over v after w }
 
 -- ---- the refusals of a desk and of its draft
 
 -- '14 (desk not 1 to 4)'
-abbrev pub isDesk : ℕ → Bool
-isDesk n = leb 1 n && leb n 4
+abbrev pub is_desk : ℕ → Bool
+is_desk n = leb 1 n && leb n 4
 
-unfoldable pub deskCheck : ℕ → Verdict
-deskCheck n = refuseUnless (isDesk n) Desk
+unfoldable pub desk_check : ℕ → Verdict
+desk_check n = refuse_unless (is_desk n) Desk
 
 -- '15 (draft already open)'
-unfoldable pub closedCheck : Draft → Verdict
-closedCheck Closed = Accepted
-closedCheck (Fresh x) = Refused Drafted
-closedCheck (Stale x) = Refused Drafted
+unfoldable pub closed_check : Draft → Verdict
+closed_check Closed = Accepted
+closed_check (Fresh x) = Refused Drafted
+closed_check (Stale x) = Refused Drafted
 
 -- '16 (no draft)'
-unfoldable pub draftCheck : Draft → Verdict
-draftCheck Closed = Refused NoDraft
-draftCheck (Fresh x) = Accepted
-draftCheck (Stale x) = Accepted
+unfoldable pub draft_check : Draft → Verdict
+draft_check Closed = Refused NoDraft
+draft_check (Fresh x) = Accepted
+draft_check (Stale x) = Accepted
 
 -- '17 (stale; the draft stays open)'
-unfoldable pub freshCheck : Draft → Verdict
-freshCheck Closed = Accepted
-freshCheck (Fresh x) = Accepted
-freshCheck (Stale x) = Refused IsStale
+unfoldable pub fresh_check : Draft → Verdict
+fresh_check Closed = Accepted
+fresh_check (Fresh x) = Accepted
+fresh_check (Stale x) = Refused IsStale
 
 -- '18 (no earlier set)'
-unfoldable pub earlierCheck : Earlier → Verdict
-earlierCheck Nothing = Refused NothingEarlier
-earlierCheck (Set i) = Accepted
+unfoldable pub earlier_check : Earlier → Verdict
+earlier_check Nothing = Refused NothingEarlier
+earlier_check (Set i) = Accepted
 
 -- ---- Open
 
 -- 'All desks are closed and nothing can be taken back'
-unfoldable pub freshSheet : Inputs → Worksheet
-freshSheet i = record { inputs = i; earlier = Nothing; d1 = Closed; d2 = Closed; d3 = Closed; d4 = Closed }
+unfoldable pub fresh_sheet : Inputs → Worksheet
+fresh_sheet i = record { inputs = i; earlier = Nothing; d1 = Closed; d2 = Closed; d3 = Closed; d4 = Closed }
 
 -- 'takes inputs; a refused one gives no worksheet': of what stands beside a refusal its own showing
--- is refused by the same field (`open-refused`), which is what `sheet` and `jt_sheet` go by
-unfoldable pub openOf : Inputs → Outcome
-openOf i = record { answer = inputsCheck i; sheet = freshSheet i }
+-- is refused by the same field (`open_refused`), which is what `sheet` and `jt_sheet` go by
+unfoldable pub open_of : Inputs → Outcome
+open_of i = record { answer = inputs_check i; sheet = fresh_sheet i }
 
 -- of 15 'little-endian 4-byte words'; 'missing bytes of these words count as 0'
 unfoldable pub opened_of : List ℕ → Outcome
-opened_of s = openOf (inputsFrom (λ (k : ℕ). word_at s (4 * k)))
+opened_of s = open_of (inputs_from (λ (k : ℕ). word_at s (4 * k)))
 
 -- of a sheet's '14 little-endian 4-byte words', 'with model 0'
-unfoldable pub sheetOpenedOf : List ℕ → Outcome
-sheetOpenedOf s = openOf (inputsFrom (wordOfSheet s))
+unfoldable pub sheet_opened_of : List ℕ → Outcome
+sheet_opened_of s = open_of (inputs_from (word_of_sheet s))
 
 -- ---- Begin
 
 -- 'refuses 14 (desk not 1 to 4), 15 (draft already open)'
-unfoldable pub beginCheck : ℕ → Worksheet → Verdict
-beginCheck n w = deskCheck n then closedCheck (draftAt n w)
+unfoldable pub begin_check : ℕ → Worksheet → Verdict
+begin_check n w = desk_check n then closed_check (draft_at n w)
 
 -- 'The draft is a copy of the worksheet's inputs, not stale'
-unfoldable pub beginOf : ℕ → Worksheet → Outcome
-beginOf n w = outcome (beginCheck n w) (withDraft n (Fresh w.inputs) w) w
+unfoldable pub begin_of : ℕ → Worksheet → Outcome
+begin_of n w = outcome (begin_check n w) (with_draft n (Fresh w.inputs) w) w
 
 -- ---- Change
 
 -- 'refuses 14, 16 (no draft), then the changed fields as in open'
-unfoldable pub changeCheck : ℕ → Edit → Worksheet → Verdict
-changeCheck n e w = deskCheck n then draftCheck (draftAt n w) then editCheck e
+unfoldable pub change_check : ℕ → Edit → Worksheet → Verdict
+change_check n e w = desk_check n then draft_check (draft_at n w) then edit_check e
 
 -- 'the draft's changed fields become the numbers given ..; its other fields, its staleness and all
 -- else stay'
-unfoldable pub editedDraft : Edit → Draft → Draft
-editedDraft e Closed = Closed
-editedDraft e (Fresh x) = Fresh (edited e x)
-editedDraft e (Stale x) = Stale (edited e x)
+unfoldable pub edited_draft : Edit → Draft → Draft
+edited_draft e Closed = Closed
+edited_draft e (Fresh x) = Fresh (edited e x)
+edited_draft e (Stale x) = Stale (edited e x)
 
-unfoldable pub changeOf : ℕ → Edit → Worksheet → Outcome
-changeOf n e w = outcome (changeCheck n e w) (withDraft n (editedDraft e (draftAt n w)) w) w
+unfoldable pub change_of : ℕ → Edit → Worksheet → Outcome
+change_of n e w = outcome (change_check n e w) (with_draft n (edited_draft e (draft_at n w)) w) w
 
 -- ---- Commit
 
 -- 'refuses 14, 16, 17 (stale; the draft stays open)'
-unfoldable pub commitCheck : ℕ → Worksheet → Verdict
-commitCheck n w = deskCheck n then draftCheck (draftAt n w) then freshCheck (draftAt n w)
+unfoldable pub commit_check : ℕ → Worksheet → Verdict
+commit_check n w = desk_check n then draft_check (draft_at n w) then fresh_check (draft_at n w)
 
 -- 'the inputs become the earlier set, the draft's become the inputs, the desk closes and every
 -- other open draft turns stale'
-unfoldable pub commitOf : ℕ → Worksheet → Outcome
-commitOf n w =
-    outcome (commitCheck n w)
-    (withDraft n Closed (movedTo (inputsOf (draftAt n w) w.inputs) (Set w.inputs) w))
+unfoldable pub commit_of : ℕ → Worksheet → Outcome
+commit_of n w =
+    outcome (commit_check n w)
+    (with_draft n Closed (moved_to (inputs_of (draft_at n w) w.inputs) (Set w.inputs) w))
     w
 
 -- ---- Cancel
 
 -- 'refuses 14, 16'
-unfoldable pub cancelCheck : ℕ → Worksheet → Verdict
-cancelCheck n w = deskCheck n then draftCheck (draftAt n w)
+unfoldable pub cancel_check : ℕ → Worksheet → Verdict
+cancel_check n w = desk_check n then draft_check (draft_at n w)
 
 -- 'The draft goes; nothing else moves'
-abbrev pub withoutDraft : ℕ → Worksheet → Worksheet
-withoutDraft n w = withDraft n Closed w
+abbrev pub without_draft : ℕ → Worksheet → Worksheet
+without_draft n w = with_draft n Closed w
 
-unfoldable pub cancelOf : ℕ → Worksheet → Outcome
-cancelOf n w = outcome (cancelCheck n w) (withoutDraft n w) w
+unfoldable pub cancel_of : ℕ → Worksheet → Outcome
+cancel_of n w = outcome (cancel_check n w) (without_draft n w) w
 
 -- ---- Take back
 
 -- the earlier set; i where there is none
-unfoldable pub setOf : Earlier → Inputs → Inputs
-setOf Nothing i = i
-setOf (Set x) i = x
+unfoldable pub set_of : Earlier → Inputs → Inputs
+set_of Nothing i = i
+set_of (Set x) i = x
 
 -- 'The earlier set returns, none is left, every open draft turns stale'
-unfoldable pub takeBackOf : Worksheet → Outcome
-takeBackOf w = outcome (earlierCheck w.earlier) (movedTo (setOf w.earlier w.inputs) Nothing w) w
+unfoldable pub take_back_of : Worksheet → Outcome
+take_back_of w = outcome (earlier_check w.earlier) (moved_to (set_of w.earlier w.inputs) Nothing w) w
 
 -- ---- to say that all sets of inputs of a worksheet have a property
 

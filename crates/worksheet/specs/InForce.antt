@@ -3,34 +3,34 @@
 use Rattle.std.specs.Prelude.{ℕ, Bool, true, false, cond, not, ◌&&◌, ◌≡◌, eqb, Float}
 use mathlib.Core.List.{List, [], ◌∷◌, ◌++◌, reverse, Memᴰ}
 use Rattle.base.specs.declared.refusal.Verdict.TheVariants.{Accepted}
-use Rattle.base.specs.Files.{filesCheck}
+use Rattle.base.specs.Files.{files_check}
 use Rattle.maps.specs.declared.inputs.Inputs.{Inputs}
 use Rattle.maps.specs.declared.geometry.Uses.{Uses}
-use Rattle.maps.specs.Geometry.{usesOf}
-use Rattle.maps.specs.Figures.{sheetPath, figuresOf}
+use Rattle.maps.specs.Geometry.{uses_of}
+use Rattle.maps.specs.Figures.{sheet_path, figures_of}
 use Rattle.worksheet.specs.declared.inputs.Edit.{Edit}
 use Rattle.worksheet.specs.declared.desks.Earlier.{Earlier}
 use Rattle.worksheet.specs.declared.desks.Earlier.TheVariants.{Nothing, Set}
 use Rattle.worksheet.specs.declared.desks.Worksheet.{Worksheet}
 use Rattle.worksheet.specs.Inputs.{edited}
-use Rattle.worksheet.specs.Desks.{setOf}
+use Rattle.worksheet.specs.Desks.{set_of}
 use Rattle.worksheet.specs.Showing.{Source}
-use Rattle.worksheet.specs.Journal.{begin, commit, change, Role, beginning, ending, settling, belonging, returning, showing, Entry, roleIn, good, begins, belongs, own, keep, none}
+use Rattle.worksheet.specs.Journal.{begin, commit, change, Role, beginning, ending, settling, belonging, returning, showing, Entry, role_in, good, begins, belongs, own, keep, none}
 
 -- ---- the changes of a commit
 
-abbrev pub editsIn : Role → List Edit
-editsIn (beginning n) = []
-editsIn (ending n) = []
-editsIn (settling n) = []
-editsIn (belonging n even es) = es
-editsIn returning = []
-editsIn showing = []
+abbrev pub edits_in : Role → List Edit
+edits_in (beginning n) = []
+edits_in (ending n) = []
+edits_in (settling n) = []
+edits_in (belonging n even es) = es
+edits_in returning = []
+edits_in showing = []
 
 -- the changes among some entries, in their order
-unfoldable pub editsOf : List Entry → List Edit
-editsOf [] = []
-editsOf (x ∷ l) = editsIn (roleIn x) ++ editsOf l
+unfoldable pub edits_of : List Entry → List Edit
+edits_of [] = []
+edits_of (x ∷ l) = edits_in (role_in x) ++ edits_of l
 
 -- the inputs with the changes made one after the other
 unfoldable pub changed : Inputs → List Edit → Inputs
@@ -51,13 +51,13 @@ pub record Standing : Type 0 where
   pub commits : List AcceptedCommit
 
 -- the accepted changes of the commits' drafts, in the order of the commits
-unfoldable pub changesBy : List AcceptedCommit → List Edit
-changesBy [] = []
-changesBy (c ∷ before) = changesBy before ++ editsOf (own c.desk c.past)
+unfoldable pub changes_by : List AcceptedCommit → List Edit
+changes_by [] = []
+changes_by (c ∷ before) = changes_by before ++ edits_of (own c.desk c.past)
 
 -- the set itself
-unfoldable pub inputsBy : Standing → Inputs
-inputsBy s = changed s.start (changesBy s.commits)
+unfoldable pub inputs_by : Standing → Inputs
+inputs_by s = changed s.start (changes_by s.commits)
 
 -- ---- THE FOLD
 
@@ -66,16 +66,16 @@ pub record Force : Type 0 where
   pub present : Standing
   pub before : List Standing
 
-abbrev pub standingAt : Inputs → Standing
-standingAt i = record { start = i; commits = [] }
+abbrev pub standing_at : Inputs → Standing
+standing_at i = record { start = i; commits = [] }
 
-abbrev pub standingBefore : Earlier → List Standing
-standingBefore Nothing = []
-standingBefore (Set i) = standingAt i ∷ []
+abbrev pub standing_before : Earlier → List Standing
+standing_before Nothing = []
+standing_before (Set i) = standing_at i ∷ []
 
 -- at the start: the worksheet's inputs and its earlier set
-abbrev pub forceIn : Worksheet → Force
-forceIn w = record { present = standingAt w.inputs; before = standingBefore w.earlier }
+abbrev pub force_in : Worksheet → Force
+force_in w = record { present = standing_at w.inputs; before = standing_before w.earlier }
 
 -- 'the inputs become the earlier set, the draft's become the inputs'
 abbrev pub pushed : AcceptedCommit → Force → Force
@@ -86,73 +86,73 @@ pushed c f =
     }
 
 -- 'The earlier set returns, none is left'
-abbrev pub returnedTo : List Standing → Force → Force
-returnedTo [] f = f
-returnedTo (s ∷ l) f = record { present = s; before = [] }
+abbrev pub returned_to : List Standing → Force → Force
+returned_to [] f = f
+returned_to (s ∷ l) f = record { present = s; before = [] }
 
 -- an accepted commit pushes its set, an accepted take-back returns the one before; nothing else
 -- counts
-abbrev pub forceBy : List Entry → Entry → Role → Bool → Force → Force
-forceBy past x (beginning n) good f = f
-forceBy past x (ending n) good f = f
-forceBy past x (settling n) good f = cond good (pushed (record { desk = n; past = past; entry = x }) f) f
-forceBy past x (belonging n even es) good f = f
-forceBy past x returning good f = cond good (returnedTo f.before f) f
-forceBy past x showing good f = f
+abbrev pub force_by : List Entry → Entry → Role → Bool → Force → Force
+force_by past x (beginning n) good f = f
+force_by past x (ending n) good f = f
+force_by past x (settling n) good f = cond good (pushed (record { desk = n; past = past; entry = x }) f) f
+force_by past x (belonging n even es) good f = f
+force_by past x returning good f = cond good (returned_to f.before f) f
+force_by past x showing good f = f
 
-unfoldable pub forceAfter : Force → List Entry → Force
-forceAfter f [] = f
-forceAfter f (x ∷ past) = forceBy past x (roleIn x) (good x) (forceAfter f past)
+unfoldable pub force_after : Force → List Entry → Force
+force_after f [] = f
+force_after f (x ∷ past) = force_by past x (role_in x) (good x) (force_after f past)
 
 -- the commits in force on the worksheet w, the latest first, after entries that stand in their
 -- order
-unfoldable pub commitsInForce : Worksheet → List Entry → List AcceptedCommit
-commitsInForce w entries = (forceAfter (forceIn w) (reverse entries)).present.commits
+unfoldable pub commits_in_force : Worksheet → List Entry → List AcceptedCommit
+commits_in_force w entries = (force_after (force_in w) (reverse entries)).present.commits
 
 -- THE INPUTS IN FORCE after some entries: those at the start (the earlier set at the start, where
 -- they were taken back), with the accepted changes of the drafts that were committed and not taken
 -- back since, in the order of the commits
-unfoldable pub inForce : Worksheet → List Entry → Inputs
-inForce w entries = inputsBy (forceAfter (forceIn w) (reverse entries)).present
+unfoldable pub in_force : Worksheet → List Entry → Inputs
+in_force w entries = inputs_by (force_after (force_in w) (reverse entries)).present
 
 -- ---- was it taken back?
 
 -- of the entries after a commit, in their order, `rest` says it of those after the call
-abbrev pub takenBackBy : Role → Bool → Bool → Bool
-takenBackBy (beginning n) good rest = rest
-takenBackBy (ending n) good rest = rest
-takenBackBy (settling n) good rest = cond good false rest
-takenBackBy (belonging n even es) good rest = rest
-takenBackBy returning good rest = cond good true rest
-takenBackBy showing good rest = rest
+abbrev pub taken_back_by : Role → Bool → Bool → Bool
+taken_back_by (beginning n) good rest = rest
+taken_back_by (ending n) good rest = rest
+taken_back_by (settling n) good rest = cond good false rest
+taken_back_by (belonging n even es) good rest = rest
+taken_back_by returning good rest = cond good true rest
+taken_back_by showing good rest = rest
 
 -- the commit before these entries was taken back: the first accepted commit or take-back among them
 -- is a take-back
-unfoldable pub takenBack : List Entry → Bool
-takenBack [] = false
-takenBack (x ∷ later) = takenBackBy (roleIn x) (good x) (takenBack later)
+unfoldable pub taken_back : List Entry → Bool
+taken_back [] = false
+taken_back (x ∷ later) = taken_back_by (role_in x) (good x) (taken_back later)
 
 -- ---- the same without the fold
 
 -- the entry's commit, if it is an accepted one that was not taken back
-abbrev pub leftBy : List Entry → Entry → Role → Bool → Bool → List AcceptedCommit
-leftBy past x (beginning n) good taken = []
-leftBy past x (ending n) good taken = []
-leftBy past x (settling n) good taken = cond (good && not taken) (record { desk = n; past = past; entry = x } ∷ []) []
-leftBy past x (belonging n even es) good taken = []
-leftBy past x returning good taken = []
-leftBy past x showing good taken = []
+abbrev pub left_by : List Entry → Entry → Role → Bool → Bool → List AcceptedCommit
+left_by past x (beginning n) good taken = []
+left_by past x (ending n) good taken = []
+left_by past x (settling n) good taken = cond (good && not taken) (record { desk = n; past = past; entry = x } ∷ []) []
+left_by past x (belonging n even es) good taken = []
+left_by past x returning good taken = []
+left_by past x showing good taken = []
 
 -- of entries in their order, after those of `past` (the latest first): the accepted commits that
 -- were not taken back, the latest first
-unfoldable pub commitsLeft : List Entry → List Entry → List AcceptedCommit
-commitsLeft past [] = []
-commitsLeft past (x ∷ later) = commitsLeft (x ∷ past) later ++ leftBy past x (roleIn x) (good x) (takenBack later)
+unfoldable pub commits_left : List Entry → List Entry → List AcceptedCommit
+commits_left past [] = []
+commits_left past (x ∷ later) = commits_left (x ∷ past) later ++ left_by past x (role_in x) (good x) (taken_back later)
 
 -- the inputs that those commits changed: the worksheet's own, or its earlier set, where the first
 -- accepted commit or take-back of all is a take-back
-abbrev pub startLeft : Worksheet → List Entry → Inputs
-startLeft w entries = cond (takenBack entries) (setOf w.earlier w.inputs) w.inputs
+abbrev pub start_left : Worksheet → List Entry → Inputs
+start_left w entries = cond (taken_back entries) (set_of w.earlier w.inputs) w.inputs
 
 -- ---- the insurer's line
 
@@ -162,39 +162,39 @@ module _ (source : Source) where
   pub record FiguresOf (i : Inputs) (count : ℕ) (uses : Uses) (figures : List Float) : Type 0 where
     pub lent : (source i).verdict ≡ Accepted
     -- the two have passed their checks
-    pub checked : filesCheck (source i).f2 (source i).file ≡ Accepted
-    pub points : count ≡ (sheetPath i).count
-    pub used : uses ≡ usesOf (sheetPath i).count
-    pub whole : figures ≡ figuresOf (source i).f2 (source i).file i
+    pub checked : files_check (source i).f2 (source i).file ≡ Accepted
+    pub points : count ≡ (sheet_path i).count
+    pub used : uses ≡ uses_of (sheet_path i).count
+    pub whole : figures ≡ figures_of (source i).f2 (source i).file i
 
 -- ---- a commit's draft started from the inputs in force, and nothing came between
 
 -- does the call move the worksheet's inputs, or begin or end desk n's draft?
-abbrev pub isDisturbing : ℕ → Role → Bool → Bool
-isDisturbing n (beginning m) good = eqb m n && good
-isDisturbing n (ending m) good = eqb m n && good
-isDisturbing n (settling m) good = good
-isDisturbing n (belonging m even es) good = false
-isDisturbing n returning good = good
-isDisturbing n showing good = false
+abbrev pub is_disturbing : ℕ → Role → Bool → Bool
+is_disturbing n (beginning m) good = eqb m n && good
+is_disturbing n (ending m) good = eqb m n && good
+is_disturbing n (settling m) good = good
+is_disturbing n (belonging m even es) good = false
+is_disturbing n returning good = good
+is_disturbing n showing good = false
 
 abbrev pub disturbs : ℕ → Entry → Bool
-disturbs n x = isDisturbing n (roleIn x) (good x)
+disturbs n x = is_disturbing n (role_in x) (good x)
 
 -- of an accepted commit of desk n, `before` being the entries before it, in their order
 pub record DraftUndisturbed (w : Worksheet) (n : ℕ) (before : List Entry) : Type 0 where
   pub front : List Entry
-  pub own-begin : Entry
+  pub own_begin : Entry
   pub between : List Entry
-  pub split : before ≡ front ++ (own-begin ∷ between)
-  pub begun : begins n own-begin ≡ true
+  pub split : before ≡ front ++ (own_begin ∷ between)
+  pub begun : begins n own_begin ≡ true
   -- between its begin and the commit nobody committed or took back, and the draft was not cancelled
   -- or begun anew
   pub quiet : none (disturbs n) between ≡ true
   -- its own calls are its begin and what belongs to it between the two
-  pub own-calls : own n (reverse before) ≡ own-begin ∷ keep (belongs n) between
+  pub own_calls : own n (reverse before) ≡ own_begin ∷ keep (belongs n) between
   -- the inputs in force at the commit are those that its begin copied
-  pub same_inputs : inForce w before ≡ inForce w front
+  pub same_inputs : in_force w before ≡ in_force w front
 
 -- ---- where a change in force comes from
 
@@ -202,44 +202,44 @@ pub record DraftUndisturbed (w : Worksheet) (n : ℕ) (before : List Entry) : Ty
 pub record CommitInForce (entries : List Entry) (c : AcceptedCommit) : Type 0 where
   pub after : List Entry
   pub split : entries ≡ reverse c.past ++ (c.entry ∷ after)
-  pub is-commit : roleIn c.entry ≡ settling c.desk
+  pub is_commit : role_in c.entry ≡ settling c.desk
   pub committed : good c.entry ≡ true
-  pub not-taken-back : takenBack after ≡ false
+  pub not_taken_back : taken_back after ≡ false
 
 -- the change e was accepted, among the own calls of such a commit
 pub record InForceBy (entries : List Entry) (e : Edit) : Type 0 where
-  pub its-commit : AcceptedCommit
-  pub in-force : CommitInForce entries its-commit
-  pub its-change : Entry
-  pub is-own : Memᴰ its-change (own its-commit.desk its-commit.past)
-  pub is-change : Memᴰ e (editsIn (roleIn its-change))
-  pub belongs-to-it : belongs its-commit.desk its-change ≡ true
-  pub accepted-too : good its-change ≡ true
+  pub its_commit : AcceptedCommit
+  pub in_force_law : CommitInForce entries its_commit
+  pub its_change : Entry
+  pub is_own_law : Memᴰ its_change (own its_commit.desk its_commit.past)
+  pub is_change : Memᴰ e (edits_in (role_in its_change))
+  pub belongs_to_it : belongs its_commit.desk its_change ≡ true
+  pub accepted_too : good its_change ≡ true
 
 -- 'from no edit that somebody had cancelled': of the change e, read down the entries
 pub record NeverCancelled (entries : List Entry) (e : Edit) : Type 0 where
   pub desk : ℕ
   pub front : List Entry
-  pub its-begin : Entry
-  pub to-change : List Entry
-  pub its-change : Entry
-  pub to-commit : List Entry
-  pub its-commit : Entry
+  pub its_begin : Entry
+  pub to_change : List Entry
+  pub its_change : Entry
+  pub to_commit : List Entry
+  pub its_commit : Entry
   pub after : List Entry
-  pub in_order : entries ≡ front ++ (its-begin ∷ (to-change ++ (its-change ∷ (to-commit ++ (its-commit ∷ after)))))
+  pub in_order : entries ≡ front ++ (its_begin ∷ (to_change ++ (its_change ∷ (to_commit ++ (its_commit ∷ after)))))
   -- an accepted begin of the desk
-  pub is-begin : its-begin.call ≡ begin desk
-  pub begun : good its-begin ≡ true
+  pub is_begin_law : its_begin.call ≡ begin desk
+  pub begun : good its_begin ≡ true
   -- nobody commits or takes back, and the draft is not cancelled or begun anew
-  pub quiet-to-change : none (disturbs desk) to-change ≡ true
+  pub quiet_to_change : none (disturbs desk) to_change ≡ true
   -- this change of its draft, accepted
-  pub is-change : its-change.call ≡ change desk e
-  pub made : good its-change ≡ true
-  pub quiet-to-commit : none (disturbs desk) to-commit ≡ true
+  pub is_change : its_change.call ≡ change desk e
+  pub made : good its_change ≡ true
+  pub quiet_to_commit : none (disturbs desk) to_commit ≡ true
   -- an accepted commit of the desk, which nobody took back
-  pub is-commit : its-commit.call ≡ commit desk
-  pub committed : good its-commit ≡ true
-  pub not-taken-back : takenBack after ≡ false
+  pub is_commit : its_commit.call ≡ commit desk
+  pub committed : good its_commit ≡ true
+  pub not_taken_back : taken_back after ≡ false
 
 -- ---- the insurer's sentence
 
@@ -254,6 +254,6 @@ module _ (source : Source) where
     pub one_set : FiguresOf source (changed start edits) count uses figures
     -- it has the changes of all accepted commits that were not taken back, commit by commit in
     -- their order, each commit once
-    pub all-edits : edits ≡ changesBy (commitsLeft [] entries)
+    pub all_edits : edits ≡ changes_by (commits_left [] entries)
     -- and each of them was committed and never cancelled
-    pub none-cancelled : (e : Edit) → Memᴰ e edits → NeverCancelled entries e
+    pub none_cancelled : (e : Edit) → Memᴰ e edits → NeverCancelled entries e

@@ -4,8 +4,8 @@ use Rattle.std.specs.Prelude.{ℕ, Float}
 use Rattle.maps.specs.declared.inputs.MagneticPole.{MagneticPole}
 use Rattle.base.specs.declared.refusal.Refusal.TheVariants.{Sunspot as BadSunspot, Factor, Flag}
 use Rattle.base.specs.declared.refusal.Verdict.{Verdict}
-use Rattle.base.specs.Refusal.{refuseUnless, ◌then◌}
-use Rattle.base.specs.Ranges.{isTo, isBit, monthCheck, hourCheck, latitudeCheck, longitudeCheck, modelCheck}
+use Rattle.base.specs.Refusal.{refuse_unless, ◌then◌}
+use Rattle.base.specs.Ranges.{is_to, is_bit, month_check, hour_check, latitude_check, longitude_check, model_check}
 use Rattle.base.specs.Single.{decimal}
 use Rattle.maps.specs.declared.inputs.Factors.{Factors}
 use Rattle.maps.specs.declared.inputs.Inputs.{Inputs}
@@ -16,52 +16,52 @@ use Rattle.worksheet.specs.declared.inputs.Edit.TheVariants.{Sunspot, Hour, Path
 -- ---- the fields and their ranges
 
 -- 'sunspot number 0 to 300'
-unfoldable pub sunspotCheck : Float → Verdict
-sunspotCheck x = refuseUnless (isTo (decimal 0 1) (decimal 300 0) x) BadSunspot
+unfoldable pub sunspot_check : Float → Verdict
+sunspot_check x = refuse_unless (is_to (decimal 0 1) (decimal 300 0) x) BadSunspot
 
 -- 'four factors 0.125 to 8 (`psc`)'
-unfoldable pub factorCheck : ℕ → Float → Verdict
-factorCheck field x = refuseUnless (isTo (decimal 125 3) (decimal 8 0) x) (Factor field)
+unfoldable pub factor_check : ℕ → Float → Verdict
+factor_check field x = refuse_unless (is_to (decimal 125 3) (decimal 8 0) x) (Factor field)
 
 -- '7 flag neither 0 nor 1 (only in the program's words)': the flag is such a word in every call
-unfoldable pub flagCheck : ℕ → Verdict
-flagCheck word = refuseUnless (isBit word) Flag
+unfoldable pub flag_check : ℕ → Verdict
+flag_check word = refuse_unless (is_bit word) Flag
 
 -- ---- 'The first bad field decides'
 
 -- 'a path is fields 4 to 8, the flag included': 'transmitter latitude, longitude, receiver
 -- latitude, longitude (degrees ..); long-path flag'
-unfoldable pub routeCheck : Route → Verdict
-routeCheck p =
-    latitudeCheck 4 p.tlat then longitudeCheck 5 p.tlong then
-    latitudeCheck 6 p.rlat then longitudeCheck 7 p.rlong then flagCheck p.long_path
+unfoldable pub route_check : Route → Verdict
+route_check p =
+    latitude_check 4 p.tlat then longitude_check 5 p.tlong then
+    latitude_check 6 p.rlat then longitude_check 7 p.rlong then flag_check p.long_path
 
-unfoldable pub factorsCheck : Factors → Verdict
-factorsCheck p =
-    factorCheck 9 p.e then factorCheck 10 p.f1 then factorCheck 11 p.f2 then factorCheck 12 p.es
+unfoldable pub factors_check : Factors → Verdict
+factors_check p =
+    factor_check 9 p.e then factor_check 10 p.f1 then factor_check 11 p.f2 then factor_check 12 p.es
 
 -- 'pole latitude and longitude'
-unfoldable pub poleCheck : MagneticPole → Verdict
-poleCheck p = latitudeCheck 13 p.lat then longitudeCheck 14 p.lon
+unfoldable pub pole_check : MagneticPole → Verdict
+pole_check p = latitude_check 13 p.lat then longitude_check 14 p.lon
 
 -- the 14 fields in their order, and 'field 15'
-unfoldable pub inputsCheck : Inputs → Verdict
-inputsCheck i =
-    monthCheck i.month then sunspotCheck i.ssn then hourCheck i.gmt then
-    routeCheck i.route then factorsCheck i.psc then poleCheck i.pole then modelCheck i.model
+unfoldable pub inputs_check : Inputs → Verdict
+inputs_check i =
+    month_check i.month then sunspot_check i.ssn then hour_check i.gmt then
+    route_check i.route then factors_check i.psc then pole_check i.pole then model_check i.model
 
 -- ---- changes: 'a sunspot number, an hour, a path, four factors or a pole, each with all its
 -- numbers'; 'Month and F2 model become changes'
 
 -- 'the changed fields as in open'
-unfoldable pub editCheck : Edit → Verdict
-editCheck (Sunspot x) = sunspotCheck x
-editCheck (Hour x) = hourCheck x
-editCheck (Path p) = routeCheck p
-editCheck (Psc p) = factorsCheck p
-editCheck (Pole p) = poleCheck p
-editCheck (Month m) = monthCheck m
-editCheck (Model m) = modelCheck m
+unfoldable pub edit_check : Edit → Verdict
+edit_check (Sunspot x) = sunspot_check x
+edit_check (Hour x) = hour_check x
+edit_check (Path p) = route_check p
+edit_check (Psc p) = factors_check p
+edit_check (Pole p) = pole_check p
+edit_check (Month m) = month_check m
+edit_check (Model m) = model_check m
 
 -- 'changed fields become the numbers given, bit for bit; its other fields .. stay'
 unfoldable pub edited : Edit → Inputs → Inputs

@@ -9,8 +9,8 @@ use Rattle.maps.specs.declared.figures.Shown.TheVariants.{Points, Refused as Not
 use Rattle.worksheet.specs.declared.inputs.Edit.{Edit}
 use Rattle.worksheet.specs.declared.desks.Worksheet.{Worksheet}
 use Rattle.worksheet.specs.declared.desks.Outcome.{Outcome}
-use Rattle.worksheet.specs.Desks.{beginOf, changeOf, commitOf, cancelOf, takeBackOf}
-use Rattle.worksheet.specs.Showing.{Source, showOf, showBuffer}
+use Rattle.worksheet.specs.Desks.{begin_of, change_of, commit_of, cancel_of, take_back_of}
+use Rattle.worksheet.specs.Showing.{Source, show_of, show_buffer}
 
 -- ---- calls and answers
 
@@ -19,13 +19,13 @@ use Rattle.worksheet.specs.Showing.{Source, showOf, showBuffer}
 pub data Call : Type 0 where
   begin commit cancel : (desk : ℕ) → Call
   change : (desk : ℕ) → Edit → Call
-  takeBack : Call
+  take_back : Call
   show : (desk : ℕ) → (lent : List Float) → Call
 
 -- of a showing 'the number of points or the refusal's number and place, and either way the buffer
 -- afterwards', with 'the five uses' beside the number of points; of another call 'that it was
 -- accepted, or the refusal's number and place'. A refusal's case stands for its number and place
--- (`reportOf`)
+-- (`report_of`)
 pub data Answer : Type 0 where
   told : Verdict → Answer
   shown : Shown → (after : List Float) → Answer
@@ -58,12 +58,12 @@ step_of o = record { answer = told o.answer; sheet = o.sheet }
 module _ (source : Source) where
   -- what each call answers, and the worksheet that it leaves
   unfoldable pub step : Call → Worksheet → Step
-  step (begin n) w = step_of (beginOf n w)
-  step (change n e) w = step_of (changeOf n e w)
-  step (commit n) w = step_of (commitOf n w)
-  step (cancel n) w = step_of (cancelOf n w)
-  step takeBack w = step_of (takeBackOf w)
-  step (show n lent) w = record { answer = shown (showOf source n lent w) (showBuffer source n lent w); sheet = w }
+  step (begin n) w = step_of (begin_of n w)
+  step (change n e) w = step_of (change_of n e w)
+  step (commit n) w = step_of (commit_of n w)
+  step (cancel n) w = step_of (cancel_of n w)
+  step take_back w = step_of (take_back_of w)
+  step (show n lent) w = record { answer = shown (show_of source n lent w) (show_buffer source n lent w); sheet = w }
 
   -- the call c on w with its answer
   abbrev pub entry_of : Call → Worksheet → Entry
@@ -83,80 +83,80 @@ pub data Role : Type 0 where
   beginning ending settling : (desk : ℕ) → Role
   -- it belongs to a desk's draft if it is accepted, or even if it is refused, and makes these
   -- changes to it
-  belonging : (desk : ℕ) → (even-refused : Bool) → List Edit → Role
+  belonging : (desk : ℕ) → (even_refused : Bool) → List Edit → Role
   -- accepted, it takes the last settling back
   returning : Role
   -- it shows the worksheet
   showing : Role
 
 -- THE TABLE: all that lists know of a call
-abbrev pub roleOf : Call → Role
-roleOf (begin n) = beginning n
+abbrev pub role_of : Call → Role
+role_of (begin n) = beginning n
 -- 'its own changes are that desk's accepted ones'
-roleOf (change n e) = belonging n false (e ∷ [])
+role_of (change n e) = belonging n false (e ∷ [])
 -- 'its own showings all of that desk's there, refused ones too'; 'The worksheet's showings are
 -- those that ask for 0'
-roleOf (show n lent) = cond (eqb n 0) showing (belonging n true [])
-roleOf (commit n) = settling n
-roleOf (cancel n) = ending n
-roleOf takeBack = returning
+role_of (show n lent) = cond (eqb n 0) showing (belonging n true [])
+role_of (commit n) = settling n
+role_of (cancel n) = ending n
+role_of take_back = returning
 
 -- ---- the shorter list. `past` holds the entries before the one looked at, the latest first;
 -- `good` says whether the call was accepted
 
 -- 'accepted begin of its desk': of desk n
-abbrev pub isBegin : ℕ → Role → Bool → Bool
-isBegin n (beginning m) good = eqb m n && good
-isBegin n (ending m) good = false
-isBegin n (settling m) good = false
-isBegin n (belonging m even es) good = false
-isBegin n returning good = false
-isBegin n showing good = false
+abbrev pub is_begin : ℕ → Role → Bool → Bool
+is_begin n (beginning m) good = eqb m n && good
+is_begin n (ending m) good = false
+is_begin n (settling m) good = false
+is_begin n (belonging m even es) good = false
+is_begin n returning good = false
+is_begin n showing good = false
 
 -- desk n's accepted changes, and its showings, 'refused ones too'
-abbrev pub isOwn : ℕ → Role → Bool → Bool
-isOwn n (beginning m) good = false
-isOwn n (ending m) good = false
-isOwn n (settling m) good = false
-isOwn n (belonging m even es) good = eqb m n && (even || good)
-isOwn n returning good = false
-isOwn n showing good = false
+abbrev pub is_own : ℕ → Role → Bool → Bool
+is_own n (beginning m) good = false
+is_own n (ending m) good = false
+is_own n (settling m) good = false
+is_own n (belonging m even es) good = eqb m n && (even || good)
+is_own n returning good = false
+is_own n showing good = false
 
-abbrev pub roleIn : Entry → Role
-roleIn x = roleOf x.call
+abbrev pub role_in : Entry → Role
+role_in x = role_of x.call
 
 abbrev pub good : Entry → Bool
 good x = accepted x.answer
 
 abbrev pub begins : ℕ → Entry → Bool
-begins n x = isBegin n (roleIn x) (good x)
+begins n x = is_begin n (role_in x) (good x)
 
 abbrev pub belongs : ℕ → Entry → Bool
-belongs n x = isOwn n (roleIn x) (good x)
+belongs n x = is_own n (role_in x) (good x)
 
 -- the own calls of a commit of desk n: 'the last accepted begin of its desk before it', and that
 -- desk's 'accepted changes' and showings 'between the two', 'all in their order' (an accepted
--- commit of a run from closed desks has such a begin: `undisturbed-draft`)
+-- commit of a run from closed desks has such a begin: `undisturbed_draft`)
 unfoldable pub own : ℕ → List Entry → List Entry
 own n [] = []
 own n (x ∷ past) = cond (begins n x) (x ∷ []) (cond (belongs n x) (own n past ++ (x ∷ [])) (own n past))
 
 -- what the shorter list has for the entry x, by its role
-unfoldable pub keptFor : List Entry → Role → Entry → List Entry
+unfoldable pub kept_for : List Entry → Role → Entry → List Entry
 -- an accepted commit 'with its own begin, accepted changes and showings moved up just before it'
-keptFor past (settling n) x = cond (good x) (own n past ++ (x ∷ [])) []
+kept_for past (settling n) x = cond (good x) (own n past ++ (x ∷ [])) []
 -- an accepted take-back
-keptFor past returning x = cond (good x) (x ∷ []) []
+kept_for past returning x = cond (good x) (x ∷ []) []
 -- 'The worksheet's showings .., refused ones too'
-keptFor past showing x = x ∷ []
+kept_for past showing x = x ∷ []
 -- 'All other calls are dropped'
-keptFor past (beginning n) x = []
-keptFor past (ending n) x = []
-keptFor past (belonging n even es) x = []
+kept_for past (beginning n) x = []
+kept_for past (ending n) x = []
+kept_for past (belonging n even es) x = []
 
 unfoldable pub shorter : List Entry → List Entry → List Entry
 shorter past [] = []
-shorter past (x ∷ later) = keptFor past (roleIn x) x ++ shorter (x ∷ past) later
+shorter past (x ∷ later) = kept_for past (role_in x) x ++ shorter (x ∷ past) later
 
 unfoldable pub calls_of : List Entry → List Call
 calls_of [] = []
@@ -175,44 +175,44 @@ none p [] = true
 none p (x ∷ l) = not (p x) && none p l
 
 -- 'the accepted commits and take-backs and the worksheet's showings'
-abbrev pub isKeptByItself : Role → Bool → Bool
-isKeptByItself (beginning n) good = false
-isKeptByItself (ending n) good = false
-isKeptByItself (settling n) good = good
-isKeptByItself (belonging n even es) good = false
-isKeptByItself returning good = good
-isKeptByItself showing good = true
+abbrev pub is_kept_by_itself : Role → Bool → Bool
+is_kept_by_itself (beginning n) good = false
+is_kept_by_itself (ending n) good = false
+is_kept_by_itself (settling n) good = good
+is_kept_by_itself (belonging n even es) good = false
+is_kept_by_itself returning good = good
+is_kept_by_itself showing good = true
 
-abbrev pub keptByItself : Entry → Bool
-keptByItself x = isKeptByItself (roleIn x) (good x)
+abbrev pub kept_by_itself : Entry → Bool
+kept_by_itself x = is_kept_by_itself (role_in x) (good x)
 
 -- y is an own call of an accepted commit of the full list, and stands before it there
 pub record OwnCall (full : List Entry) (y : Entry) : Type 0 where
   pub desk : ℕ
   pub before : List Entry
-  pub its-commit : Entry
+  pub its_commit : Entry
   pub after : List Entry
-  pub split : full ≡ before ++ (its-commit ∷ after)
-  pub is-commit : roleIn its-commit ≡ settling desk
-  pub committed : accepted its-commit.answer ≡ true
-  pub is-own : Memᴰ y (own desk (reverse before))
-  pub stands-before : Memᴰ y before
-  pub begins-or-belongs : (begins desk y ≡ true) ⊎ (belongs desk y ≡ true)
+  pub split : full ≡ before ++ (its_commit ∷ after)
+  pub is_commit : role_in its_commit ≡ settling desk
+  pub committed : accepted its_commit.answer ≡ true
+  pub is_own_law : Memᴰ y (own desk (reverse before))
+  pub stands_before : Memᴰ y before
+  pub begins_or_belongs : (begins desk y ≡ true) ⊎ (belongs desk y ≡ true)
 
 -- ---- demand 3
 
 module _ (source : Source) where
   -- the calls kept of the list cs, each with its answer in the full list
-  unfoldable pub keptOf : Worksheet → List Call → List Entry
-  keptOf w cs = shorter [] (run source cs w).entries
+  unfoldable pub kept_of : Worksheet → List Call → List Entry
+  kept_of w cs = shorter [] (run source cs w).entries
 
-  unfoldable pub shortRun : Worksheet → List Call → Run
-  shortRun w cs = run source (calls_of (keptOf w cs)) w
+  unfoldable pub short_run : Worksheet → List Call → Run
+  short_run w cs = run source (calls_of (kept_of w cs)) w
 
   -- DEMAND 3 of the worksheet w and the list cs
   pub record Demand3 (w : Worksheet) (cs : List Call) : Type 0 where
     -- 'every call kept answers alike in both, each showing's whole figures included'
-    pub answers : (shortRun w cs).entries ≡ keptOf w cs
+    pub answers : (short_run w cs).entries ≡ kept_of w cs
     -- 'and after both the inputs and the earlier set are equal'
-    pub inputs : (shortRun w cs).sheet.inputs ≡ (run source cs w).sheet.inputs
-    pub earlier : (shortRun w cs).sheet.earlier ≡ (run source cs w).sheet.earlier
+    pub inputs : (short_run w cs).sheet.inputs ≡ (run source cs w).sheet.inputs
+    pub earlier : (short_run w cs).sheet.earlier ≡ (run source cs w).sheet.earlier

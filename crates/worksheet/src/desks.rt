@@ -1,7 +1,7 @@
 // The worksheet and the calls that move it: open, begin, change, commit, cancel and take back.
 // Each decides first, makes the worksheet that it would leave, and takes that or the old one.
 ghost use Rattle.std.specs.Prelude.{◌≡◌, cond};
-ghost use Rattle.worksheet.specs.Desks.{draftAt, withDraft, inputsOf, staleOf, movedTo, outcome, isDesk, deskCheck, closedCheck, draftCheck, freshCheck, earlierCheck, freshSheet, openOf, opened_of, sheetOpenedOf, beginCheck, beginOf, changeCheck, editedDraft, changeOf, commitCheck, commitOf, cancelCheck, withoutDraft, cancelOf, setOf, takeBackOf};
+ghost use Rattle.worksheet.specs.Desks.{draft_at, with_draft, inputs_of, stale_of, moved_to, outcome, is_desk, desk_check, closed_check, draft_check, fresh_check, earlier_check, fresh_sheet, open_of, opened_of, sheet_opened_of, begin_check, begin_of, change_check, edited_draft, change_of, commit_check, commit_of, cancel_check, without_draft, cancel_of, set_of, take_back_of};
 
 use crate::inputs::{Edit, apply, edit_check, inputs_check};
 use base::refusal::{Refusal, Verdict, refuse_unless, then};
@@ -47,7 +47,7 @@ fn pick(here: bool, d: Draft, other: Draft) -> Draft
 
 // The draft of a desk; any number but 1 to 4 has none.
 pub(crate) fn draft_at(w: Worksheet, desk: u32) -> Draft
-    ensures { result ≡ draftAt desk w }
+    ensures { result ≡ draft_at desk w }
 {
     let d1 = w.d1;
     let d2 = w.d2;
@@ -58,7 +58,7 @@ pub(crate) fn draft_at(w: Worksheet, desk: u32) -> Draft
 }
 
 fn with_draft(w: Worksheet, desk: u32, d: Draft) -> Worksheet
-    ensures { result ≡ withDraft desk d w }
+    ensures { result ≡ with_draft desk d w }
 {
     let inputs = w.inputs;
     let earlier = w.earlier;
@@ -78,7 +78,7 @@ fn with_draft(w: Worksheet, desk: u32, d: Draft) -> Worksheet
 
 // The inputs in a draft; i where there is no draft.
 pub(crate) fn inputs_of(d: Draft, i: Inputs) -> Inputs
-    ensures { result ≡ inputsOf d i }
+    ensures { result ≡ inputs_of d i }
 {
     match d {
         Draft::Closed => i,
@@ -88,7 +88,7 @@ pub(crate) fn inputs_of(d: Draft, i: Inputs) -> Inputs
 }
 
 fn stale(d: Draft) -> Draft
-    ensures { result ≡ staleOf d }
+    ensures { result ≡ stale_of d }
 {
     match d {
         Draft::Closed => Draft::Closed,
@@ -99,7 +99,7 @@ fn stale(d: Draft) -> Draft
 
 // New inputs and a new earlier set; every open draft turns stale.
 fn moved_to(i: Inputs, e: Earlier, w: Worksheet) -> Worksheet
-    ensures { result ≡ movedTo i e w }
+    ensures { result ≡ moved_to i e w }
 {
     let d1 = w.d1;
     let d2 = w.d2;
@@ -132,19 +132,19 @@ fn decided(verdict: Verdict, after: Worksheet, w: Worksheet) -> Outcome
 }
 
 fn is_desk(desk: u32) -> bool
-    ensures { result ≡ isDesk desk }
+    ensures { result ≡ is_desk desk }
 {
     if 1 <= desk { desk <= 4 } else { false }
 }
 
 pub(crate) fn desk_check(desk: u32) -> Verdict
-    ensures { result ≡ deskCheck desk }
+    ensures { result ≡ desk_check desk }
 {
     refuse_unless(is_desk(desk), Refusal::Desk)
 }
 
 fn closed_check(d: Draft) -> Verdict
-    ensures { result ≡ closedCheck d }
+    ensures { result ≡ closed_check d }
 {
     match d {
         Draft::Closed => Verdict::Accepted,
@@ -154,7 +154,7 @@ fn closed_check(d: Draft) -> Verdict
 }
 
 pub(crate) fn draft_check(d: Draft) -> Verdict
-    ensures { result ≡ draftCheck d }
+    ensures { result ≡ draft_check d }
 {
     match d {
         Draft::Closed => Verdict::Refused(Refusal::NoDraft),
@@ -164,7 +164,7 @@ pub(crate) fn draft_check(d: Draft) -> Verdict
 }
 
 fn fresh_check(d: Draft) -> Verdict
-    ensures { result ≡ freshCheck d }
+    ensures { result ≡ fresh_check d }
 {
     match d {
         Draft::Closed => Verdict::Accepted,
@@ -174,7 +174,7 @@ fn fresh_check(d: Draft) -> Verdict
 }
 
 fn earlier_check(e: Earlier) -> Verdict
-    ensures { result ≡ earlierCheck e }
+    ensures { result ≡ earlier_check e }
 {
     match e {
         Earlier::Nothing => Verdict::Refused(Refusal::NothingEarlier),
@@ -183,7 +183,7 @@ fn earlier_check(e: Earlier) -> Verdict
 }
 
 fn fresh_sheet(i: Inputs) -> Worksheet
-    ensures { result ≡ freshSheet i }
+    ensures { result ≡ fresh_sheet i }
 {
     Worksheet {
         inputs: i,
@@ -198,7 +198,7 @@ fn fresh_sheet(i: Inputs) -> Worksheet
 // A worksheet with all desks closed and nothing to take back, and the verdict on its inputs. What
 // stands beside a refusal holds the refused inputs: drop it.
 pub fn open(i: Inputs) -> Outcome
-    ensures { result ≡ openOf i }
+    ensures { result ≡ open_of i }
 {
     Outcome {
         answer: inputs_check(i),
@@ -216,7 +216,7 @@ pub fn opened(words: &[u8]) -> Outcome
 
 // The worksheet of a sheet's 14 words, with model 0; a 15th does not count.
 pub fn sheet_opened(words: &[u8]) -> Outcome
-    ensures { result ≡ sheetOpenedOf words.now }
+    ensures { result ≡ sheet_opened_of words.now }
 {
     open(sheet_inputs_in(words))
 }
@@ -224,7 +224,7 @@ pub fn sheet_opened(words: &[u8]) -> Outcome
 // A fresh draft for a desk, a copy of the worksheet's inputs. Refuses 14 for a desk that is not 1
 // to 4, then 15 where the desk has a draft; the worksheet stays.
 pub fn begin(w: Worksheet, desk: u32) -> Outcome
-    ensures { result ≡ beginOf desk w }
+    ensures { result ≡ begin_of desk w }
 {
     let i = w.inputs;
     let check = then(desk_check(desk), closed_check(draft_at(w, desk)));
@@ -232,7 +232,7 @@ pub fn begin(w: Worksheet, desk: u32) -> Outcome
 }
 
 fn edited_draft(e: Edit, d: Draft) -> Draft
-    ensures { result ≡ editedDraft e d }
+    ensures { result ≡ edited_draft e d }
 {
     match d {
         Draft::Closed => Draft::Closed,
@@ -244,7 +244,7 @@ fn edited_draft(e: Edit, d: Draft) -> Draft
 // A desk's draft with the changed fields in the place of its own; a stale one stays stale. Refuses
 // 14, 16 where there is no draft, then the changed fields; the worksheet stays.
 pub fn change(w: Worksheet, desk: u32, e: Edit) -> Outcome
-    ensures { result ≡ changeOf desk e w }
+    ensures { result ≡ change_of desk e w }
 {
     let d = draft_at(w, desk);
     let check = then(desk_check(desk), then(draft_check(d), edit_check(e)));
@@ -254,7 +254,7 @@ pub fn change(w: Worksheet, desk: u32, e: Edit) -> Outcome
 // A desk's draft becomes the inputs and these the earlier set; the desk closes and every other open
 // draft turns stale. Refuses 14, 16, then 17 where the draft is stale; the worksheet stays.
 pub fn commit(w: Worksheet, desk: u32) -> Outcome
-    ensures { result ≡ commitOf desk w }
+    ensures { result ≡ commit_of desk w }
 {
     let i = w.inputs;
     let d = draft_at(w, desk);
@@ -264,14 +264,14 @@ pub fn commit(w: Worksheet, desk: u32) -> Outcome
 }
 
 fn without_draft(w: Worksheet, desk: u32) -> Worksheet
-    ensures { result ≡ withoutDraft desk w }
+    ensures { result ≡ without_draft desk w }
 {
     with_draft(w, desk, Draft::Closed)
 }
 
 // A desk's draft goes; nothing else moves. Refuses 14, then 16 where there is no draft.
 pub fn cancel(w: Worksheet, desk: u32) -> Outcome
-    ensures { result ≡ cancelOf desk w }
+    ensures { result ≡ cancel_of desk w }
 {
     let check = then(desk_check(desk), draft_check(draft_at(w, desk)));
     decided(check, without_draft(w, desk), w)
@@ -279,7 +279,7 @@ pub fn cancel(w: Worksheet, desk: u32) -> Outcome
 
 // The earlier set; i where there is none.
 fn set_of(e: Earlier, i: Inputs) -> Inputs
-    ensures { result ≡ setOf e i }
+    ensures { result ≡ set_of e i }
 {
     match e {
         Earlier::Nothing => i,
@@ -290,7 +290,7 @@ fn set_of(e: Earlier, i: Inputs) -> Inputs
 // The earlier set returns and none is left; every open draft turns stale. Refuses 18 where there is
 // no earlier set; the worksheet stays.
 pub fn take_back(w: Worksheet) -> Outcome
-    ensures { result ≡ takeBackOf w }
+    ensures { result ≡ take_back_of w }
 {
     let i = w.inputs;
     let e = w.earlier;

@@ -1,7 +1,7 @@
 // The 15 fields of the inputs: their ranges, and what a change puts in their place.
 ghost use Rattle.std.specs.Prelude.{◌≡◌};
 ghost use Rattle.worksheet.specs.declared.inputs.Edit.TheVariants.{Sunspot, Hour, Path, Psc, Pole, Month, Model};
-ghost use Rattle.worksheet.specs.Inputs.{sunspotCheck, factorCheck, flagCheck, routeCheck, factorsCheck, poleCheck, inputsCheck, editCheck, edited};
+ghost use Rattle.worksheet.specs.Inputs.{sunspot_check, factor_check, flag_check, route_check, factors_check, pole_check, inputs_check, edit_check, edited};
 
 use base::ranges::{
     hour_check, is_bit, is_to, latitude_check, longitude_check, model_check, month_check,
@@ -23,26 +23,26 @@ pub enum Edit {
 }
 
 fn sunspot_check(x: f32) -> Verdict
-    ensures { result ≡ sunspotCheck x }
+    ensures { result ≡ sunspot_check x }
 {
     refuse_unless(is_to(0.0, 300.0, x), Refusal::Sunspot)
 }
 
 fn factor_check(field: u32, x: f32) -> Verdict
-    ensures { result ≡ factorCheck field x }
+    ensures { result ≡ factor_check field x }
 {
     refuse_unless(is_to(0.125, 8.0, x), Refusal::Factor(field))
 }
 
 // The flag of the long way is 0 or 1.
 fn flag_check(flag: u32) -> Verdict
-    ensures { result ≡ flagCheck flag }
+    ensures { result ≡ flag_check flag }
 {
     refuse_unless(is_bit(flag), Refusal::Flag)
 }
 
 fn route_check(p: Route) -> Verdict
-    ensures { result ≡ routeCheck p }
+    ensures { result ≡ route_check p }
 {
     let tlat = p.tlat;
     let tlong = p.tlong;
@@ -57,14 +57,14 @@ fn route_check(p: Route) -> Verdict
 }
 
 fn factors_check(p: Factors) -> Verdict
-    ensures { result ≡ factorsCheck p }
+    ensures { result ≡ factors_check p }
 {
     let last = then(factor_check(11, p.f2), factor_check(12, p.es));
     then(factor_check(9, p.e), then(factor_check(10, p.f1), last))
 }
 
 fn pole_check(p: MagneticPole) -> Verdict
-    ensures { result ≡ poleCheck p }
+    ensures { result ≡ pole_check p }
 {
     let lat = p.lat;
     let lon = p.lon;
@@ -73,7 +73,7 @@ fn pole_check(p: MagneticPole) -> Verdict
 
 // The first bad field of the inputs decides.
 pub(crate) fn inputs_check(i: Inputs) -> Verdict
-    ensures { result ≡ inputsCheck i }
+    ensures { result ≡ inputs_check i }
 {
     let route = i.route;
     let psc = i.psc;
@@ -86,7 +86,7 @@ pub(crate) fn inputs_check(i: Inputs) -> Verdict
 
 // The changed fields, and no other.
 pub(crate) fn edit_check(e: Edit) -> Verdict
-    ensures { result ≡ editCheck e }
+    ensures { result ≡ edit_check e }
 {
     match e {
         Edit::Sunspot(x) => sunspot_check(x),

@@ -2,7 +2,7 @@
 ghost use Rattle.std.specs.Prelude.{◌≡◌};
 ghost use Rattle.worksheet.specs.Showing.{lent_as};
 ghost use Rattle.worksheet.specs.Journal.{step_of, step};
-ghost use Rattle.worksheet.specs.Calls.{called, bufferAfter, next_of};
+ghost use Rattle.worksheet.specs.Calls.{called, buffer_after, next_of};
 
 use crate::desks;
 use crate::desks::{Outcome, Worksheet};
@@ -54,7 +54,7 @@ pub fn make(w: Worksheet, call: Call, lent: Lent, a: &[u8], b: &[u8], out: &mut 
     ensures answer { let s = step (lent_as lent a.now b.now) (called call out.old) w in
         result ≡ next_of s }
     ensures buffer { let s = step (lent_as lent a.now b.now) (called call out.old) w in
-        out.new ≡ bufferAfter s.answer out.old }
+        out.new ≡ buffer_after s.answer out.old }
 {
     match call {
         Call::Begin(desk) => told(desks::begin(w, desk)),

@@ -6,7 +6,7 @@
 ghost use Rattle.std.specs.Prelude.{◌≡◌, ℕ, length, get_or};
 ghost use Rattle.std.specs.Float.{nan};
 ghost use Rattle.base.specs.Fill.{fill};
-ghost use Rattle.worksheet.specs.Showing.{pair, yearly, lent_as, yearFilesCheck, inputsShown, askedCheck, judgedCheck, drawnOf, drawnBuffer, showOf, showBuffer};
+ghost use Rattle.worksheet.specs.Showing.{pair, yearly, lent_as, year_files_check, inputs_shown, asked_check, judged_check, drawn_of, drawn_buffer, show_of, show_buffer};
 
 use crate::desks::{Worksheet, desk_check, draft_at, draft_check, inputs_of};
 use crate::inputs::inputs_check;
@@ -30,7 +30,7 @@ pub enum Lent {
 // The inputs that a showing of the desk is of: 0 is the worksheet. A stale draft is shown all the
 // same.
 pub fn inputs_shown(w: Worksheet, desk: u32) -> Inputs
-    ensures { result ≡ inputsShown desk w }
+    ensures { result ≡ inputs_shown desk w }
 {
     let i = w.inputs;
     if desk == 0 {
@@ -41,7 +41,7 @@ pub fn inputs_shown(w: Worksheet, desk: u32) -> Inputs
 }
 
 fn asked_check(w: Worksheet, desk: u32) -> Verdict
-    ensures { result ≡ askedCheck desk w }
+    ensures { result ≡ asked_check desk w }
 {
     if desk == 0 {
         Verdict::Accepted
@@ -52,7 +52,7 @@ fn asked_check(w: Worksheet, desk: u32) -> Verdict
 
 // What is refused before the buffer and the files are looked at.
 fn judged_check(w: Worksheet, desk: u32) -> Verdict
-    ensures { result ≡ judgedCheck desk w }
+    ensures { result ≡ judged_check desk w }
 {
     then(asked_check(w, desk), inputs_check(inputs_shown(w, desk)))
 }
@@ -72,9 +72,9 @@ fn put(out: &mut [f32], all: &[f32; FIGURES])
 // The figures of inputs, which nothing judges here, into a lent buffer: 12 where it has not 151
 // numbers, then the refusals of the record and the month file. Refused, the buffer stays as it is.
 pub fn drawn(i: Inputs, f2: &[u8], file: &[u8], out: &mut [f32]) -> Shown
-    ensures answer { result ≡ drawnOf (pair f2.now file.now i) i out.old }
+    ensures answer { result ≡ drawn_of (pair f2.now file.now i) i out.old }
     ensures buffer { let files = pair f2.now file.now in
-        out.new ≡ drawnBuffer (files i) i out.old }
+        out.new ≡ drawn_buffer (files i) i out.old }
 {
     if out.len() != FIGURES {
         return Shown::Refused(Refusal::Figures);
@@ -94,7 +94,7 @@ pub fn drawn(i: Inputs, f2: &[u8], file: &[u8], out: &mut [f32]) -> Shown
 // fields and its buffer pass: 1 and 7 by the two words, 19 by the directory, 8 where the model's part has not
 // the month's record, then 9 and 10 of the month's part, 23 of the record and of that part, and 11.
 pub fn year_files_check(year: &[u8], month: u32, model: u32) -> Verdict
-    ensures { result ≡ yearFilesCheck year.now month model }
+    ensures { result ≡ year_files_check year.now month model }
 {
     let daw = year_model(year, model);
     let words = then(month_check(month), model_check(model));
@@ -107,8 +107,8 @@ pub fn year_files_check(year: &[u8], month: u32, model: u32) -> Verdict
 // As `drawn`, over a year file, of which the inputs' month and model pick the parts: 12, then 19 by
 // its directory, 8 where the model's part has not the month's record, and the month file's refusals.
 fn drawn_year(i: Inputs, year: &[u8], out: &mut [f32]) -> Shown
-    ensures answer { result ≡ drawnOf (yearly year.now i) i out.old }
-    ensures buffer { out.new ≡ drawnBuffer (yearly year.now i) i out.old }
+    ensures answer { result ≡ drawn_of (yearly year.now i) i out.old }
+    ensures buffer { out.new ≡ drawn_buffer (yearly year.now i) i out.old }
 {
     if out.len() != FIGURES {
         return Shown::Refused(Refusal::Figures);
@@ -130,9 +130,9 @@ fn drawn_year(i: Inputs, year: &[u8], out: &mut [f32]) -> Shown
 // 23, 11; the buffer stays as it was lent. The files are taken as lent, whatever month and model the
 // inputs shown have.
 pub fn show(w: Worksheet, desk: u32, f2: &[u8], file: &[u8], out: &mut [f32]) -> Shown
-    ensures answer { result ≡ showOf (pair f2.now file.now) desk out.old w }
+    ensures answer { result ≡ show_of (pair f2.now file.now) desk out.old w }
     ensures buffer { let files = pair f2.now file.now in
-        out.new ≡ showBuffer files desk out.old w }
+        out.new ≡ show_buffer files desk out.old w }
 {
     let check = judged_check(w, desk);
     match check {
@@ -144,8 +144,8 @@ pub fn show(w: Worksheet, desk: u32, f2: &[u8], file: &[u8], out: &mut [f32]) ->
 // The same over a year file: of the month and model of the inputs shown. Refuses 14, 16, the 15
 // fields of the inputs shown, 12, 19, 8, 9, 10, 23, 11; the buffer stays as it was lent.
 pub fn show_year(w: Worksheet, desk: u32, year: &[u8], out: &mut [f32]) -> Shown
-    ensures answer { result ≡ showOf (yearly year.now) desk out.old w }
-    ensures buffer { out.new ≡ showBuffer (yearly year.now) desk out.old w }
+    ensures answer { result ≡ show_of (yearly year.now) desk out.old w }
+    ensures buffer { out.new ≡ show_buffer (yearly year.now) desk out.old w }
 {
     let check = judged_check(w, desk);
     match check {
@@ -163,9 +163,9 @@ pub(crate) fn show_lent(
     b: &[u8],
     out: &mut [f32],
 ) -> Shown
-    ensures answer { result ≡ showOf (lent_as lent a.now b.now) desk out.old w }
+    ensures answer { result ≡ show_of (lent_as lent a.now b.now) desk out.old w }
     ensures buffer { let files = lent_as lent a.now b.now in
-        out.new ≡ showBuffer files desk out.old w }
+        out.new ≡ show_buffer files desk out.old w }
 {
     match lent {
         Lent::Pair => show(w, desk, a, b, out),

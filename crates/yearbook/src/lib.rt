@@ -2,8 +2,8 @@
 #![tactic(auto)]
 
 ghost use Rattle.std.specs.Prelude.{◌≡◌, ◌+◌, ◌-◌, ◌≤◌, length, take, drop};
-ghost use Rattle.base.specs.Refusal.{isAccepted};
-ghost use Rattle.packing.specs.Pack.{partCheck};
+ghost use Rattle.base.specs.Refusal.{is_accepted};
+ghost use Rattle.packing.specs.Pack.{part_check};
 
 use base::refusal::Verdict;
 use base::year::{DIRECTORY, PARTS};
@@ -60,7 +60,7 @@ fn is_whole(fd: i32, i: usize) -> bool {
 
 // Whether the file of argument i is a good part k; what is wrong is said.
 fn is_good(i: usize, k: usize, part: &[u8]) -> bool
-    ensures { result ≡ isAccepted (partCheck k part.now) }
+    ensures { result ≡ is_accepted (part_check k part.now) }
 {
     let verdict = part_check(k, part);
     match verdict {
@@ -96,7 +96,7 @@ fn read_at(fd: i32, year: &mut [u8], at: usize) -> usize
 fn is_good_at(i: usize, k: usize, year: &[u8], a: usize, e: usize) -> bool
     requires a_le_e { a ≤ e }
     requires e_in_bounds { e ≤ length year.now }
-    ensures { result ≡ isAccepted (partCheck k (take (e - a) (drop a year.now))) }
+    ensures { result ≡ is_accepted (part_check k (take (e - a) (drop a year.now))) }
 {
     is_good(i, k, &year[a..e])
 }

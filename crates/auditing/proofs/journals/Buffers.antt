@@ -12,11 +12,11 @@ use lib.Seq.{take_all, take-append-le, take-suc-set, set_out, get_or-set_same, g
 use Rattle.wording.specs.declared.line.Line.{Line}
 use Rattle.wording.specs.declared.line.Line.TheVariants as line
 use Rattle.wording.specs.declared.written.WrittenCall.TheVariants.{TakeBack}
-use Rattle.wording.specs.Line.{lineIn}
-use Rattle.auditing.specs.Gathered.{Numbered, line_at, ReadsAt, callTold, HoldsFirst}
+use Rattle.wording.specs.Line.{line_in}
+use Rattle.auditing.specs.Gathered.{Numbered, line_at, ReadsAt, call_told, HoldsFirst}
 
-pub holds-none : (xs buffer : List ℕ) → HoldsFirst 0 xs buffer
-holds-none xs buffer =
+pub holds_none : (xs buffer : List ℕ) → HoldsFirst 0 xs buffer
+holds_none xs buffer =
     let none : min 0 (length buffer) ≡ 0 = omega arith in
     ap (λ (i : ℕ). take i buffer) none ∙ sym (ap (λ (i : ℕ). take i xs) none)
 
@@ -49,37 +49,37 @@ holds_more xs buffer x count e h = go (ltb count (length buffer)) refl
 
 -- ---- where the calls' lines begin
 
--- past the calls' end, as `callTold` has it
+-- past the calls' end, as `call_told` has it
 abbrev none : Numbered
 none = record { call = TakeBack; line = 0 }
 
-abbrev asLine : Numbered → Line
-asLine x = line.Call x.call
+abbrev as_line : Numbered → Line
+as_line x = line.Call x.call
 
-begins-as :
+begins_as :
     (text : List ℕ) {s s' : ℕ} {l l' : Line} → s ≡ s' → l ≡ l' → ReadsAt text s' l' → ReadsAt text s l
-begins-as text p q b =
-    record { within = omega (arith, b.within); said = ap (λ (k : ℕ). lineIn (line_at text k)) p ∙ b.said ∙ sym q }
+begins_as text p q b =
+    record { within = omega (arith, b.within); said = ap (λ (k : ℕ). line_in (line_at text k)) p ∙ b.said ∙ sym q }
 
 pub starts_more :
     (text : List ℕ) (cs : List Numbered) (x : Numbered) (starts : List ℕ) (count s : ℕ) → count ≡ length cs →
-    ((i : ℕ) → i < count → i < length starts → ReadsAt text (get_or starts i 0) (line.Call (callTold cs i))) →
+    ((i : ℕ) → i < count → i < length starts → ReadsAt text (get_or starts i 0) (line.Call (call_told cs i))) →
     ReadsAt text s (line.Call x.call) →
     (i : ℕ) → i < count + 1 → i < length (set starts count s) →
-    ReadsAt text (get_or (set starts count s) i 0) (line.Call (callTold (cs ++ (x ∷ [])) i))
+    ReadsAt text (get_or (set starts count s) i 0) (line.Call (call_told (cs ++ (x ∷ [])) i))
 starts_more text cs x starts count s e before here i below room = go (ltb i count) refl
   where
     go : (b : Bool) → ltb i count ≡ b →
-        ReadsAt text (get_or (set starts count s) i 0) (line.Call (callTold (cs ++ (x ∷ [])) i))
+        ReadsAt text (get_or (set starts count s) i 0) (line.Call (call_told (cs ++ (x ∷ [])) i))
     go true t =
         let size = length-set starts count s in
         let first : i < count = ltb-true i count t in
-        begins-as text (get_or-set_other starts count i s 0 (λ q. omega arith))
-        (ap asLine (get_or-append cs (x ∷ []) none i (omega arith))) (before i first (omega arith))
+        begins_as text (get_or-set_other starts count i s 0 (λ q. omega arith))
+        (ap as_line (get_or-append cs (x ∷ []) none i (omega arith))) (before i first (omega arith))
     go false t =
         let size = length-set starts count s in
         let past : count ≤ i = ltb-false i count t in
         let last : i ≡ count = omega arith in
-        begins-as text
+        begins_as text
         (ap (λ (k : ℕ). get_or (set starts count s) k 0) last ∙ get_or-set_same starts count s 0 (omega arith))
-        (ap asLine (get_or_at cs x [] none i (omega arith))) here
+        (ap as_line (get_or_at cs x [] none i (omega arith))) here

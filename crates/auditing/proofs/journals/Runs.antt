@@ -15,67 +15,67 @@ use Rattle.worksheet.specs.Showing.{Source}
 use Rattle.worksheet.specs.Journal.{Call, Answer, told, shown, Entry, accepted, step, entry_of, run}
 use Rattle.worksheet.specs.Calls.{called, handed, next_of}
 use Rattle.wording.specs.declared.written.WrittenInputs.{WrittenInputs}
-use Rattle.wording.specs.Written.{callWritten}
+use Rattle.wording.specs.Written.{call_written}
 use Rattle.listing.specs.Turn.{blank}
-use Rattle.listing.proofs.pieces.Turns.{run-last}
-use Rattle.auditing.specs.Marks.{sortOf, deskOf, markWith, mark_of, marksOf}
-use Rattle.auditing.specs.Gathered.{Numbered, callsTold, numbersTold, sheetOpened, runTold, handedGood}
+use Rattle.listing.proofs.pieces.Turns.{run_last}
+use Rattle.auditing.specs.Marks.{sort_of, desk_of, mark_with, mark_of, marks_of}
+use Rattle.auditing.specs.Gathered.{Numbered, calls_told, numbers_told, sheet_opened, run_told, handed_good}
 
 -- ---- a call and its mark
 
-handed-good : (a : Answer) → handedGood (handed a) ≡ accepted a
-unfolding handedGood
-handed-good (told Accepted) = refl
-handed-good (told (Refused why)) = refl
-handed-good (shown (Points count uses) after) = refl
-handed-good (shown (NotShown why) after) = refl
+handed_good_law : (a : Answer) → handed_good (handed a) ≡ accepted a
+unfolding handed_good
+handed_good_law (told Accepted) = refl
+handed_good_law (told (Refused why)) = refl
+handed_good_law (shown (Points count uses) after) = refl
+handed_good_law (shown (NotShown why) after) = refl
 
 pub made_as :
     (source : Source) (c : ProgramCall) (w : Worksheet) {call : ProgramCall} {next : Next} {good : Bool} {mark : ℕ} →
-    call ≡ c → next ≡ next_of (step source (called call blank) w) → good ≡ handedGood next.answer →
-    mark ≡ markWith (sortOf (called call blank)) good (deskOf (called call blank)) →
+    call ≡ c → next ≡ next_of (step source (called call blank) w) → good ≡ handed_good next.answer →
+    mark ≡ mark_with (sort_of (called call blank)) good (desk_of (called call blank)) →
     (next.sheet ≡ (step source (called c blank) w).sheet) × (mark ≡ mark_of (entry_of source (called c blank) w))
 unfolding next_of mark_of
 made_as source c w {call} {next} {good} {mark} p q g m =
     let e : next ≡ next_of (step source (called c blank) w) =
     q ∙ ap (λ (x : ProgramCall). next_of (step source (called x blank) w)) p in
     let a = (step source (called c blank) w).answer in
-    let f : good ≡ accepted a = g ∙ ap (λ (x : Next). handedGood x.answer) e ∙ handed-good a in (
+    let f : good ≡ accepted a = g ∙ ap (λ (x : Next). handed_good x.answer) e ∙ handed_good_law a in (
       ap (λ (x : Next). x.sheet) e,
       m
-          ∙ ap (λ (x : ProgramCall). markWith (sortOf (called x blank)) good (deskOf (called x blank))) p
-          ∙ ap (λ (b : Bool). markWith (sortOf (called c blank)) b (deskOf (called c blank))) f,
+          ∙ ap (λ (x : ProgramCall). mark_with (sort_of (called x blank)) good (desk_of (called x blank))) p
+          ∙ ap (λ (b : Bool). mark_with (sort_of (called c blank)) b (desk_of (called c blank))) f,
     )
 
 -- ---- one more, in each list
 
-run-entries :
+run_entries :
     (source : Source) (cs : List Call) (c : Call) (w : Worksheet) →
     (run source (cs ++ (c ∷ [])) w).entries
     ≡ (run source cs w).entries ++ (entry_of source c (run source cs w).sheet ∷ [])
 unfolding run
-run-entries source [] c w = refl
-run-entries source (x ∷ cs) c w =
-    ap (λ (l : List Entry). entry_of source x w ∷ l) (run-entries source cs c (step source x w).sheet)
+run_entries source [] c w = refl
+run_entries source (x ∷ cs) c w =
+    ap (λ (l : List Entry). entry_of source x w ∷ l) (run_entries source cs c (step source x w).sheet)
 
-marks-both : (l m : List Entry) → marksOf (l ++ m) ≡ marksOf l ++ marksOf m
-unfolding marksOf
-marks-both [] m = refl
-marks-both (x ∷ l) m = ap (λ (y : List ℕ). mark_of x ∷ y) (marks-both l m)
+marks_both : (l m : List Entry) → marks_of (l ++ m) ≡ marks_of l ++ marks_of m
+unfolding marks_of
+marks_both [] m = refl
+marks_both (x ∷ l) m = ap (λ (y : List ℕ). mark_of x ∷ y) (marks_both l m)
 
-marks-one : (x : Entry) → marksOf (x ∷ []) ≡ mark_of x ∷ []
-unfolding marksOf
-marks-one x = refl
+marks_one : (x : Entry) → marks_of (x ∷ []) ≡ mark_of x ∷ []
+unfolding marks_of
+marks_one x = refl
 
-calls-more :
+calls_more :
     (cs : List Numbered) (x : Numbered) →
-    callsTold (cs ++ (x ∷ [])) ≡ callsTold cs ++ (called (callWritten x.call) blank ∷ [])
-unfolding callsTold
-calls-more [] x = refl
-calls-more (y ∷ cs) x = ap (λ (l : List Call). called (callWritten y.call) blank ∷ l) (calls-more cs x)
+    calls_told (cs ++ (x ∷ [])) ≡ calls_told cs ++ (called (call_written x.call) blank ∷ [])
+unfolding calls_told
+calls_more [] x = refl
+calls_more (y ∷ cs) x = ap (λ (l : List Call). called (call_written y.call) blank ∷ l) (calls_more cs x)
 
-pub numbers_more : (cs : List Numbered) (x : Numbered) → numbersTold (cs ++ (x ∷ [])) ≡ numbersTold cs ++ (x.line ∷ [])
-unfolding numbersTold
+pub numbers_more : (cs : List Numbered) (x : Numbered) → numbers_told (cs ++ (x ∷ [])) ≡ numbers_told cs ++ (x.line ∷ [])
+unfolding numbers_told
 numbers_more [] x = refl
 numbers_more (y ∷ cs) x = ap (λ (l : List ℕ). y.line ∷ l) (numbers_more cs x)
 
@@ -86,47 +86,47 @@ unfolding run
 run_length source [] w = refl
 run_length source (c ∷ cs) w = ap suc (run_length source cs (step source c w).sheet)
 
-marks-length : (l : List Entry) → length (marksOf l) ≡ length l
-unfolding marksOf
-marks-length [] = refl
-marks-length (x ∷ l) = ap suc (marks-length l)
+marks_length : (l : List Entry) → length (marks_of l) ≡ length l
+unfolding marks_of
+marks_length [] = refl
+marks_length (x ∷ l) = ap suc (marks_length l)
 
-calls-length : (cs : List Numbered) → length (callsTold cs) ≡ length cs
-unfolding callsTold
-calls-length [] = refl
-calls-length (x ∷ cs) = ap suc (calls-length cs)
+calls_length : (cs : List Numbered) → length (calls_told cs) ≡ length cs
+unfolding calls_told
+calls_length [] = refl
+calls_length (x ∷ cs) = ap suc (calls_length cs)
 
-pub numbers-length : (cs : List Numbered) → length (numbersTold cs) ≡ length cs
-unfolding numbersTold
-numbers-length [] = refl
-numbers-length (x ∷ cs) = ap suc (numbers-length cs)
+pub numbers_length : (cs : List Numbered) → length (numbers_told cs) ≡ length cs
+unfolding numbers_told
+numbers_length [] = refl
+numbers_length (x ∷ cs) = ap suc (numbers_length cs)
 
 -- ---- of a journal
 
 module _ (source : Source) (o : WrittenInputs) (cs : List Numbered) where
-  pub entries-length : length (runTold source o cs).entries ≡ length cs
-  entries-length = run_length source (callsTold cs) (sheetOpened o) ∙ calls-length cs
+  pub entries_length : length (run_told source o cs).entries ≡ length cs
+  entries_length = run_length source (calls_told cs) (sheet_opened o) ∙ calls_length cs
 
-  pub marked-length : length (marksOf (runTold source o cs).entries) ≡ length cs
-  marked-length = marks-length (runTold source o cs).entries ∙ entries-length
+  pub marked_length : length (marks_of (run_told source o cs).entries) ≡ length cs
+  marked_length = marks_length (run_told source o cs).entries ∙ entries_length
 
-  pub sheet-more :
+  pub sheet_more :
       (x : Numbered) →
-      (runTold source o (cs ++ (x ∷ []))).sheet
-      ≡ (step source (called (callWritten x.call) blank) (runTold source o cs).sheet).sheet
-  sheet-more x =
-      ap (λ (l : List Call). (run source l (sheetOpened o)).sheet) (calls-more cs x)
-      ∙ run-last source (callsTold cs) (called (callWritten x.call) blank) (sheetOpened o)
+      (run_told source o (cs ++ (x ∷ []))).sheet
+      ≡ (step source (called (call_written x.call) blank) (run_told source o cs).sheet).sheet
+  sheet_more x =
+      ap (λ (l : List Call). (run source l (sheet_opened o)).sheet) (calls_more cs x)
+      ∙ run_last source (calls_told cs) (called (call_written x.call) blank) (sheet_opened o)
 
   pub marked_more :
       (x : Numbered) →
-      marksOf (runTold source o (cs ++ (x ∷ []))).entries
-      ≡ marksOf (runTold source o cs).entries
-      ++ (mark_of (entry_of source (called (callWritten x.call) blank) (runTold source o cs).sheet) ∷ [])
+      marks_of (run_told source o (cs ++ (x ∷ []))).entries
+      ≡ marks_of (run_told source o cs).entries
+      ++ (mark_of (entry_of source (called (call_written x.call) blank) (run_told source o cs).sheet) ∷ [])
   marked_more x =
-      let call = called (callWritten x.call) blank in
-      let last = entry_of source call (runTold source o cs).sheet in
-      ap (λ (l : List Call). marksOf (run source l (sheetOpened o)).entries) (calls-more cs x)
-      ∙ ap marksOf (run-entries source (callsTold cs) call (sheetOpened o))
-      ∙ marks-both (runTold source o cs).entries (last ∷ [])
-      ∙ ap (λ (l : List ℕ). marksOf (runTold source o cs).entries ++ l) (marks-one last)
+      let call = called (call_written x.call) blank in
+      let last = entry_of source call (run_told source o cs).sheet in
+      ap (λ (l : List Call). marks_of (run source l (sheet_opened o)).entries) (calls_more cs x)
+      ∙ ap marks_of (run_entries source (calls_told cs) call (sheet_opened o))
+      ∙ marks_both (run_told source o cs).entries (last ∷ [])
+      ∙ ap (λ (l : List ℕ). marks_of (run_told source o cs).entries ++ l) (marks_one last)

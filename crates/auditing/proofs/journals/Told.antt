@@ -8,48 +8,48 @@ use native.Mathlib.Nat.{add-zero}
 use native.Mathlib.Numerals.{add-one}
 use lib.ListN.{length, get_or, take, length-take}
 use lib.Seq.{take-suc, take_all}
-use Rattle.wording.specs.Line.{lineIn}
-use Rattle.auditing.specs.Gathered.{textLines, Told, waiting, telling, toldFrom, toldBy}
+use Rattle.wording.specs.Line.{line_in}
+use Rattle.auditing.specs.Gathered.{text_lines, Told, waiting, telling, told_from, told_by}
 
-told-both :
-    (n : ℕ) (t : Told) (ls ms : List (List ℕ)) → toldFrom n t (ls ++ ms) ≡ toldFrom (n + length ls) (toldFrom n t ls) ms
-unfolding toldFrom
-told-both n t [] ms = sym (ap (λ (i : ℕ). toldFrom i t ms) (add-zero n))
-told-both n t (l ∷ ls) ms =
+told_both :
+    (n : ℕ) (t : Told) (ls ms : List (List ℕ)) → told_from n t (ls ++ ms) ≡ told_from (n + length ls) (told_from n t ls) ms
+unfolding told_from
+told_both n t [] ms = sym (ap (λ (i : ℕ). told_from i t ms) (add-zero n))
+told_both n t (l ∷ ls) ms =
     let place : suc n + length ls ≡ n + suc (length ls) = omega arith in
-    told-both (suc n) (telling n t (lineIn l)) ls ms
-    ∙ ap (λ (i : ℕ). toldFrom i (toldFrom (suc n) (telling n t (lineIn l)) ls) ms) place
+    told_both (suc n) (telling n t (line_in l)) ls ms
+    ∙ ap (λ (i : ℕ). told_from i (told_from (suc n) (telling n t (line_in l)) ls) ms) place
 
-told-one : (n : ℕ) (t : Told) (l : List ℕ) → toldFrom n t (l ∷ []) ≡ telling n t (lineIn l)
-unfolding toldFrom
-told-one n t l = refl
+told_one : (n : ℕ) (t : Told) (l : List ℕ) → told_from n t (l ∷ []) ≡ telling n t (line_in l)
+unfolding told_from
+told_one n t l = refl
 
 -- ---- the first lines of a text
 
-pub told_none : (text : List ℕ) → toldBy text 0 ≡ waiting
-unfolding toldBy toldFrom
+pub told_none : (text : List ℕ) → told_by text 0 ≡ waiting
+unfolding told_by told_from
 told_none text = refl
 
 -- one line more
-pub told-next :
-    (text : List ℕ) (n : ℕ) → n < length (textLines text) →
-    toldBy text (n + 1) ≡ telling (n + 1) (toldBy text n) (lineIn (get_or (textLines text) n []))
-unfolding toldBy
-told-next text n h =
-    let ls = textLines text in
+pub told_next :
+    (text : List ℕ) (n : ℕ) → n < length (text_lines text) →
+    told_by text (n + 1) ≡ telling (n + 1) (told_by text n) (line_in (get_or (text_lines text) n []))
+unfolding told_by
+told_next text n h =
+    let ls = text_lines text in
     let l = get_or ls n [] in
     let size = length-take n ls in
     let place : 1 + length (take n ls) ≡ n + 1 = omega arith in
-    ap (λ (i : ℕ). toldFrom 1 waiting (take i ls)) (add-one n)
-    ∙ ap (toldFrom 1 waiting) (take-suc ls n [] h)
-    ∙ told-both 1 waiting (take n ls) (l ∷ [])
-    ∙ told-one (1 + length (take n ls)) (toldFrom 1 waiting (take n ls)) l
-    ∙ ap (λ (i : ℕ). telling i (toldFrom 1 waiting (take n ls)) (lineIn l)) place
+    ap (λ (i : ℕ). told_from 1 waiting (take i ls)) (add-one n)
+    ∙ ap (told_from 1 waiting) (take-suc ls n [] h)
+    ∙ told_both 1 waiting (take n ls) (l ∷ [])
+    ∙ told_one (1 + length (take n ls)) (told_from 1 waiting (take n ls)) l
+    ∙ ap (λ (i : ℕ). telling i (told_from 1 waiting (take n ls)) (line_in l)) place
 
 -- there are no more
-pub told-all :
-    (text : List ℕ) (n k : ℕ) → length (textLines text) ≤ n → n ≤ k → toldBy text k ≡ toldBy text n
-unfolding toldBy
-told-all text n k h q =
-    let ls = textLines text in
-    ap (toldFrom 1 waiting) (take_all k ls (omega arith) ∙ sym (take_all n ls h))
+pub told_all :
+    (text : List ℕ) (n k : ℕ) → length (text_lines text) ≤ n → n ≤ k → told_by text k ≡ told_by text n
+unfolding told_by
+told_all text n k h q =
+    let ls = text_lines text in
+    ap (told_from 1 waiting) (take_all k ls (omega arith) ∙ sym (take_all n ls h))

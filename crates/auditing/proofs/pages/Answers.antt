@@ -10,24 +10,24 @@ use Rattle.worksheet.specs.declared.desks.Worksheet.{Worksheet}
 use Rattle.worksheet.specs.declared.journal.Next.{Next}
 use Rattle.worksheet.specs.Showing.{Source}
 use Rattle.worksheet.specs.Journal.{Answer, told, shown, show, step}
-use Rattle.worksheet.specs.Calls.{handed, bufferAfter, next_of}
+use Rattle.worksheet.specs.Calls.{handed, buffer_after, next_of}
 use Rattle.listing.specs.Turn.{blank}
-use Rattle.auditing.specs.Accounts.{answerPage, sheetAccount, handedPage}
+use Rattle.auditing.specs.Accounts.{answer_page, sheet_account, handed_page}
 
-same-page :
-    (i : Inputs) (a : Answer) (lent : List Float) → handedPage i (handed a) (bufferAfter a lent) ≡ answerPage i a
-unfolding handedPage
-same-page i (told v) lent = refl
-same-page i (shown (Points count uses) after) lent = refl
-same-page i (shown (NotShown why) after) lent = refl
+same_page :
+    (i : Inputs) (a : Answer) (lent : List Float) → handed_page i (handed a) (buffer_after a lent) ≡ answer_page i a
+unfolding handed_page
+same_page i (told v) lent = refl
+same_page i (shown (Points count uses) after) lent = refl
+same_page i (shown (NotShown why) after) lent = refl
 
-pub sheet-as :
+pub sheet_as :
     (source : Source) (w : Worksheet) {r : Next} {figures : List Float} {text : List ℕ} →
     let s = step source (show 0 blank) w in
-    r ≡ next_of s → figures ≡ bufferAfter s.answer blank → text ≡ handedPage w.inputs r.answer figures →
-    text ≡ sheetAccount source w
-unfolding next_of sheetAccount
-sheet-as source w p q t =
+    r ≡ next_of s → figures ≡ buffer_after s.answer blank → text ≡ handed_page w.inputs r.answer figures →
+    text ≡ sheet_account source w
+unfolding next_of sheet_account
+sheet_as source w p q t =
     t
-    ∙ (λ x. handedPage w.inputs (p x).answer (q x))
-    ∙ same-page w.inputs (step source (show 0 blank) w).answer blank
+    ∙ (λ x. handed_page w.inputs (p x).answer (q x))
+    ∙ same_page w.inputs (step source (show 0 blank) w).answer blank

@@ -10,15 +10,15 @@ use lib.Dec.{leb}
 use lib.ListN.{length, get_or, take, set, length-append, length-take}
 use borrow.Author.Tests.{leb-true, leb-false, lt-ltb, le-ltb, le-leb, eq-eqb, ne_eqb}
 use Rattle.io.specs.Counts.{IsPrefixLen}
-use Rattle.base.proofs.verdicts.Picks.{cond-true, cond-false}
+use Rattle.base.proofs.verdicts.Picks.{cond_true, cond_false}
 use Rattle.worksheet.specs.Showing.{Source}
-use Rattle.listing.specs.Account.{titleText, draftsHead, noneLine, shorterHead, sheetHead}
+use Rattle.listing.specs.Account.{title_text, drafts_head, none_line, shorter_head, sheet_head}
 use Rattle.listing.specs.Fields.{in_turn}
 use Rattle.listing.proofs.pieces.Puts.{begun, go_on, complete}
 use Rattle.auditing.specs.declared.gathering.Gathered.{Gathered}
 use Rattle.auditing.specs.declared.page.Part.{Part}
-use Rattle.auditing.specs.Accounts.{number_at, fieldAccount, draftAccount, lineAccount, sheetAccount}
-use Rattle.auditing.specs.Page.{draftsText, noDrafts, fieldsPart, sheetPart, shorterPart, draftsPart, pagePart}
+use Rattle.auditing.specs.Accounts.{number_at, field_account, draft_account, line_account, sheet_account}
+use Rattle.auditing.specs.Page.{drafts_text, no_drafts, fields_part, sheet_part, shorter_part, drafts_part, page_part}
 
 -- ---- a line laid into the buffer, byte by byte
 
@@ -29,17 +29,17 @@ module _ (before piece : List ℕ) (h : length piece ≤ length before) where
   laid_more {l} i q e =
       ap (λ (k : ℕ). set l k (get_or piece i 0)) (sym (zero-add i)) ∙ go_on before 0 piece (omega arith) i q e
 
-  pub laid-all : {l : List ℕ} (i : ℕ) → i ≡ length piece → l ≡ begun before 0 piece i → take i l ≡ piece
-  laid-all {l} i q e =
+  pub laid_all : {l : List ℕ} (i : ℕ) → i ≡ length piece → l ≡ begun before 0 piece i → take i l ≡ piece
+  laid_all {l} i q e =
       ap (λ (k : ℕ). take k l) (sym (zero-add i)) ∙ (complete before 0 piece (omega arith) i q e).text
 
-pub laid-counts : (i : ℕ) (l : List ℕ) → i ≤ length l → i ≡ length (take i l)
-laid-counts i l h = omega (arith, length-take i l)
+pub laid_counts : (i : ℕ) (l : List ℕ) → i ≤ length l → i ≡ length (take i l)
+laid_counts i l h = omega (arith, length-take i l)
 
 -- ---- tests
 
-pub leb-same : (a b c d : ℕ) → (a ≤ b → c ≤ d) → (c ≤ d → a ≤ b) → leb a b ≡ leb c d
-leb-same a b c d to from = go (leb a b) refl
+pub leb_same : (a b c d : ℕ) → (a ≤ b → c ≤ d) → (c ≤ d → a ≤ b) → leb a b ≡ leb c d
+leb_same a b c d to from = go (leb a b) refl
   where
     go : (t : Bool) → leb a b ≡ t → t ≡ leb c d
     go true e = sym (le-leb c d (to (leb-true a b e)))
@@ -53,148 +53,148 @@ leb-same a b c d to from = go (leb a b) refl
 
 -- ---- what a part is, with its text known
 
-pub part-as :
+pub part_as :
     (l : List ℕ) {r : Part} {n : ℕ} {last want : Bool} {piece part : List ℕ} → r ≡ record { size = n; last = last } →
     take n l ≡ piece → piece ≡ part → last ≡ want → IsPrefixLen n l →
     (take r.size l ≡ part) × ((r.last ≡ want) × IsPrefixLen r.size l)
-part-as l {want} {part} e t p w count =
+part_as l {want} {part} e t p w count =
     subst (λ (x : Part). (take x.size l ≡ part) × ((x.last ≡ want) × IsPrefixLen x.size l)) (sym e) (t ∙ p, (w, count))
 
 -- ---- no line of a draft
 
 module _ (marks numbers : List ℕ) (count : ℕ) where
   abbrev lines : ℕ → ℕ
-  lines p = length (draftsText marks numbers count p)
+  lines p = length (drafts_text marks numbers count p)
 
   pub lines_none : lines 0 ≡ 0
-  unfolding draftsText in_turn
+  unfolding drafts_text in_turn
   lines_none = refl
 
-  pub lines_next : (p : ℕ) → lines (suc p) ≡ lines p + length (draftAccount marks numbers count p)
-  unfolding draftsText in_turn
-  lines_next p = length-append (draftsText marks numbers count p) (draftAccount marks numbers count p)
+  pub lines_next : (p : ℕ) → lines (suc p) ≡ lines p + length (draft_account marks numbers count p)
+  unfolding drafts_text in_turn
+  lines_next p = length-append (drafts_text marks numbers count p) (draft_account marks numbers count p)
 
-  lines-grow : (p k : ℕ) → lines p ≤ lines (p + k)
-  lines-grow p zero = omega (arith, ap lines (add-zero-right p))
+  lines_grow : (p k : ℕ) → lines p ≤ lines (p + k)
+  lines_grow p zero = omega (arith, ap lines (add_zero_right p))
     where
-      add-zero-right : (m : ℕ) → m + 0 ≡ m
-      add-zero-right m = omega arith
-  lines-grow p (suc k) =
+      add_zero_right : (m : ℕ) → m + 0 ≡ m
+      add_zero_right m = omega arith
+  lines_grow p (suc k) =
       let e : p + suc k ≡ suc (p + k) = omega arith in
-      omega (arith, lines-grow p k, ap lines e, lines_next (p + k))
+      omega (arith, lines_grow p k, ap lines e, lines_next (p + k))
 
   -- the first p calls have none, and the next has one
-  pub some-draft : (p : ℕ) → p < count → 0 < length (draftAccount marks numbers count p) → false ≡ noDrafts marks numbers count
-  unfolding noDrafts
-  some-draft p h some =
+  pub some_draft : (p : ℕ) → p < count → 0 < length (draft_account marks numbers count p) → false ≡ no_drafts marks numbers count
+  unfolding no_drafts
+  some_draft p h some =
       let e : suc p + (count - suc p) ≡ count = omega arith in
-      let most : lines (suc p) ≤ lines count = omega (arith, lines-grow (suc p) (count - suc p), ap lines e) in
+      let most : lines (suc p) ≤ lines count = omega (arith, lines_grow (suc p) (count - suc p), ap lines e) in
       sym (ne_eqb (lines count) 0 (λ q. omega (arith, most, lines_next p, some, q)))
 
-  pub no-draft : (p : ℕ) → count ≤ p → p ≤ count → lines p ≡ 0 → true ≡ noDrafts marks numbers count
-  unfolding noDrafts
-  no-draft p h q none =
+  pub no_draft : (p : ℕ) → count ≤ p → p ≤ count → lines p ≡ 0 → true ≡ no_drafts marks numbers count
+  unfolding no_drafts
+  no_draft p h q none =
       let e : p ≡ count = omega arith in
       sym (eq-eqb (lines count) 0 (ap lines (sym e) ∙ none))
 
 -- ---- which part it is
 
 module _ (line : ℕ) (g : Gathered) (marks numbers : List ℕ) (k : ℕ) where
-  pub fields-title : k ≡ 0 → titleText line ≡ fieldsPart line g marks numbers k
-  unfolding fieldsPart
-  fields-title h = sym (cond-true _ _ (eq-eqb k 0 h))
+  pub fields_title : k ≡ 0 → title_text line ≡ fields_part line g marks numbers k
+  unfolding fields_part
+  fields_title h = sym (cond_true _ _ (eq-eqb k 0 h))
 
-  pub fields-field :
+  pub fields_field :
       (k ≡ 0 → ⊥) →
-      fieldAccount g.sheet.inputs g.opened marks numbers g.count k ≡ fieldsPart line g marks numbers k
-  unfolding fieldsPart
-  fields-field h = sym (cond-false _ _ (ne_eqb k 0 h))
+      field_account g.sheet.inputs g.opened marks numbers g.count k ≡ fields_part line g marks numbers k
+  unfolding fields_part
+  fields_field h = sym (cond_false _ _ (ne_eqb k 0 h))
 
 module _ (source : Source) (g : Gathered) (k : ℕ) where
-  pub sheet-head : k ≡ 0 → sheetHead ≡ sheetPart source g k
-  unfolding sheetPart
-  sheet-head h = sym (cond-true _ _ (eq-eqb k 0 h))
+  pub sheet_head_law : k ≡ 0 → sheet_head ≡ sheet_part source g k
+  unfolding sheet_part
+  sheet_head_law h = sym (cond_true _ _ (eq-eqb k 0 h))
 
-  pub sheet-itself : k ≡ 1 → sheetAccount source g.sheet ≡ sheetPart source g k
-  unfolding sheetPart
-  sheet-itself h = sym (cond-false _ _ (ne_eqb k 0 (λ q. omega arith)) ∙ cond-true _ _ (eq-eqb k 1 h))
+  pub sheet_itself : k ≡ 1 → sheet_account source g.sheet ≡ sheet_part source g k
+  unfolding sheet_part
+  sheet_itself h = sym (cond_false _ _ (ne_eqb k 0 (λ q. omega arith)) ∙ cond_true _ _ (eq-eqb k 1 h))
 
-  pub sheet-past : (k ≡ 0 → ⊥) → (k ≡ 1 → ⊥) → [] ≡ sheetPart source g k
-  unfolding sheetPart
-  sheet-past h q = sym (cond-false _ _ (ne_eqb k 0 h) ∙ cond-false _ _ (ne_eqb k 1 q))
+  pub sheet_past : (k ≡ 0 → ⊥) → (k ≡ 1 → ⊥) → [] ≡ sheet_part source g k
+  unfolding sheet_part
+  sheet_past h q = sym (cond_false _ _ (ne_eqb k 0 h) ∙ cond_false _ _ (ne_eqb k 1 q))
 
 module _ (source : Source) (text : List ℕ) (g : Gathered) (starts places : List ℕ) (size k : ℕ) where
-  abbrev shorterHere : List ℕ
-  shorterHere = shorterPart source text g starts places size k
+  abbrev shorter_here : List ℕ
+  shorter_here = shorter_part source text g starts places size k
 
-  pub shorter-head : k ≡ 0 → shorterHead ≡ shorterHere
-  unfolding shorterPart
-  shorter-head h = sym (cond-true _ _ (eq-eqb k 0 h))
+  pub shorter_head_law : k ≡ 0 → shorter_head ≡ shorter_here
+  unfolding shorter_part
+  shorter_head_law h = sym (cond_true _ _ (eq-eqb k 0 h))
 
-  pub shorter-open : k ≡ 1 → lineAccount text g.start ≡ shorterHere
-  unfolding shorterPart
-  shorter-open h = sym (cond-false _ _ (ne_eqb k 0 (λ q. omega arith)) ∙ cond-true _ _ (eq-eqb k 1 h))
+  pub shorter_open : k ≡ 1 → line_account text g.start ≡ shorter_here
+  unfolding shorter_part
+  shorter_open h = sym (cond_false _ _ (ne_eqb k 0 (λ q. omega arith)) ∙ cond_true _ _ (eq-eqb k 1 h))
 
-  pub shorter-call :
-      2 ≤ k → k - 2 < size → lineAccount text (number_at starts (number_at places (k - 2))) ≡ shorterHere
-  unfolding shorterPart
-  shorter-call h q =
+  pub shorter_call :
+      2 ≤ k → k - 2 < size → line_account text (number_at starts (number_at places (k - 2))) ≡ shorter_here
+  unfolding shorter_part
+  shorter_call h q =
       sym (
-      cond-false _ _ (ne_eqb k 0 (λ e. omega arith))
-      ∙ cond-false _ _ (ne_eqb k 1 (λ e. omega arith))
-      ∙ cond-true _ _ (lt-ltb (k - 2) size q)
+      cond_false _ _ (ne_eqb k 0 (λ e. omega arith))
+      ∙ cond_false _ _ (ne_eqb k 1 (λ e. omega arith))
+      ∙ cond_true _ _ (lt-ltb (k - 2) size q)
       )
 
-  pub shorter-rest : 2 ≤ k → size ≤ k - 2 → sheetPart source g (k - 2 - size) ≡ shorterHere
-  unfolding shorterPart
-  shorter-rest h q =
+  pub shorter_rest : 2 ≤ k → size ≤ k - 2 → sheet_part source g (k - 2 - size) ≡ shorter_here
+  unfolding shorter_part
+  shorter_rest h q =
       sym (
-      cond-false _ _ (ne_eqb k 0 (λ e. omega arith))
-      ∙ cond-false _ _ (ne_eqb k 1 (λ e. omega arith))
-      ∙ cond-false _ _ (le-ltb (k - 2) size q)
+      cond_false _ _ (ne_eqb k 0 (λ e. omega arith))
+      ∙ cond_false _ _ (ne_eqb k 1 (λ e. omega arith))
+      ∙ cond_false _ _ (le-ltb (k - 2) size q)
       )
 
 module _ (source : Source) (text : List ℕ) (g : Gathered) (marks numbers starts places : List ℕ) (size k : ℕ) where
-  abbrev draftsHere : List ℕ
-  draftsHere = draftsPart source text g marks numbers starts places size k
+  abbrev drafts_here : List ℕ
+  drafts_here = drafts_part source text g marks numbers starts places size k
 
-  pub drafts-head : k ≡ 0 → draftsHead ≡ draftsHere
-  unfolding draftsPart
-  drafts-head h = sym (cond-true _ _ (eq-eqb k 0 h))
+  pub drafts_head_law : k ≡ 0 → drafts_head ≡ drafts_here
+  unfolding drafts_part
+  drafts_head_law h = sym (cond_true _ _ (eq-eqb k 0 h))
 
-  pub drafts-line : 1 ≤ k → k - 1 < g.count → draftAccount marks numbers g.count (k - 1) ≡ draftsHere
-  unfolding draftsPart
-  drafts-line h q = sym (cond-false _ _ (ne_eqb k 0 (λ e. omega arith)) ∙ cond-true _ _ (lt-ltb (k - 1) g.count q))
+  pub drafts_line : 1 ≤ k → k - 1 < g.count → draft_account marks numbers g.count (k - 1) ≡ drafts_here
+  unfolding drafts_part
+  drafts_line h q = sym (cond_false _ _ (ne_eqb k 0 (λ e. omega arith)) ∙ cond_true _ _ (lt-ltb (k - 1) g.count q))
 
-  pub drafts-none :
+  pub drafts_none :
       1 ≤ k → g.count ≤ k - 1 → k - 1 - g.count ≡ 0 →
-      cond (noDrafts marks numbers g.count) noneLine [] ≡ draftsHere
-  unfolding draftsPart
-  drafts-none h q e =
+      cond (no_drafts marks numbers g.count) none_line [] ≡ drafts_here
+  unfolding drafts_part
+  drafts_none h q e =
       sym (
-      cond-false _ _ (ne_eqb k 0 (λ x. omega arith))
-      ∙ cond-false _ _ (le-ltb (k - 1) g.count q)
-      ∙ cond-true _ _ (eq-eqb (k - 1 - g.count) 0 e)
+      cond_false _ _ (ne_eqb k 0 (λ x. omega arith))
+      ∙ cond_false _ _ (le-ltb (k - 1) g.count q)
+      ∙ cond_true _ _ (eq-eqb (k - 1 - g.count) 0 e)
       )
 
-  pub drafts-rest :
+  pub drafts_rest :
       1 ≤ k → g.count ≤ k - 1 → (k - 1 - g.count ≡ 0 → ⊥) →
-      shorterPart source text g starts places size (k - 1 - g.count - 1) ≡ draftsHere
-  unfolding draftsPart
-  drafts-rest h q e =
+      shorter_part source text g starts places size (k - 1 - g.count - 1) ≡ drafts_here
+  unfolding drafts_part
+  drafts_rest h q e =
       sym (
-      cond-false _ _ (ne_eqb k 0 (λ x. omega arith))
-      ∙ cond-false _ _ (le-ltb (k - 1) g.count q)
-      ∙ cond-false _ _ (ne_eqb (k - 1 - g.count) 0 e)
+      cond_false _ _ (ne_eqb k 0 (λ x. omega arith))
+      ∙ cond_false _ _ (le-ltb (k - 1) g.count q)
+      ∙ cond_false _ _ (ne_eqb (k - 1 - g.count) 0 e)
       )
 
-  pub page-fields : (line : ℕ) → k < 16 → fieldsPart line g marks numbers k ≡ pagePart source text g marks numbers starts places size line k
-  unfolding pagePart
-  page-fields line h = sym (cond-true _ _ (lt-ltb k 16 h))
+  pub page_fields : (line : ℕ) → k < 16 → fields_part line g marks numbers k ≡ page_part source text g marks numbers starts places size line k
+  unfolding page_part
+  page_fields line h = sym (cond_true _ _ (lt-ltb k 16 h))
 
-  pub page-drafts :
+  pub page_drafts :
       (line : ℕ) → 16 ≤ k →
-      draftsPart source text g marks numbers starts places size (k - 16)
-      ≡ pagePart source text g marks numbers starts places size line k
-  unfolding pagePart
-  page-drafts line h = sym (cond-false _ _ (le-ltb k 16 h))
+      drafts_part source text g marks numbers starts places size (k - 16)
+      ≡ page_part source text g marks numbers starts places size line k
+  unfolding page_part
+  page_drafts line h = sym (cond_false _ _ (le-ltb k 16 h))

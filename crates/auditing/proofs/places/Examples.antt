@@ -7,14 +7,14 @@ use mathlib.Core.Path.{◌≡◌, refl}
 use Rattle.auditing.specs.declared.marks.Origin.TheVariants.{Opened, Set}
 use Rattle.auditing.specs.declared.marks.Fate.TheVariants.{Stands, TakenBack, Cancelled, Never}
 use Rattle.auditing.specs.declared.marks.Refused.TheVariants.{At, Never as NotRefused}
-use Rattle.auditing.specs.Marks.{markWith, changeBefore, originBefore, settledFrom, fateFrom, refusedFrom, ownPlaces, kept_at, keptPlaces, pile, given, allGiven}
+use Rattle.auditing.specs.Marks.{mark_with, change_before, origin_before, settled_from, fate_from, refused_from, own_places, kept_at, kept_places, pile, given, all_given}
 
 -- a call of this sort by this desk, accepted or refused
 abbrev done : ℕ → ℕ → ℕ
-done sort desk = markWith sort true desk
+done sort desk = mark_with sort true desk
 
 abbrev failed : ℕ → ℕ → ℕ
-failed sort desk = markWith sort false desk
+failed sort desk = mark_with sort false desk
 
 journal : List ℕ
 journal =
@@ -28,65 +28,65 @@ journal =
     ∷ done 11 0 ∷ done 8 3 ∷ failed 12 0 ∷ []
 
 -- a change of the draft that stands
-hour-set : originBefore journal 3 false 15 ≡ Set 3 5
-unfolding journal originBefore changeBefore
-hour-set = refl
+hour_set : origin_before journal 3 false 15 ≡ Set 3 5
+unfolding journal origin_before change_before
+hour_set = refl
 
 -- of a draft that was cancelled, and of one that was taken back; before that it stood
-month-opened : originBefore journal 1 false 15 ≡ Opened
-unfolding journal originBefore changeBefore
-month-opened = refl
+month_opened : origin_before journal 1 false 15 ≡ Opened
+unfolding journal origin_before change_before
+month_opened = refl
 
-sunspot-opened : originBefore journal 2 false 15 ≡ Opened
-unfolding journal originBefore changeBefore
-sunspot-opened = refl
+sunspot_opened : origin_before journal 2 false 15 ≡ Opened
+unfolding journal origin_before change_before
+sunspot_opened = refl
 
-sunspot-set : originBefore journal 2 false 12 ≡ Set 9 11
-unfolding journal originBefore changeBefore
-sunspot-set = refl
+sunspot_set : origin_before journal 2 false 12 ≡ Set 9 11
+unfolding journal origin_before change_before
+sunspot_set = refl
 
 -- desk 1's second draft stood then, and its first was cancelled: what that changed is not named
-cancelled-opened : originBefore journal 1 false 12 ≡ Opened
-unfolding journal originBefore changeBefore
-cancelled-opened = refl
+cancelled_opened : origin_before journal 1 false 12 ≡ Opened
+unfolding journal origin_before change_before
+cancelled_opened = refl
 
 -- the drafts of desk 1, the second of which begins at 8
-first-fate : fateFrom journal 1 1 14 ≡ Cancelled 7
-unfolding journal fateFrom settledFrom
-first-fate = refl
+first_fate : fate_from journal 1 1 14 ≡ Cancelled 7
+unfolding journal fate_from settled_from
+first_fate = refl
 
-second-fate : fateFrom journal 1 9 6 ≡ TakenBack 11 12
-unfolding journal fateFrom settledFrom
-second-fate = refl
+second_fate : fate_from journal 1 9 6 ≡ TakenBack 11 12
+unfolding journal fate_from settled_from
+second_fate = refl
 
-first-refused : refusedFrom journal 1 NotRefused 1 14 ≡ At 6
-unfolding journal refusedFrom
-first-refused = refl
+first_refused : refused_from journal 1 NotRefused 1 14 ≡ At 6
+unfolding journal refused_from
+first_refused = refl
 
-second-refused : refusedFrom journal 1 NotRefused 9 6 ≡ NotRefused
-unfolding journal refusedFrom
-second-refused = refl
+second_refused : refused_from journal 1 NotRefused 9 6 ≡ NotRefused
+unfolding journal refused_from
+second_refused = refl
 
 -- that of desk 2 stands, since the take-back took back the commit after it; that of desk 3 is open
-other-fate : fateFrom journal 2 3 12 ≡ Stands 5
-unfolding journal fateFrom settledFrom
-other-fate = refl
+other_fate : fate_from journal 2 3 12 ≡ Stands 5
+unfolding journal fate_from settled_from
+other_fate = refl
 
-open-fate : fateFrom journal 3 14 1 ≡ Never
-unfolding journal fateFrom settledFrom
-open-fate = refl
+open_fate : fate_from journal 3 14 1 ≡ Never
+unfolding journal fate_from settled_from
+open_fate = refl
 
 -- the shorter list: each commit with its draft's begin, changes and showings before it
-kept : keptPlaces journal 15 ≡ 4 ∷ 2 ∷ 3 ∷ 5 ∷ 8 ∷ 9 ∷ 10 ∷ 11 ∷ 12 ∷ 14 ∷ []
-unfolding journal keptPlaces kept_at ownPlaces
+kept : kept_places journal 15 ≡ 4 ∷ 2 ∷ 3 ∷ 5 ∷ 8 ∷ 9 ∷ 10 ∷ 11 ∷ 12 ∷ 14 ∷ []
+unfolding journal kept_places kept_at own_places
 kept = refl
 
 -- into a buffer of three, which counts four
-kept-in-three : allGiven (keptPlaces journal 15) (pile 0 (0 ∷ 0 ∷ 0 ∷ [])) ≡ pile 4 (4 ∷ 2 ∷ 3 ∷ [])
-unfolding journal keptPlaces kept_at ownPlaces allGiven given
-kept-in-three = refl
+kept_in_three : all_given (kept_places journal 15) (pile 0 (0 ∷ 0 ∷ 0 ∷ [])) ≡ pile 4 (4 ∷ 2 ∷ 3 ∷ [])
+unfolding journal kept_places kept_at own_places all_given given
+kept_in_three = refl
 
 -- past the end of the marks there is no call
-past_the_end : keptPlaces journal 17 ≡ keptPlaces journal 15
-unfolding journal keptPlaces kept_at ownPlaces
+past_the_end : kept_places journal 17 ≡ kept_places journal 15
+unfolding journal kept_places kept_at own_places
 past_the_end = refl

@@ -9,67 +9,67 @@ use native.Mathlib.Numerals.{add-one}
 use Rattle.auditing.specs.declared.marks.Fate.TheVariants.{Stands, TakenBack, Cancelled, Never}
 use Rattle.auditing.specs.declared.marks.Refused.{Refused}
 use Rattle.auditing.specs.declared.marks.Refused.TheVariants.{At}
-use Rattle.auditing.specs.Marks.{isDone, isDoneBy, isRefusedCommit, markAt, settledFrom, fateFrom, refusedFrom}
+use Rattle.auditing.specs.Marks.{is_done, is_done_by, is_refused_commit, mark_at, settled_from, fate_from, refused_from}
 
 -- how many calls are left from place k on
-pub left-next : (k count : ℕ) → k < count → count - k ≡ suc (count - (k + 1))
-left-next k count h = omega arith
+pub left_next : (k count : ℕ) → k < count → count - k ≡ suc (count - (k + 1))
+left_next k count h = omega arith
 
-pub left-none : (k count : ℕ) → count ≤ k → count - k ≡ 0
-left-none k count h = omega arith
+pub left_none : (k count : ℕ) → count ≤ k → count - k ≡ 0
+left_none k count h = omega arith
 
 -- one call more, by the mark m of the call at place k
-module _ (ms : List ℕ) (k count m : ℕ) (h : k < count) (e : m ≡ markAt ms k) where
-  pub settled-next :
+module _ (ms : List ℕ) (k count m : ℕ) (h : k < count) (e : m ≡ mark_at ms k) where
+  pub settled_next :
       (settled : ℕ) →
-      settledFrom ms settled k (count - k)
-      ≡ cond (isDone 9 m) (Stands settled)
-      (cond (isDone 11 m) (TakenBack settled k) (settledFrom ms settled (k + 1) (count - (k + 1))))
-  unfolding settledFrom
-  settled-next settled =
+      settled_from ms settled k (count - k)
+      ≡ cond (is_done 9 m) (Stands settled)
+      (cond (is_done 11 m) (TakenBack settled k) (settled_from ms settled (k + 1) (count - (k + 1))))
+  unfolding settled_from
+  settled_next settled =
       let p = sym e in
       let q = sym (add-one k) in
-      ap (settledFrom ms settled k) (left-next k count h)
-      ∙ (λ t. cond (isDone 9 (p t)) (Stands settled) (cond (isDone 11 (p t)) (TakenBack settled k) (settledFrom ms settled (q t) (count - (k + 1)))))
+      ap (settled_from ms settled k) (left_next k count h)
+      ∙ (λ t. cond (is_done 9 (p t)) (Stands settled) (cond (is_done 11 (p t)) (TakenBack settled k) (settled_from ms settled (q t) (count - (k + 1)))))
 
-  pub fate-next :
+  pub fate_next :
       (n : ℕ) →
-      fateFrom ms n k (count - k)
-      ≡ cond (isDoneBy 10 n m) (Cancelled k)
-      (cond (isDoneBy 9 n m) (settledFrom ms k (k + 1) (count - (k + 1))) (fateFrom ms n (k + 1) (count - (k + 1))))
-  unfolding fateFrom
-  fate-next n =
+      fate_from ms n k (count - k)
+      ≡ cond (is_done_by 10 n m) (Cancelled k)
+      (cond (is_done_by 9 n m) (settled_from ms k (k + 1) (count - (k + 1))) (fate_from ms n (k + 1) (count - (k + 1))))
+  unfolding fate_from
+  fate_next n =
       let p = sym e in
       let q = sym (add-one k) in
-      ap (fateFrom ms n k) (left-next k count h)
+      ap (fate_from ms n k) (left_next k count h)
       ∙ (λ t.
-      cond (isDoneBy 10 n (p t)) (Cancelled k)
-      (cond (isDoneBy 9 n (p t)) (settledFrom ms k (q t) (count - (k + 1))) (fateFrom ms n (q t) (count - (k + 1)))))
+      cond (is_done_by 10 n (p t)) (Cancelled k)
+      (cond (is_done_by 9 n (p t)) (settled_from ms k (q t) (count - (k + 1))) (fate_from ms n (q t) (count - (k + 1)))))
 
-  pub refused-next :
+  pub refused_next :
       (n : ℕ) (last : Refused) →
-      refusedFrom ms n last k (count - k)
-      ≡ cond (isDoneBy 10 n m || isDoneBy 9 n m) last
-      (refusedFrom ms n (cond (isRefusedCommit n m) (At k) last) (k + 1) (count - (k + 1)))
-  unfolding refusedFrom
-  refused-next n last =
+      refused_from ms n last k (count - k)
+      ≡ cond (is_done_by 10 n m || is_done_by 9 n m) last
+      (refused_from ms n (cond (is_refused_commit n m) (At k) last) (k + 1) (count - (k + 1)))
+  unfolding refused_from
+  refused_next n last =
       let p = sym e in
       let q = sym (add-one k) in
-      ap (refusedFrom ms n last k) (left-next k count h)
+      ap (refused_from ms n last k) (left_next k count h)
       ∙ (λ t.
-      cond (isDoneBy 10 n (p t) || isDoneBy 9 n (p t)) last
-      (refusedFrom ms n (cond (isRefusedCommit n (p t)) (At k) last) (q t) (count - (k + 1))))
+      cond (is_done_by 10 n (p t) || is_done_by 9 n (p t)) last
+      (refused_from ms n (cond (is_refused_commit n (p t)) (At k) last) (q t) (count - (k + 1))))
 
 -- no call is left
 module _ (ms : List ℕ) (k count : ℕ) (h : count ≤ k) where
-  pub settled-end : (settled : ℕ) → settledFrom ms settled k (count - k) ≡ Stands settled
-  unfolding settledFrom
-  settled-end settled = ap (settledFrom ms settled k) (left-none k count h)
+  pub settled_end : (settled : ℕ) → settled_from ms settled k (count - k) ≡ Stands settled
+  unfolding settled_from
+  settled_end settled = ap (settled_from ms settled k) (left_none k count h)
 
-  pub fate-end : (n : ℕ) → fateFrom ms n k (count - k) ≡ Never
-  unfolding fateFrom
-  fate-end n = ap (fateFrom ms n k) (left-none k count h)
+  pub fate_end : (n : ℕ) → fate_from ms n k (count - k) ≡ Never
+  unfolding fate_from
+  fate_end n = ap (fate_from ms n k) (left_none k count h)
 
-  pub refused_end : (n : ℕ) (last : Refused) → refusedFrom ms n last k (count - k) ≡ last
-  unfolding refusedFrom
-  refused_end n last = ap (refusedFrom ms n last k) (left-none k count h)
+  pub refused_end : (n : ℕ) (last : Refused) → refused_from ms n last k (count - k) ≡ last
+  unfolding refused_from
+  refused_end n last = ap (refused_from ms n last k) (left_none k count h)

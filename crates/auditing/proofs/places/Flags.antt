@@ -3,14 +3,14 @@
 use mathlib.Core.Bool.{Bool, true, false, ◌&&◌, ◌||◌}
 use mathlib.Core.Path.{◌≡◌, sym, ap, ◌∙◌}
 
-pub and-on : {a : Bool} (b : Bool) → a ≡ true → b ≡ (a && b)
-and-on b e = sym (ap (λ (t : Bool). t && b) e)
+pub and_on : {a : Bool} (b : Bool) → a ≡ true → b ≡ (a && b)
+and_on b e = sym (ap (λ (t : Bool). t && b) e)
 
-pub and-off : {a : Bool} (b : Bool) → a ≡ false → a ≡ (a && b)
-and-off b e = e ∙ sym (ap (λ (t : Bool). t && b) e)
+pub and_off : {a : Bool} (b : Bool) → a ≡ false → a ≡ (a && b)
+and_off b e = e ∙ sym (ap (λ (t : Bool). t && b) e)
 
-pub or-on : {a : Bool} (b : Bool) → a ≡ true → a ≡ (a || b)
-or-on b e = e ∙ sym (ap (λ (t : Bool). t || b) e)
+pub or_on : {a : Bool} (b : Bool) → a ≡ true → a ≡ (a || b)
+or_on b e = e ∙ sym (ap (λ (t : Bool). t || b) e)
 
 pub or_off : {a : Bool} (b : Bool) → a ≡ false → b ≡ (a || b)
 or_off b e = sym (ap (λ (t : Bool). t || b) e)

@@ -10,7 +10,7 @@ use Rattle.base.proofs.ladder.Ladders.{and_left, not_left}
 use Rattle.base.proofs.verdicts.Picks.{never'}
 use Rattle.auditing.specs.declared.marks.Origin.{Origin}
 use Rattle.auditing.specs.declared.marks.Origin.TheVariants.{Opened, Set}
-use Rattle.auditing.specs.Marks.{markSort, markGood, markDesk, isDone, isDoneBy, markAt, changeBefore, originBefore, backBefore, broughtBy}
+use Rattle.auditing.specs.Marks.{mark_sort, mark_good, mark_desk, is_done, is_done_by, mark_at, change_before, origin_before, back_before, brought_by}
 
 -- the first where it is a change, else the other
 abbrev pub or_else : Origin → Origin → Origin
@@ -26,24 +26,24 @@ start k h = omega arith
 
 module _ (ms : List ℕ) (part n settled : ℕ) where
   -- one call more, by the mark m of the call before place k
-  pub change-next :
-      (other : Origin) (k m : ℕ) → 0 < k → m ≡ markAt ms (k - 1) →
-      changeBefore ms part n settled other k
-      ≡ cond (isDoneBy 8 n m) other (cond (isDoneBy part n m) (Set (k - 1) settled) (changeBefore ms part n settled other (k - 1)))
-  unfolding changeBefore
-  change-next other k m h e =
-      ap (changeBefore ms part n settled other) (down k h)
-      ∙ ap (λ (x : ℕ). cond (isDoneBy 8 n x) other (cond (isDoneBy part n x) (Set (k - 1) settled) (changeBefore ms part n settled other (k - 1)))) (sym e)
+  pub change_next :
+      (other : Origin) (k m : ℕ) → 0 < k → m ≡ mark_at ms (k - 1) →
+      change_before ms part n settled other k
+      ≡ cond (is_done_by 8 n m) other (cond (is_done_by part n m) (Set (k - 1) settled) (change_before ms part n settled other (k - 1)))
+  unfolding change_before
+  change_next other k m h e =
+      ap (change_before ms part n settled other) (down k h)
+      ∙ ap (λ (x : ℕ). cond (is_done_by 8 n x) other (cond (is_done_by part n x) (Set (k - 1) settled) (change_before ms part n settled other (k - 1)))) (sym e)
 
-  pub change-start : (other : Origin) (k : ℕ) → k ≤ 0 → changeBefore ms part n settled other k ≡ other
-  unfolding changeBefore
-  change-start other k h = ap (changeBefore ms part n settled other) (start k h)
+  pub change_start : (other : Origin) (k : ℕ) → k ≤ 0 → change_before ms part n settled other k ≡ other
+  unfolding change_before
+  change_start other k h = ap (change_before ms part n settled other) (start k h)
 
   -- the change that is found, or what else there is
-  pub change-else : (other : Origin) (j : ℕ) → changeBefore ms part n settled other j ≡ or_else (changeBefore ms part n settled Opened j) other
-  unfolding changeBefore
-  change-else other zero = refl
-  change-else other (suc j) = go (isDoneBy 8 n (markAt ms j)) (isDoneBy part n (markAt ms j)) (changeBefore ms part n settled other j) (changeBefore ms part n settled Opened j) (change-else other j)
+  pub change_else : (other : Origin) (j : ℕ) → change_before ms part n settled other j ≡ or_else (change_before ms part n settled Opened j) other
+  unfolding change_before
+  change_else other zero = refl
+  change_else other (suc j) = go (is_done_by 8 n (mark_at ms j)) (is_done_by part n (mark_at ms j)) (change_before ms part n settled other j) (change_before ms part n settled Opened j) (change_else other j)
     where
       go :
           (begun found : Bool) (x y : Origin) → x ≡ or_else y other →
@@ -53,70 +53,70 @@ module _ (ms : List ℕ) (part n settled : ℕ) where
       go false false x y e = e
 
 -- no call is a commit and a take-back
-one-sort : (m : ℕ) → isDone 11 m ≡ true → isDone 9 m ≡ false
-one-sort m e =
-    let a : markSort m ≡ 11 = eqb-true (markSort m) 11 (and_left _ (markGood m) e) in
-    not_left (markGood m) (ne_eqb (markSort m) 9 (λ b. omega arith))
+one_sort : (m : ℕ) → is_done 11 m ≡ true → is_done 9 m ≡ false
+one_sort m e =
+    let a : mark_sort m ≡ 11 = eqb-true (mark_sort m) 11 (and_left _ (mark_good m) e) in
+    not_left (mark_good m) (ne_eqb (mark_sort m) 9 (λ b. omega arith))
 
 module _ (ms : List ℕ) (part : ℕ) where
   -- what the call at place j brings, or else the origin by the calls before it
-  origin-suc :
+  origin_suc :
       (back : Bool) (j : ℕ) →
-      originBefore ms part back (suc j) ≡ or_else (broughtBy ms part back j) (originBefore ms part (backBefore back (markAt ms j)) j)
-  unfolding originBefore broughtBy backBefore
-  origin-suc back j = go (isDone 11 m) (isDone 9 m) back (one-sort m)
+      origin_before ms part back (suc j) ≡ or_else (brought_by ms part back j) (origin_before ms part (back_before back (mark_at ms j)) j)
+  unfolding origin_before brought_by back_before
+  origin_suc back j = go (is_done 11 m) (is_done 9 m) back (one_sort m)
     where
       m : ℕ
-      m = markAt ms j
+      m = mark_at ms j
 
       O : Bool → Origin
-      O b = originBefore ms part b j
+      O b = origin_before ms part b j
 
       go :
           (returned settled back : Bool) → (returned ≡ true → settled ≡ false) →
-          cond returned (O true) (cond settled (cond back (O false) (changeBefore ms part (markDesk m) j (O false) j)) (O back))
-          ≡ or_else (cond back Opened (cond settled (changeBefore ms part (markDesk m) j Opened j) Opened))
+          cond returned (O true) (cond settled (cond back (O false) (change_before ms part (mark_desk m) j (O false) j)) (O back))
+          ≡ or_else (cond back Opened (cond settled (change_before ms part (mark_desk m) j Opened j) Opened))
           (O (cond returned true (cond settled false back)))
       go true true back h = never' (h refl)
       go true false true h = refl
       go true false false h = refl
       go false true true h = refl
-      go false true false h = change-else ms part (markDesk m) j (O false) j
+      go false true false h = change_else ms part (mark_desk m) j (O false) j
       go false false true h = refl
       go false false false h = refl
 
-  pub origin-start : (back : Bool) (k : ℕ) → k ≤ 0 → originBefore ms part back k ≡ Opened
-  unfolding originBefore
-  origin-start back k h = ap (originBefore ms part back) (start k h)
+  pub origin_start : (back : Bool) (k : ℕ) → k ≤ 0 → origin_before ms part back k ≡ Opened
+  unfolding origin_before
+  origin_start back k h = ap (origin_before ms part back) (start k h)
 
-  origin-next :
-      (back : Bool) (k : ℕ) {x : Origin} → 0 < k → x ≡ broughtBy ms part back (k - 1) →
-      originBefore ms part back k ≡ or_else x (originBefore ms part (backBefore back (markAt ms (k - 1))) (k - 1))
-  origin-next back k h e =
-      ap (originBefore ms part back) (down k h)
-      ∙ origin-suc back (k - 1)
-      ∙ ap (λ (o : Origin). or_else o (originBefore ms part (backBefore back (markAt ms (k - 1))) (k - 1))) (sym e)
+  origin_next :
+      (back : Bool) (k : ℕ) {x : Origin} → 0 < k → x ≡ brought_by ms part back (k - 1) →
+      origin_before ms part back k ≡ or_else x (origin_before ms part (back_before back (mark_at ms (k - 1))) (k - 1))
+  origin_next back k h e =
+      ap (origin_before ms part back) (down k h)
+      ∙ origin_suc back (k - 1)
+      ∙ ap (λ (o : Origin). or_else o (origin_before ms part (back_before back (mark_at ms (k - 1))) (k - 1))) (sym e)
 
   -- x is what the call before place k brings: a change
-  pub origin-found :
-      (back : Bool) (k : ℕ) {x : Origin} (place settled : ℕ) → 0 < k → x ≡ broughtBy ms part back (k - 1) → x ≡ Set place settled →
-      originBefore ms part back k ≡ Set place settled
-  origin-found back k place settled h e f =
-      origin-next back k h e ∙ ap (λ (o : Origin). or_else o (originBefore ms part (backBefore back (markAt ms (k - 1))) (k - 1))) f
+  pub origin_found :
+      (back : Bool) (k : ℕ) {x : Origin} (place settled : ℕ) → 0 < k → x ≡ brought_by ms part back (k - 1) → x ≡ Set place settled →
+      origin_before ms part back k ≡ Set place settled
+  origin_found back k place settled h e f =
+      origin_next back k h e ∙ ap (λ (o : Origin). or_else o (origin_before ms part (back_before back (mark_at ms (k - 1))) (k - 1))) f
 
   -- or none
   pub origin_on :
-      (back : Bool) (k m : ℕ) {x : Origin} → 0 < k → x ≡ broughtBy ms part back (k - 1) → x ≡ Opened → m ≡ markAt ms (k - 1) →
-      originBefore ms part back k ≡ originBefore ms part (backBefore back m) (k - 1)
+      (back : Bool) (k m : ℕ) {x : Origin} → 0 < k → x ≡ brought_by ms part back (k - 1) → x ≡ Opened → m ≡ mark_at ms (k - 1) →
+      origin_before ms part back k ≡ origin_before ms part (back_before back m) (k - 1)
   origin_on back k m h e f g =
-      origin-next back k h e
-      ∙ ap (λ (o : Origin). or_else o (originBefore ms part (backBefore back (markAt ms (k - 1))) (k - 1))) f
-      ∙ ap (λ (x : ℕ). originBefore ms part (backBefore back x) (k - 1)) (sym g)
+      origin_next back k h e
+      ∙ ap (λ (o : Origin). or_else o (origin_before ms part (back_before back (mark_at ms (k - 1))) (k - 1))) f
+      ∙ ap (λ (x : ℕ). origin_before ms part (back_before back x) (k - 1)) (sym g)
 
   -- what the call at place j brings, by its mark
-  pub brought-at :
-      (back : Bool) (j m : ℕ) → m ≡ markAt ms j →
-      broughtBy ms part back j ≡ cond back Opened (cond (isDone 9 m) (changeBefore ms part (markDesk m) j Opened j) Opened)
-  unfolding broughtBy
-  brought-at back j m e =
-      ap (λ (x : ℕ). cond back Opened (cond (isDone 9 x) (changeBefore ms part (markDesk x) j Opened j) Opened)) (sym e)
+  pub brought_at :
+      (back : Bool) (j m : ℕ) → m ≡ mark_at ms j →
+      brought_by ms part back j ≡ cond back Opened (cond (is_done 9 m) (change_before ms part (mark_desk m) j Opened j) Opened)
+  unfolding brought_by
+  brought_at back j m e =
+      ap (λ (x : ℕ). cond back Opened (cond (is_done 9 x) (change_before ms part (mark_desk x) j Opened j) Opened)) (sym e)

@@ -10,35 +10,35 @@ use lib.Dec.{ltb}
 use borrow.Author.Tests.{ltb-true, ltb-false}
 use lib.ListN.{length, get_or, set, take, length-append, length-set, length-take, get_or-append}
 use lib.Seq.{append_snoc, set_out, get_or-set_same, get_or-set_other, get_or-append_seam, get_or-take, ext_get_or}
-use Rattle.base.proofs.verdicts.Picks.{cond-true, cond-false}
-use Rattle.auditing.specs.Marks.{markDesk, isDone, markAt, ownPlaces, kept_at, keptPlaces, Pile, pile, given, allGiven, isAlone, isDraftMark, draftPlaces}
-use Rattle.auditing.proofs.places.Fates.{left-next, left-none}
+use Rattle.base.proofs.verdicts.Picks.{cond_true, cond_false}
+use Rattle.auditing.specs.Marks.{mark_desk, is_done, mark_at, own_places, kept_at, kept_places, Pile, pile, given, all_given, is_alone, is_draft_mark, draft_places}
+use Rattle.auditing.proofs.places.Fates.{left_next, left_none}
 
 -- ---- one place, with room and without
 
-pub given-in : (size place : ℕ) (held : List ℕ) → size < length held → pile (size + 1) (set held size place) ≡ given place (pile size held)
+pub given_in : (size place : ℕ) (held : List ℕ) → size < length held → pile (size + 1) (set held size place) ≡ given place (pile size held)
 unfolding given
-given-in size place held h =
+given_in size place held h =
     let e : size + 1 ≡ min (suc size) (suc (length held)) = omega arith in
     λ t. pile (e t) (set held size place)
 
-pub given-past : (size place : ℕ) (held : List ℕ) → length held ≤ size → pile (length held + 1) held ≡ given place (pile size held)
+pub given_past : (size place : ℕ) (held : List ℕ) → length held ≤ size → pile (length held + 1) held ≡ given place (pile size held)
 unfolding given
-given-past size place held h =
+given_past size place held h =
     let e : length held + 1 ≡ min (suc size) (suc (length held)) = omega arith in
     let f = sym (set_out held size place h) in
     λ t. pile (e t) (f t)
 
 -- ---- one list after the other
 
-given_both : (l m : List ℕ) (p : Pile) → allGiven (l ++ m) p ≡ allGiven m (allGiven l p)
-unfolding allGiven
+given_both : (l m : List ℕ) (p : Pile) → all_given (l ++ m) p ≡ all_given m (all_given l p)
+unfolding all_given
 given_both [] m p = refl
 given_both (x ∷ l) m p = given_both l m (given x p)
 
-given-one : (x : ℕ) (p : Pile) → allGiven (x ∷ []) p ≡ given x p
-unfolding allGiven
-given-one x p = refl
+given_one : (x : ℕ) (p : Pile) → all_given (x ∷ []) p ≡ given x p
+unfolding all_given
+given_one x p = refl
 
 -- ---- what the buffer then holds
 
@@ -47,8 +47,8 @@ record Holds (l : List ℕ) (p : Pile) : Type 0 where
   pub counted : p.size ≡ min (length l) (suc (length p.held))
   pub placed : (i : ℕ) → i < length l → i < length p.held → get_or p.held i 0 ≡ get_or l i 0
 
-holds-none : (held : List ℕ) → Holds [] (pile 0 held)
-holds-none held = record { counted = omega arith; placed = λ i h. absurd (omega arith) }
+holds_none : (held : List ℕ) → Holds [] (pile 0 held)
+holds_none held = record { counted = omega arith; placed = λ i h. absurd (omega arith) }
 
 -- each place stands in its turn
 placed_one :
@@ -73,41 +73,41 @@ placed_one l x p s i h room = go (ltb i (length l)) refl
         ∙ get_or-set_same p.held p.size x 0 (omega arith)
         ∙ sym (ap (λ (k : ℕ). get_or (l ++ (x ∷ [])) k 0) last ∙ get_or-append_seam l x [] 0)
 
-holds-one : (l : List ℕ) (x : ℕ) (p : Pile) → Holds l p → Holds (l ++ (x ∷ [])) (given x p)
+holds_one : (l : List ℕ) (x : ℕ) (p : Pile) → Holds l p → Holds (l ++ (x ∷ [])) (given x p)
 unfolding given
-holds-one l x p s =
+holds_one l x p s =
     let c = s.counted in
     let n = length-append l (x ∷ []) in
     let k = length-set p.held p.size x in
     record { counted = omega arith; placed = λ i h room. placed_one l x p s i h (omega arith) }
 
-holds-all : (l m : List ℕ) (p : Pile) → Holds l p → Holds (l ++ m) (allGiven m p)
-unfolding allGiven
-holds-all l [] p s = subst (λ (x : List ℕ). Holds x p) (sym (append-nil l)) s
-holds-all l (x ∷ m) p s =
-    subst (λ (y : List ℕ). Holds y (allGiven m (given x p))) (append_snoc l x m) (holds-all (l ++ (x ∷ [])) m (given x p) (holds-one l x p s))
+holds_all : (l m : List ℕ) (p : Pile) → Holds l p → Holds (l ++ m) (all_given m p)
+unfolding all_given
+holds_all l [] p s = subst (λ (x : List ℕ). Holds x p) (sym (append-nil l)) s
+holds_all l (x ∷ m) p s =
+    subst (λ (y : List ℕ). Holds y (all_given m (given x p))) (append_snoc l x m) (holds_all (l ++ (x ∷ [])) m (given x p) (holds_one l x p s))
 
-held-length : (l : List ℕ) (p : Pile) → length (allGiven l p).held ≡ length p.held
-unfolding allGiven given
-held-length [] p = refl
-held-length (x ∷ l) p = held-length l (given x p) ∙ length-set p.held p.size x
+held_length : (l : List ℕ) (p : Pile) → length (all_given l p).held ≡ length p.held
+unfolding all_given given
+held_length [] p = refl
+held_length (x ∷ l) p = held_length l (given x p) ∙ length-set p.held p.size x
 
 -- what a buffer holds that has been given the places l from its start on
-module _ (l before after : List ℕ) (size : ℕ) (e : pile size after ≡ allGiven l (pile 0 before)) where
-  same-room : length after ≡ length before
-  same-room = ap (λ (p : Pile). length p.held) e ∙ held-length l (pile 0 before)
+module _ (l before after : List ℕ) (size : ℕ) (e : pile size after ≡ all_given l (pile 0 before)) where
+  same_room : length after ≡ length before
+  same_room = ap (λ (p : Pile). length p.held) e ∙ held_length l (pile 0 before)
 
   holds : Holds l (pile size after)
-  holds = subst (Holds l) (sym e) (holds-all [] l (pile 0 before) (holds-none before))
+  holds = subst (Holds l) (sym e) (holds_all [] l (pile 0 before) (holds_none before))
 
-  all-counted : size ≡ min (length l) (suc (length before))
-  all-counted = holds.counted ∙ ap (λ (k : ℕ). min (length l) (suc k)) same-room
+  all_counted : size ≡ min (length l) (suc (length before))
+  all_counted = holds.counted ∙ ap (λ (k : ℕ). min (length l) (suc k)) same_room
 
   all_placed : take (min size (length before)) after ≡ take (min size (length before)) l
   all_placed =
       let n = min size (length before) in
-      let c = all-counted in
-      let room = same-room in
+      let c = all_counted in
+      let room = same_room in
       let a = length-take n after in
       let b = length-take n l in
       ext_get_or 0 (take n after) (take n l) (omega arith)
@@ -116,72 +116,72 @@ module _ (l before after : List ℕ) (size : ℕ) (e : pile size after ≡ allGi
       ∙ holds.placed i (omega arith) (omega arith)
       ∙ sym (get_or-take n l i 0 (omega arith)))
 
-  pub all-kept :
+  pub all_kept :
       (size ≡ min (length l) (suc (length before)))
       × ((take (min size (length before)) after ≡ take (min size (length before)) l) × (length after ≡ length before))
-  all-kept = (all-counted, (all_placed, same-room))
+  all_kept = (all_counted, (all_placed, same_room))
 
 -- ---- a draft's places and the shorter list's, a call at a time
 
-given-if : (b : Bool) (x : ℕ) (l : List ℕ) (p : Pile) → allGiven (cond b (x ∷ l) l) p ≡ allGiven l (cond b (given x p) p)
-unfolding allGiven
-given-if true x l p = refl
-given-if false x l p = refl
+given_if : (b : Bool) (x : ℕ) (l : List ℕ) (p : Pile) → all_given (cond b (x ∷ l) l) p ≡ all_given l (cond b (given x p) p)
+unfolding all_given
+given_if true x l p = refl
+given_if false x l p = refl
 
 -- the call at place k, which has the mark m, is given where it is a draft's
-pub draft-next :
-    (ms : List ℕ) (n j k m : ℕ) (p : Pile) {b : Bool} {q : Pile} → k < j → m ≡ markAt ms k → b ≡ isDraftMark n m → q ≡ cond b (given k p) p →
-    allGiven (draftPlaces ms n (k + 1) (j - (k + 1))) q ≡ allGiven (draftPlaces ms n k (j - k)) p
-unfolding draftPlaces
-draft-next ms n j k m p h e w g =
-    let t = w ∙ ap (isDraftMark n) e in
-    let rest = draftPlaces ms n (k + 1) (j - (k + 1)) in
-    ap (allGiven rest) (g ∙ ap (λ (x : Bool). cond x (given k p) p) t)
-    ∙ sym (given-if (isDraftMark n (markAt ms k)) k rest p)
-    ∙ ap (λ (i : ℕ). allGiven (cond (isDraftMark n (markAt ms k)) (k ∷ draftPlaces ms n i (j - (k + 1))) (draftPlaces ms n i (j - (k + 1)))) p) (add-one k)
-    ∙ sym (ap (λ (i : ℕ). allGiven (draftPlaces ms n k i) p) (left-next k j h))
+pub draft_next :
+    (ms : List ℕ) (n j k m : ℕ) (p : Pile) {b : Bool} {q : Pile} → k < j → m ≡ mark_at ms k → b ≡ is_draft_mark n m → q ≡ cond b (given k p) p →
+    all_given (draft_places ms n (k + 1) (j - (k + 1))) q ≡ all_given (draft_places ms n k (j - k)) p
+unfolding draft_places
+draft_next ms n j k m p h e w g =
+    let t = w ∙ ap (is_draft_mark n) e in
+    let rest = draft_places ms n (k + 1) (j - (k + 1)) in
+    ap (all_given rest) (g ∙ ap (λ (x : Bool). cond x (given k p) p) t)
+    ∙ sym (given_if (is_draft_mark n (mark_at ms k)) k rest p)
+    ∙ ap (λ (i : ℕ). all_given (cond (is_draft_mark n (mark_at ms k)) (k ∷ draft_places ms n i (j - (k + 1))) (draft_places ms n i (j - (k + 1)))) p) (add-one k)
+    ∙ sym (ap (λ (i : ℕ). all_given (draft_places ms n k i) p) (left_next k j h))
 
-pub draft-end : (ms : List ℕ) (n j k : ℕ) (p : Pile) → j ≤ k → allGiven (draftPlaces ms n k (j - k)) p ≡ p
-unfolding draftPlaces allGiven
-draft-end ms n j k p h = ap (λ (i : ℕ). allGiven (draftPlaces ms n k i) p) (left-none k j h)
+pub draft_end : (ms : List ℕ) (n j k : ℕ) (p : Pile) → j ≤ k → all_given (draft_places ms n k (j - k)) p ≡ p
+unfolding draft_places all_given
+draft_end ms n j k p h = ap (λ (i : ℕ). all_given (draft_places ms n k i) p) (left_none k j h)
 
 -- what the call at place j is kept with, by its mark m
-kept-at :
-    (ms : List ℕ) (j m : ℕ) → m ≡ markAt ms j →
-    kept_at ms j ≡ cond (isDone 9 m) (ownPlaces ms (markDesk m) j ++ (j ∷ [])) (cond (isAlone m) (j ∷ []) [])
+kept_at_law :
+    (ms : List ℕ) (j m : ℕ) → m ≡ mark_at ms j →
+    kept_at ms j ≡ cond (is_done 9 m) (own_places ms (mark_desk m) j ++ (j ∷ [])) (cond (is_alone m) (j ∷ []) [])
 unfolding kept_at
-kept-at ms j m e =
-    ap (λ (x : ℕ). cond (isDone 9 x) (ownPlaces ms (markDesk x) j ++ (j ∷ [])) (cond (isAlone x) (j ∷ []) [])) (sym e)
+kept_at_law ms j m e =
+    ap (λ (x : ℕ). cond (is_done 9 x) (own_places ms (mark_desk x) j ++ (j ∷ [])) (cond (is_alone x) (j ∷ []) [])) (sym e)
 
-pub kept-commit :
-    (ms : List ℕ) (j m : ℕ) (p : Pile) {q s : Pile} → m ≡ markAt ms j → isDone 9 m ≡ true → q ≡ allGiven (ownPlaces ms (markDesk m) j) p → s ≡ given j q →
-    s ≡ allGiven (kept_at ms j) p
-kept-commit ms j m p e t o g =
+pub kept_commit :
+    (ms : List ℕ) (j m : ℕ) (p : Pile) {q s : Pile} → m ≡ mark_at ms j → is_done 9 m ≡ true → q ≡ all_given (own_places ms (mark_desk m) j) p → s ≡ given j q →
+    s ≡ all_given (kept_at ms j) p
+kept_commit ms j m p e t o g =
     g
-    ∙ sym (given-one j _)
-    ∙ ap (allGiven (j ∷ [])) o
-    ∙ sym (given_both (ownPlaces ms (markDesk m) j) (j ∷ []) p)
-    ∙ sym (ap (λ (l : List ℕ). allGiven l p) (kept-at ms j m e ∙ cond-true _ _ t))
+    ∙ sym (given_one j _)
+    ∙ ap (all_given (j ∷ [])) o
+    ∙ sym (given_both (own_places ms (mark_desk m) j) (j ∷ []) p)
+    ∙ sym (ap (λ (l : List ℕ). all_given l p) (kept_at_law ms j m e ∙ cond_true _ _ t))
 
-pub kept-other :
-    (ms : List ℕ) (j m : ℕ) (p : Pile) {b : Bool} {q : Pile} → m ≡ markAt ms j → isDone 9 m ≡ false → b ≡ isAlone m → q ≡ cond b (given j p) p →
-    q ≡ allGiven (kept_at ms j) p
-unfolding allGiven
-kept-other ms j m p e t w g =
+pub kept_other :
+    (ms : List ℕ) (j m : ℕ) (p : Pile) {b : Bool} {q : Pile} → m ≡ mark_at ms j → is_done 9 m ≡ false → b ≡ is_alone m → q ≡ cond b (given j p) p →
+    q ≡ all_given (kept_at ms j) p
+unfolding all_given
+kept_other ms j m p e t w g =
     g
     ∙ ap (λ (x : Bool). cond x (given j p) p) w
-    ∙ sym (given-if (isAlone m) j [] p)
-    ∙ sym (ap (λ (l : List ℕ). allGiven l p) (kept-at ms j m e ∙ cond-false _ _ t))
+    ∙ sym (given_if (is_alone m) j [] p)
+    ∙ sym (ap (λ (l : List ℕ). all_given l p) (kept_at_law ms j m e ∙ cond_false _ _ t))
 
-pub kept-start : (ms : List ℕ) (p : Pile) → p ≡ allGiven (keptPlaces ms 0) p
-unfolding keptPlaces allGiven
-kept-start ms p = refl
+pub kept_start : (ms : List ℕ) (p : Pile) → p ≡ all_given (kept_places ms 0) p
+unfolding kept_places all_given
+kept_start ms p = refl
 
 pub kept_next :
-    (ms : List ℕ) (j : ℕ) (p : Pile) {q s : Pile} → q ≡ allGiven (keptPlaces ms j) p → s ≡ allGiven (kept_at ms j) q → s ≡ allGiven (keptPlaces ms (j + 1)) p
-unfolding keptPlaces
+    (ms : List ℕ) (j : ℕ) (p : Pile) {q s : Pile} → q ≡ all_given (kept_places ms j) p → s ≡ all_given (kept_at ms j) q → s ≡ all_given (kept_places ms (j + 1)) p
+unfolding kept_places
 kept_next ms j p e f =
     f
-    ∙ ap (allGiven (kept_at ms j)) e
-    ∙ sym (given_both (keptPlaces ms j) (kept_at ms j) p)
-    ∙ sym (ap (λ (i : ℕ). allGiven (keptPlaces ms i) p) (add-one j))
+    ∙ ap (all_given (kept_at ms j)) e
+    ∙ sym (given_both (kept_places ms j) (kept_at ms j) p)
+    ∙ sym (ap (λ (i : ℕ). all_given (kept_places ms i) p) (add-one j))

@@ -7,14 +7,14 @@ use borrow.Author.Tests.{lt-leb}
 use Rattle.base.specs.declared.refusal.Refusal.TheVariants.{Index}
 use Rattle.base.specs.declared.refusal.Verdict.TheVariants.{Accepted, Refused}
 use Rattle.base.specs.Number.{signed_of}
-use Rattle.base.specs.Words.{word_at, integerAt}
-use Rattle.base.specs.Index.{ikimPlace, ikimAt, rows, harmonics, isWholeTo, equals, exceeds, climbs, goodMap, lowestBad, indexCheck, Climbs, top, level, up, GoodIndex}
-use Rattle.base.proofs.verdicts.Picks.{cond-true, cond-false, never}
+use Rattle.base.specs.Words.{word_at, integer_at}
+use Rattle.base.specs.Index.{ikim_place, ikim_at, rows, harmonics, is_whole_to, equals, exceeds, climbs, good_map, lowest_bad, index_check, Climbs, top, level, up, GoodIndex}
+use Rattle.base.proofs.verdicts.Picks.{cond_true, cond_false, never}
 
 -- ---- both of two tests
 
-pub and-true : {a b : Bool} → a ≡ true → b ≡ true → (a && b) ≡ true
-and-true {a} {b} p q = ap (λ (x : Bool). x && b) p ∙ q
+pub and_true : {a b : Bool} → a ≡ true → b ≡ true → (a && b) ≡ true
+and_true {a} {b} p q = ap (λ (x : Bool). x && b) p ∙ q
 
 pub and_left : (a b : Bool) → (a && b) ≡ true → a ≡ true
 and_left true b e = refl
@@ -33,92 +33,92 @@ not_right false p = refl
 
 -- ---- one word
 
-pub signed-small : (u : ℕ) → u < 2 ^ 31 → signed_of u ≡ pos u
+pub signed_small : (u : ℕ) → u < 2 ^ 31 → signed_of u ≡ pos u
 unfolding signed_of
-signed-small u h = cond-true _ _ (lt-ltb u (2 ^ 31) h)
+signed_small u h = cond_true _ _ (lt-ltb u (2 ^ 31) h)
 
-pub signed-large : (u : ℕ) → 2 ^ 31 ≤ u → signed_of u ≡ negsuc (2 ^ 32 - suc u)
+pub signed_large : (u : ℕ) → 2 ^ 31 ≤ u → signed_of u ≡ negsuc (2 ^ 32 - suc u)
 unfolding signed_of
-signed-large u h = cond-false _ _ (le-ltb u (2 ^ 31) h)
+signed_large u h = cond_false _ _ (le-ltb u (2 ^ 31) h)
 
 module _ (a b u : ℕ) where
-  pub to-yes : b < 2 ^ 31 → a ≤ u → u ≤ b → isWholeTo a b (signed_of u) ≡ true
-  to-yes m l h = ap (isWholeTo a b) (signed-small u (omega arith)) ∙ and-true (le-leb a u l) (le-leb u b h)
+  pub to_yes : b < 2 ^ 31 → a ≤ u → u ≤ b → is_whole_to a b (signed_of u) ≡ true
+  to_yes m l h = ap (is_whole_to a b) (signed_small u (omega arith)) ∙ and_true (le-leb a u l) (le-leb u b h)
 
-  pub to-above : b < 2 ^ 31 → b < u → isWholeTo a b (signed_of u) ≡ false
-  to-above m h = elim (dec_lt u (2 ^ 31)) [
-    | yes q ↦ ap (isWholeTo a b) (signed-small u q) ∙ not_right (leb a u) (lt-leb u b h)
-    | no q ↦ ap (isWholeTo a b) (signed-large u (omega arith))
+  pub to_above : b < 2 ^ 31 → b < u → is_whole_to a b (signed_of u) ≡ false
+  to_above m h = elim (dec_lt u (2 ^ 31)) [
+    | yes q ↦ ap (is_whole_to a b) (signed_small u q) ∙ not_right (leb a u) (lt-leb u b h)
+    | no q ↦ ap (is_whole_to a b) (signed_large u (omega arith))
   ]
 
-  pub to_below : u < a → isWholeTo a b (signed_of u) ≡ false
+  pub to_below : u < a → is_whole_to a b (signed_of u) ≡ false
   to_below h = elim (dec_lt u (2 ^ 31)) [
-    | yes q ↦ ap (isWholeTo a b) (signed-small u q) ∙ not_left (leb u b) (lt-leb a u h)
-    | no q ↦ ap (isWholeTo a b) (signed-large u (omega arith))
+    | yes q ↦ ap (is_whole_to a b) (signed_small u q) ∙ not_left (leb u b) (lt-leb a u h)
+    | no q ↦ ap (is_whole_to a b) (signed_large u (omega arith))
   ]
 
-  pub to-known : isWholeTo a b (signed_of u) ≡ true → (a ≤ u) × (u ≤ b)
-  to-known e = elim (dec_lt u (2 ^ 31)) [
+  pub to_known : is_whole_to a b (signed_of u) ≡ true → (a ≤ u) × (u ≤ b)
+  to_known e = elim (dec_lt u (2 ^ 31)) [
     | yes q ↦
-        let f : (leb a u && leb u b) ≡ true = sym (ap (isWholeTo a b) (signed-small u q)) ∙ e in
+        let f : (leb a u && leb u b) ≡ true = sym (ap (is_whole_to a b) (signed_small u q)) ∙ e in
         (leb-true a u (and_left (leb a u) (leb u b) f), leb-true u b (and_right (leb a u) (leb u b) f))
-    | no q ↦ never (sym (ap (isWholeTo a b) (signed-large u (omega arith))) ∙ e)
+    | no q ↦ never (sym (ap (is_whole_to a b) (signed_large u (omega arith))) ∙ e)
   ]
 
 -- ---- a word and the one before it
 
 minus : (p q : ℕ) → p < q → nat_abs (pos q -ℤ pos p) ≡ q - p
 minus zero q h = omega arith
-minus (suc p) q h = ap nat_abs (cond-false _ _ (le-ltb q (suc p) (omega arith)))
+minus (suc p) q h = ap nat_abs (cond_false _ _ (le-ltb q (suc p) (omega arith)))
 
 module _ (p q : ℕ) (small : p ≤ 75) where
   first : signed_of p ≡ pos p
-  first = signed-small p (omega arith)
+  first = signed_small p (omega arith)
 
-  pub same-yes : q ≡ p → equals (signed_of p) (signed_of q) ≡ true
-  same-yes e =
+  pub same_yes : q ≡ p → equals (signed_of p) (signed_of q) ≡ true
+  same_yes e =
       ap (λ (z : ℤ). equals z (signed_of q)) first
-      ∙ ap (equals (pos p)) (signed-small q (omega arith))
-      ∙ and-true (le-leb p q (omega arith)) (le-leb q p (omega arith))
+      ∙ ap (equals (pos p)) (signed_small q (omega arith))
+      ∙ and_true (le-leb p q (omega arith)) (le-leb q p (omega arith))
 
-  pub same-no : (q ≡ p → ⊥) → equals (signed_of p) (signed_of q) ≡ false
-  same-no n = ap (λ (z : ℤ). equals z (signed_of q)) first ∙ elim (dec_lt q (2 ^ 31)) [
-    | yes s ↦ ap (equals (pos p)) (signed-small q s) ∙ elim (dec_lt p q) [
+  pub same_no : (q ≡ p → ⊥) → equals (signed_of p) (signed_of q) ≡ false
+  same_no n = ap (λ (z : ℤ). equals z (signed_of q)) first ∙ elim (dec_lt q (2 ^ 31)) [
+    | yes s ↦ ap (equals (pos p)) (signed_small q s) ∙ elim (dec_lt p q) [
       | yes l ↦ not_right (leb p q) (lt-leb q p l)
       | no l ↦ not_left (leb q p) (lt-leb p q (go l))
     ]
-    | no s ↦ ap (equals (pos p)) (signed-large q (omega arith))
+    | no s ↦ ap (equals (pos p)) (signed_large q (omega arith))
   ]
     where
       go : (p < q → ⊥) → q < p
       go l = elim (ℕ_discrete q p) [ yes e ↦ absurd (n e) | no e ↦ omega arith ]
 
   -- the code's tests of q after p
-  abbrev pub unsignedExceeds : Bool
-  unsignedExceeds = ltb p q && (eqb ((q - p) % 2) 0 && leb q 75)
+  abbrev pub unsigned_exceeds : Bool
+  unsigned_exceeds = ltb p q && (eqb ((q - p) % 2) 0 && leb q 75)
 
-  pub exceeds-unsigned : exceeds (signed_of p) (signed_of q) ≡ unsignedExceeds
-  exceeds-unsigned = ap (λ (z : ℤ). exceeds z (signed_of q)) first ∙ elim (dec_lt q (2 ^ 31)) [
-    | yes s ↦ ap (exceeds (pos p)) (signed-small q s) ∙ elim (dec_lt p q) [
+  pub exceeds_unsigned : exceeds (signed_of p) (signed_of q) ≡ unsigned_exceeds
+  exceeds_unsigned = ap (λ (z : ℤ). exceeds z (signed_of q)) first ∙ elim (dec_lt q (2 ^ 31)) [
+    | yes s ↦ ap (exceeds (pos p)) (signed_small q s) ∙ elim (dec_lt p q) [
       | yes l ↦ ap (λ (n : ℕ). ltb p q && (eqb (n % 2) 0 && leb q 75)) (minus p q l)
       | no l ↦ not_left _ (le-ltb p q (omega arith)) ∙ sym (not_left _ (le-ltb p q (omega arith)))
     ]
     | no s ↦
-        ap (exceeds (pos p)) (signed-large q (omega arith))
+        ap (exceeds (pos p)) (signed_large q (omega arith))
         ∙ sym (not_right (ltb p q) (not_right (eqb ((q - p) % 2) 0) (lt-leb q 75 (omega arith))))
   ]
 
-  pub exceeds-even : p < q → (q - p) % 2 ≡ 0 → exceeds (signed_of p) (signed_of q) ≡ leb q 75
-  exceeds-even l e =
-      exceeds-unsigned
+  pub exceeds_even : p < q → (q - p) % 2 ≡ 0 → exceeds (signed_of p) (signed_of q) ≡ leb q 75
+  exceeds_even l e =
+      exceeds_unsigned
       ∙ ap (λ (t : Bool). t && (eqb ((q - p) % 2) 0 && leb q 75)) (lt-ltb p q l)
       ∙ ap (λ (t : Bool). t && leb q 75) (eq-eqb ((q - p) % 2) 0 e)
 
-  pub exceeds-odd : ((q - p) % 2 ≡ 0 → ⊥) → exceeds (signed_of p) (signed_of q) ≡ false
-  exceeds-odd n = exceeds-unsigned ∙ not_right (ltb p q) (not_left (leb q 75) (ne_eqb ((q - p) % 2) 0 n))
+  pub exceeds_odd : ((q - p) % 2 ≡ 0 → ⊥) → exceeds (signed_of p) (signed_of q) ≡ false
+  exceeds_odd n = exceeds_unsigned ∙ not_right (ltb p q) (not_left (leb q 75) (ne_eqb ((q - p) % 2) 0 n))
 
-  pub exceeds-not : q ≤ p → exceeds (signed_of p) (signed_of q) ≡ false
-  exceeds-not l = exceeds-unsigned ∙ not_left (eqb ((q - p) % 2) 0 && leb q 75) (le-ltb p q l)
+  pub exceeds_not : q ≤ p → exceeds (signed_of p) (signed_of q) ≡ false
+  exceeds_not l = exceeds_unsigned ∙ not_left (eqb ((q - p) % 2) 0 && leb q 75) (le-ltb p q l)
 
   pub record Next : Type 0 where
     pub above : p + 2 ≤ q
@@ -127,7 +127,7 @@ module _ (p q : ℕ) (small : p ≤ 75) where
 
   pub next_known : exceeds (signed_of p) (signed_of q) ≡ true → Next
   next_known e =
-      let f : unsignedExceeds ≡ true = sym exceeds-unsigned ∙ e in
+      let f : unsigned_exceeds ≡ true = sym exceeds_unsigned ∙ e in
       let g = and_right (ltb p q) _ f in
       let a = ltb-true p q (and_left (ltb p q) _ f) in
       let b = eqb-true ((q - p) % 2) 0 (and_left (eqb ((q - p) % 2) 0) _ g) in
@@ -137,94 +137,94 @@ module _ (p q : ℕ) (small : p ≤ 75) where
 -- ---- the words of a map
 
 module _ (w : ℕ → ℕ) where
-  abbrev pub signedWords : ℕ → ℤ
-  signedWords j = signed_of (w j)
+  abbrev pub signed_words : ℕ → ℤ
+  signed_words j = signed_of (w j)
 
   module _ (j : ℕ) (small : w j ≤ 75) where
-    one : j < 8 → climbs signedWords (8 - j) j ≡ climbs signedWords (suc (8 - (j + 1))) j
-    one h = let e : 8 - j ≡ suc (8 - (j + 1)) = omega arith in ap (λ (n : ℕ). climbs signedWords n j) e
+    one : j < 8 → climbs signed_words (8 - j) j ≡ climbs signed_words (suc (8 - (j + 1))) j
+    one h = let e : 8 - j ≡ suc (8 - (j + 1)) = omega arith in ap (λ (n : ℕ). climbs signed_words n j) e
 
-    pub climb-stop : j < 8 → w (j + 1) ≡ w j → climbs signedWords (8 - j) j ≡ true
+    pub climb_stop : j < 8 → w (j + 1) ≡ w j → climbs signed_words (8 - j) j ≡ true
     unfolding climbs
-    climb-stop h e = one h ∙ cond-true _ _ (same-yes (w j) (w (j + 1)) small e)
+    climb_stop h e = one h ∙ cond_true _ _ (same_yes (w j) (w (j + 1)) small e)
 
-    pub climb-bad :
-        j < 8 → (w (j + 1) ≡ w j → ⊥) → exceeds (signed_of (w j)) (signed_of (w (j + 1))) ≡ false → climbs signedWords (8 - j) j ≡ false
+    pub climb_bad :
+        j < 8 → (w (j + 1) ≡ w j → ⊥) → exceeds (signed_of (w j)) (signed_of (w (j + 1))) ≡ false → climbs signed_words (8 - j) j ≡ false
     unfolding climbs
-    climb-bad h e a = one h ∙ cond-false _ _ (same-no (w j) (w (j + 1)) small e) ∙ not_left _ a
+    climb_bad h e a = one h ∙ cond_false _ _ (same_no (w j) (w (j + 1)) small e) ∙ not_left _ a
 
-    pub climb-next :
+    pub climb_next :
         j < 8 → (w (j + 1) ≡ w j → ⊥) → exceeds (signed_of (w j)) (signed_of (w (j + 1))) ≡ true →
-        climbs signedWords (8 - j) j ≡ climbs signedWords (8 - (j + 1)) (j + 1)
+        climbs signed_words (8 - j) j ≡ climbs signed_words (8 - (j + 1)) (j + 1)
     unfolding climbs
-    climb-next h e a =
-        one h ∙ cond-false _ _ (same-no (w j) (w (j + 1)) small e) ∙ ap (λ (b : Bool). b && climbs signedWords (8 - (j + 1)) (j + 1)) a
+    climb_next h e a =
+        one h ∙ cond_false _ _ (same_no (w j) (w (j + 1)) small e) ∙ ap (λ (b : Bool). b && climbs signed_words (8 - (j + 1)) (j + 1)) a
 
-  pub climb-end : (j : ℕ) → 8 ≤ j → climbs signedWords (8 - j) j ≡ true
+  pub climb_end : (j : ℕ) → 8 ≤ j → climbs signed_words (8 - j) j ≡ true
   unfolding climbs
-  climb-end j h = let e : 8 - j ≡ 0 = omega arith in ap (λ (n : ℕ). climbs signedWords n j) e
+  climb_end j h = let e : 8 - j ≡ 0 = omega arith in ap (λ (n : ℕ). climbs signed_words n j) e
 
-  pub climbs-known : (n j : ℕ) → w j ≤ 75 → climbs signedWords n j ≡ true → Climbs w n j
+  pub climbs_known : (n j : ℕ) → w j ≤ 75 → climbs signed_words n j ≡ true → Climbs w n j
   unfolding climbs
-  climbs-known zero j small e = top
-  climbs-known (suc n) j small e = elim (ℕ_discrete (w (j + 1)) (w j)) [
+  climbs_known zero j small e = top
+  climbs_known (suc n) j small e = elim (ℕ_discrete (w (j + 1)) (w j)) [
     | yes q ↦ level q
     | no q ↦
-        let f : (exceeds (signed_of (w j)) (signed_of (w (j + 1))) && climbs signedWords n (j + 1)) ≡ true =
-        sym (cond-false _ _ (same-no (w j) (w (j + 1)) small q)) ∙ e in
+        let f : (exceeds (signed_of (w j)) (signed_of (w (j + 1))) && climbs signed_words n (j + 1)) ≡ true =
+        sym (cond_false _ _ (same_no (w j) (w (j + 1)) small q)) ∙ e in
         let x = next_known (w j) (w (j + 1)) small (and_left (exceeds (signed_of (w j)) (signed_of (w (j + 1)))) _ f) in
-        up x.above x.even x.most (climbs-known n (j + 1) x.most (and_right (exceeds (signed_of (w j)) (signed_of (w (j + 1)))) _ f))
+        up x.above x.even x.most (climbs_known n (j + 1) x.most (and_right (exceeds (signed_of (w j)) (signed_of (w (j + 1)))) _ f))
   ]
 
   -- the four tests of a map
   module _ (rows harmonics : ℕ) (some : 1 ≤ rows) (few : rows ≤ 76) (waves : harmonics ≤ 6) where
     abbrev A : Bool
-    A = isWholeTo 0 (rows - 1) (signed_of (w 8))
+    A = is_whole_to 0 (rows - 1) (signed_of (w 8))
 
     abbrev B : Bool
-    B = isWholeTo 0 harmonics (signed_of (w 9))
+    B = is_whole_to 0 harmonics (signed_of (w 9))
 
     abbrev C : Bool
-    C = isWholeTo 1 75 (signed_of (w 0))
+    C = is_whole_to 1 75 (signed_of (w 0))
 
     abbrev D : Bool
-    D = climbs signedWords 8 0
+    D = climbs signed_words 8 0
 
-    pub bad-terms : rows ≤ w 8 → goodMap signedWords rows harmonics ≡ false
-    unfolding goodMap
-    bad-terms h = not_left (B && (C && D)) (to-above 0 (rows - 1) (w 8) (omega arith) (omega arith))
+    pub bad_terms : rows ≤ w 8 → good_map signed_words rows harmonics ≡ false
+    unfolding good_map
+    bad_terms h = not_left (B && (C && D)) (to_above 0 (rows - 1) (w 8) (omega arith) (omega arith))
 
-    pub bad-waves : harmonics < w 9 → goodMap signedWords rows harmonics ≡ false
-    unfolding goodMap
-    bad-waves h = not_right A (not_left (C && D) (to-above 0 harmonics (w 9) (omega arith) h))
+    pub bad_waves : harmonics < w 9 → good_map signed_words rows harmonics ≡ false
+    unfolding good_map
+    bad_waves h = not_right A (not_left (C && D) (to_above 0 harmonics (w 9) (omega arith) h))
 
-    pub bad-low : w 0 < 1 → goodMap signedWords rows harmonics ≡ false
-    unfolding goodMap
-    bad-low h = not_right A (not_right B (not_left D (to_below 1 75 (w 0) h)))
+    pub bad_low : w 0 < 1 → good_map signed_words rows harmonics ≡ false
+    unfolding good_map
+    bad_low h = not_right A (not_right B (not_left D (to_below 1 75 (w 0) h)))
 
-    pub bad-high : 75 < w 0 → goodMap signedWords rows harmonics ≡ false
-    unfolding goodMap
-    bad-high h = not_right A (not_right B (not_left D (to-above 1 75 (w 0) (omega arith) h)))
+    pub bad_high : 75 < w 0 → good_map signed_words rows harmonics ≡ false
+    unfolding good_map
+    bad_high h = not_right A (not_right B (not_left D (to_above 1 75 (w 0) (omega arith) h)))
 
-    pub good-rest : w 8 < rows → w 9 ≤ harmonics → 1 ≤ w 0 → w 0 ≤ 75 → goodMap signedWords rows harmonics ≡ climbs signedWords 8 0
-    unfolding goodMap
-    good-rest a b l h =
-        ap (λ (t : Bool). t && (B && (C && D))) (to-yes 0 (rows - 1) (w 8) (omega arith) (omega arith) (omega arith))
-        ∙ ap (λ (t : Bool). t && (C && D)) (to-yes 0 harmonics (w 9) (omega arith) (omega arith) b)
-        ∙ ap (λ (t : Bool). t && D) (to-yes 1 75 (w 0) (omega arith) l h)
+    pub good_rest : w 8 < rows → w 9 ≤ harmonics → 1 ≤ w 0 → w 0 ≤ 75 → good_map signed_words rows harmonics ≡ climbs signed_words 8 0
+    unfolding good_map
+    good_rest a b l h =
+        ap (λ (t : Bool). t && (B && (C && D))) (to_yes 0 (rows - 1) (w 8) (omega arith) (omega arith) (omega arith))
+        ∙ ap (λ (t : Bool). t && (C && D)) (to_yes 0 harmonics (w 9) (omega arith) (omega arith) b)
+        ∙ ap (λ (t : Bool). t && D) (to_yes 1 75 (w 0) (omega arith) l h)
 
-    pub good-known : goodMap signedWords rows harmonics ≡ true → GoodIndex w rows harmonics
-    unfolding goodMap
-    good-known e =
+    pub good_known : good_map signed_words rows harmonics ≡ true → GoodIndex w rows harmonics
+    unfolding good_map
+    good_known e =
         let f = and_right A (B && (C && D)) e in
         let g = and_right B (C && D) f in
-        let most = to-known 0 (rows - 1) (w 8) (and_left A (B && (C && D)) e) in
-        let tops = to-known 0 harmonics (w 9) (and_left B (C && D) f) in
-        let start = to-known 1 75 (w 0) (and_left C D g) in
+        let most = to_known 0 (rows - 1) (w 8) (and_left A (B && (C && D)) e) in
+        let tops = to_known 0 harmonics (w 9) (and_left B (C && D) f) in
+        let start = to_known 1 75 (w 0) (and_left C D g) in
         record {
           low = start.0;
           high = start.1;
-          climbing = climbs-known 8 0 start.1 (and_right C D g);
+          climbing = climbs_known 8 0 start.1 (and_right C D g);
           terms = omega arith;
           waves = tops.1;
         }
@@ -232,24 +232,24 @@ module _ (w : ℕ → ℕ) where
 -- ---- the code's loop over the ladder
 
 -- the words of the map k, unsigned
-abbrev pub mapWords : List ℕ → ℕ → ℕ → ℕ
-mapWords month k j = word_at month (ikimPlace k j)
+abbrev pub map_words : List ℕ → ℕ → ℕ → ℕ
+map_words month k j = word_at month (ikim_place k j)
 
 -- before the word j + 1, p is the word j, and what is left of the ladder is the whole of it
 pub record Climbed (month : List ℕ) (k p j : ℕ) : Type 0 where
   pub turns : j ≤ 8
-  pub is : p ≡ mapWords month k j
-  pub small : mapWords month k j ≤ 75
-  pub same : climbs (signedWords (mapWords month k)) (8 - j) j ≡ climbs (signedWords (mapWords month k)) 8 0
+  pub is : p ≡ map_words month k j
+  pub small : map_words month k j ≤ 75
+  pub same : climbs (signed_words (map_words month k)) (8 - j) j ≡ climbs (signed_words (map_words month k)) 8 0
 
 -- the definition reads the signed words
-pub same-words : (month : List ℕ) (k : ℕ) → ikimAt month k ≡ signedWords (mapWords month k)
-unfolding integerAt
-same-words month k = refl
+pub same_words : (month : List ℕ) (k : ℕ) → ikim_at month k ≡ signed_words (map_words month k)
+unfolding integer_at
+same_words month k = refl
 
-module _ (month : List ℕ) (k p j q : ℕ) (c : Climbed month k p j) (h : j < 8) (e : q ≡ mapWords month k (j + 1)) where
+module _ (month : List ℕ) (k p j q : ℕ) (c : Climbed month k p j) (h : j < 8) (e : q ≡ map_words month k (j + 1)) where
   abbrev w : ℕ → ℕ
-  w = mapWords month k
+  w = map_words month k
 
   other : (q ≡ p → ⊥) → w (j + 1) ≡ w j → ⊥
   other n d = n (e ∙ d ∙ sym c.is)
@@ -257,23 +257,23 @@ module _ (month : List ℕ) (k p j q : ℕ) (c : Climbed month k p j) (h : j < 8
   at : {b : Bool} → b ≡ exceeds (signed_of p) (signed_of q) → exceeds (signed_of (w j)) (signed_of (w (j + 1))) ≡ b
   at t = ap (λ (x : ℕ). exceeds (signed_of x) (signed_of (w (j + 1)))) (sym c.is) ∙ ap (λ (x : ℕ). exceeds (signed_of p) (signed_of x)) (sym e) ∙ sym t
 
-  pub stops : q ≡ p → climbs (signedWords w) 8 0 ≡ true
-  stops d = sym c.same ∙ climb-stop w j c.small h (sym e ∙ d ∙ c.is)
+  pub stops : q ≡ p → climbs (signed_words w) 8 0 ≡ true
+  stops d = sym c.same ∙ climb_stop w j c.small h (sym e ∙ d ∙ c.is)
 
-  pub falls : (q ≡ p → ⊥) → {b : Bool} → b ≡ exceeds (signed_of p) (signed_of q) → b ≡ false → climbs (signedWords w) 8 0 ≡ false
-  falls n t f = sym c.same ∙ climb-bad w j c.small h (other n) (at t ∙ f)
+  pub falls : (q ≡ p → ⊥) → {b : Bool} → b ≡ exceeds (signed_of p) (signed_of q) → b ≡ false → climbs (signed_words w) 8 0 ≡ false
+  falls n t f = sym c.same ∙ climb_bad w j c.small h (other n) (at t ∙ f)
 
-  pub goes-up : (q ≡ p → ⊥) → {b : Bool} → b ≡ exceeds (signed_of p) (signed_of q) → b ≡ true → Climbed month k q (j + 1)
-  goes-up n t f =
+  pub goes_up : (q ≡ p → ⊥) → {b : Bool} → b ≡ exceeds (signed_of p) (signed_of q) → b ≡ true → Climbed month k q (j + 1)
+  goes_up n t f =
       record {
         turns = omega arith;
         is = e;
         small = (next_known (w j) (w (j + 1)) c.small (at t ∙ f)).most;
-        same = sym (climb-next w j c.small h (other n) (at t ∙ f)) ∙ c.same;
+        same = sym (climb_next w j c.small h (other n) (at t ∙ f)) ∙ c.same;
       }
 
-pub ends-up : (month : List ℕ) (k p j : ℕ) → Climbed month k p j → 8 ≤ j → climbs (signedWords (mapWords month k)) 8 0 ≡ true
-ends-up month k p j c h = sym c.same ∙ climb-end (mapWords month k) j h
+pub ends_up : (month : List ℕ) (k p j : ℕ) → Climbed month k p j → 8 ≤ j → climbs (signed_words (map_words month k)) 8 0 ≡ true
+ends_up month k p j c h = sym c.same ∙ climb_end (map_words month k) j h
 
 -- ---- one map, and all six
 
@@ -312,52 +312,52 @@ module _ (month : List ℕ) (k : ℕ) (h : k < 6) where
   abbrev H : ℕ
   H = get_or harmonics k 0
 
-  unsigned : goodMap (signedWords (mapWords month k)) R H ≡ goodMap (ikimAt month k) R H
-  unsigned = ap (λ (w : ℕ → ℤ). goodMap w R H) (sym (same-words month k))
+  unsigned : good_map (signed_words (map_words month k)) R H ≡ good_map (ikim_at month k) R H
+  unsigned = ap (λ (w : ℕ → ℤ). good_map w R H) (sym (same_words month k))
 
   -- what the code's tests show; u is the word
   module _ (u : ℕ) where
-    pub fails-terms : u ≡ mapWords month k 8 → R ≤ u → false ≡ goodMap (ikimAt month k) R H
-    fails-terms e t = let l = limits k h in sym (sym unsigned ∙ bad-terms _ R H l.some l.few l.waves (omega arith))
+    pub fails_terms : u ≡ map_words month k 8 → R ≤ u → false ≡ good_map (ikim_at month k) R H
+    fails_terms e t = let l = limits k h in sym (sym unsigned ∙ bad_terms _ R H l.some l.few l.waves (omega arith))
 
-    pub fails-waves : u ≡ mapWords month k 9 → H < u → false ≡ goodMap (ikimAt month k) R H
-    fails-waves e t = let l = limits k h in sym (sym unsigned ∙ bad-waves _ R H l.some l.few l.waves (omega arith))
+    pub fails_waves : u ≡ map_words month k 9 → H < u → false ≡ good_map (ikim_at month k) R H
+    fails_waves e t = let l = limits k h in sym (sym unsigned ∙ bad_waves _ R H l.some l.few l.waves (omega arith))
 
-    pub fails-low : u ≡ mapWords month k 0 → u < 1 → false ≡ goodMap (ikimAt month k) R H
-    fails-low e t = let l = limits k h in sym (sym unsigned ∙ bad-low _ R H l.some l.few l.waves (omega arith))
+    pub fails_low : u ≡ map_words month k 0 → u < 1 → false ≡ good_map (ikim_at month k) R H
+    fails_low e t = let l = limits k h in sym (sym unsigned ∙ bad_low _ R H l.some l.few l.waves (omega arith))
 
-    pub fails-high : u ≡ mapWords month k 0 → 75 < u → false ≡ goodMap (ikimAt month k) R H
-    fails-high e t = let l = limits k h in sym (sym unsigned ∙ bad-high _ R H l.some l.few l.waves (omega arith))
+    pub fails_high : u ≡ map_words month k 0 → 75 < u → false ≡ good_map (ikim_at month k) R H
+    fails_high e t = let l = limits k h in sym (sym unsigned ∙ bad_high _ R H l.some l.few l.waves (omega arith))
 
-  pub ladder-decides :
-      mapWords month k 8 < R → mapWords month k 9 ≤ H → 1 ≤ mapWords month k 0 → mapWords month k 0 ≤ 75 →
-      climbs (ikimAt month k) 8 0 ≡ goodMap (ikimAt month k) R H
-  ladder-decides a b l t =
+  pub ladder_decides :
+      map_words month k 8 < R → map_words month k 9 ≤ H → 1 ≤ map_words month k 0 → map_words month k 0 ≤ 75 →
+      climbs (ikim_at month k) 8 0 ≡ good_map (ikim_at month k) R H
+  ladder_decides a b l t =
       let x = limits k h in
-      sym (sym unsigned ∙ good-rest _ R H x.some x.few x.waves a b l t ∙ ap (λ (w : ℕ → ℤ). climbs w 8 0) (sym (same-words month k)))
+      sym (sym unsigned ∙ good_rest _ R H x.some x.few x.waves a b l t ∙ ap (λ (w : ℕ → ℤ). climbs w 8 0) (sym (same_words month k)))
 
 -- before the map k, what is left of the check is the whole of it
 pub record Checked (month : List ℕ) (k : ℕ) : Type 0 where
   pub turns : k ≤ 6
-  pub same : lowestBad month (6 - k) k ≡ indexCheck month
+  pub same : lowest_bad month (6 - k) k ≡ index_check month
 
 pub unchecked : (month : List ℕ) → Checked month 0
-unfolding indexCheck
+unfolding index_check
 unchecked month = record { turns = omega arith; same = refl }
 
 module _ (month : List ℕ) (k : ℕ) (c : Checked month k) where
-  module _ (h : k < 6) {b : Bool} (e : b ≡ goodMap (ikimAt month k) (get_or rows k 0) (get_or harmonics k 0)) where
-    map : lowestBad month (6 - k) k ≡ lowestBad month (suc (6 - (k + 1))) k
-    map = let n : 6 - k ≡ suc (6 - (k + 1)) = omega arith in ap (λ (m : ℕ). lowestBad month m k) n
+  module _ (h : k < 6) {b : Bool} (e : b ≡ good_map (ikim_at month k) (get_or rows k 0) (get_or harmonics k 0)) where
+    map : lowest_bad month (6 - k) k ≡ lowest_bad month (suc (6 - (k + 1))) k
+    map = let n : 6 - k ≡ suc (6 - (k + 1)) = omega arith in ap (λ (m : ℕ). lowest_bad month m k) n
 
-    pub bad-map : b ≡ false → indexCheck month ≡ Refused (Index (k + 1))
-    unfolding lowestBad
-    bad-map f = sym c.same ∙ map ∙ cond-false _ _ (sym e ∙ f)
+    pub bad_map : b ≡ false → index_check month ≡ Refused (Index (k + 1))
+    unfolding lowest_bad
+    bad_map f = sym c.same ∙ map ∙ cond_false _ _ (sym e ∙ f)
 
     pub next_map : b ≡ true → Checked month (k + 1)
-    unfolding lowestBad
-    next_map t = record { turns = omega arith; same = sym (cond-true _ _ (sym e ∙ t)) ∙ sym map ∙ c.same }
+    unfolding lowest_bad
+    next_map t = record { turns = omega arith; same = sym (cond_true _ _ (sym e ∙ t)) ∙ sym map ∙ c.same }
 
-  pub no-map : 6 ≤ k → indexCheck month ≡ Accepted
-  unfolding lowestBad
-  no-map h = let n : 6 - k ≡ 0 = omega arith in sym c.same ∙ ap (λ (m : ℕ). lowestBad month m k) n
+  pub no_map : 6 ≤ k → index_check month ≡ Accepted
+  unfolding lowest_bad
+  no_map h = let n : 6 - k ≡ 0 = omega arith in sym c.same ∙ ap (λ (m : ℕ). lowest_bad month m k) n

@@ -12,17 +12,17 @@ use Rattle.base.specs.declared.refusal.Refusal.{Refusal}
 use Rattle.base.specs.declared.refusal.Refusal.TheVariants.{RecordWord, MonthWord}
 use Rattle.base.specs.declared.refusal.Verdict.{Verdict}
 use Rattle.base.specs.declared.refusal.Verdict.TheVariants.{Accepted, Refused}
-use Rattle.base.specs.Refusal.{refuseUnless, ◌then◌}
+use Rattle.base.specs.Refusal.{refuse_unless, ◌then◌}
 use Rattle.base.specs.declared.words.TableWord.{TableWord}
 use Rattle.base.specs.declared.words.TableWord.TheVariants.{Finite, NotFinite}
-use Rattle.base.specs.Words.{word_at, float_at, tableWordAt, FiniteRun}
-use Rattle.base.specs.MonthFile.{sizes, monthFileCheck, Marked}
-use Rattle.base.specs.Tables.{Table, words_in, noSuchTable, table_end, start_of, words_of, xf2cof}
-use Rattle.base.specs.Finite.{wordsCheck, recordWordsCheck, floatTables, eachCheck, tableWordsCheck, FiniteRecord, FiniteMonth, firstOther, allFinite}
+use Rattle.base.specs.Words.{word_at, float_at, table_word_at, FiniteRun}
+use Rattle.base.specs.MonthFile.{sizes, month_file_check, Marked}
+use Rattle.base.specs.Tables.{Table, words_in, no_such_table, table_end, start_of, words_of, xf2cof}
+use Rattle.base.specs.Finite.{words_check, record_words_check, float_tables, each_check, table_words_check, FiniteRecord, FiniteMonth, first_other, all_finite}
 use Rattle.base.proofs.verdicts.Picks.{never}
-use Rattle.base.proofs.verdicts.Refusals.{refused-not-accepted, then-both}
-use Rattle.base.proofs.rounding.Exponents.{finite-sum, gathered}
-use Rattle.base.proofs.layout.Walks.{accepted-marks}
+use Rattle.base.proofs.verdicts.Refusals.{refused_not_accepted, then_both}
+use Rattle.base.proofs.rounding.Exponents.{finite_sum, gathered}
+use Rattle.base.proofs.layout.Walks.{accepted_marks}
 
 -- ---- a word of a table
 
@@ -30,8 +30,8 @@ unfoldable pub tells : TableWord → Bool
 tells (Finite x) = true
 tells NotFinite = false
 
-pub told : (s : List ℕ) (at : ℕ) → tells (tableWordAt s at) ≡ finite (float_at s at)
-unfolding tableWordAt tells
+pub told : (s : List ℕ) (at : ℕ) → tells (table_word_at s at) ≡ finite (float_at s at)
+unfolding table_word_at tells
 told s at = go (finite (float_at s at))
   where
     go : (b : Bool) → tells (cond b (Finite (float_at s at)) NotFinite) ≡ b
@@ -44,47 +44,47 @@ number_in (Finite x) = x
 number_in NotFinite = nan
 
 module _ (s : List ℕ) (at : ℕ) (t : T (finite (float_at s at))) where
-  pub told-number : number_in (tableWordAt s at) ≡ float_at s at
-  unfolding tableWordAt number_in
-  told-number = ap (λ (b : Bool). number_in (cond b (Finite (float_at s at)) NotFinite)) (is_true (finite (float_at s at)) t)
+  pub told_number : number_in (table_word_at s at) ≡ float_at s at
+  unfolding table_word_at number_in
+  told_number = ap (λ (b : Bool). number_in (cond b (Finite (float_at s at)) NotFinite)) (is_true (finite (float_at s at)) t)
 
-  pub told-always : {A : Type 0} → NotFinite ≡ tableWordAt s at → A
+  pub told_always : {A : Type 0} → NotFinite ≡ table_word_at s at → A
   unfolding tells
-  told-always e = never (ap tells e ∙ told s at ∙ is_true (finite (float_at s at)) t)
+  told_always e = never (ap tells e ∙ told s at ∙ is_true (finite (float_at s at)) t)
 
 -- ---- a run of words
 
 module _ (s : List ℕ) where
   -- the check by the first other's byte
-  pub by_first : (why : ℕ → Refusal) (at n : ℕ) → wordsCheck why s at n ≡ refuseUnless (eqb (firstOther s at n) (at + 4 * n)) (why (firstOther s at n))
-  unfolding wordsCheck firstOther
-  by_first why at zero = sym (ap (λ (b : Bool). refuseUnless b (why at)) (eq-eqb at (at + 4 * 0) (omega arith)))
+  pub by_first : (why : ℕ → Refusal) (at n : ℕ) → words_check why s at n ≡ refuse_unless (eqb (first_other s at n) (at + 4 * n)) (why (first_other s at n))
+  unfolding words_check first_other
+  by_first why at zero = sym (ap (λ (b : Bool). refuse_unless b (why at)) (eq-eqb at (at + 4 * 0) (omega arith)))
   by_first why at (suc n) = go (finite (float_at s at)) (by_first why (at + 4) n)
     where
       go :
           (b : Bool) →
-          wordsCheck why s (at + 4) n ≡ refuseUnless (eqb (firstOther s (at + 4) n) (at + 4 + 4 * n)) (why (firstOther s (at + 4) n)) →
-          cond b (wordsCheck why s (at + 4) n) (Refused (why at))
-          ≡ refuseUnless (eqb (cond b (firstOther s (at + 4) n) at) (at + 4 * suc n)) (why (cond b (firstOther s (at + 4) n) at))
+          words_check why s (at + 4) n ≡ refuse_unless (eqb (first_other s (at + 4) n) (at + 4 + 4 * n)) (why (first_other s (at + 4) n)) →
+          cond b (words_check why s (at + 4) n) (Refused (why at))
+          ≡ refuse_unless (eqb (cond b (first_other s (at + 4) n) at) (at + 4 * suc n)) (why (cond b (first_other s (at + 4) n) at))
       go true more =
           let e : at + 4 + 4 * n ≡ at + 4 * suc n = omega arith in
-          more ∙ ap (λ (end : ℕ). refuseUnless (eqb (firstOther s (at + 4) n) end) (why (firstOther s (at + 4) n))) e
-      go false more = sym (ap (λ (b : Bool). refuseUnless b (why at)) (ne_eqb at (at + 4 * suc n) (λ e. omega arith)))
+          more ∙ ap (λ (end : ℕ). refuse_unless (eqb (first_other s (at + 4) n) end) (why (first_other s (at + 4) n))) e
+      go false more = sym (ap (λ (b : Bool). refuse_unless b (why at)) (ne_eqb at (at + 4 * suc n) (λ e. omega arith)))
 
-  pub first-most : (at n : ℕ) → firstOther s at n ≤ at + 4 * n
-  unfolding firstOther
-  first-most at zero = omega arith
-  first-most at (suc n) = go (finite (float_at s at)) (first-most (at + 4) n)
+  pub first_most : (at n : ℕ) → first_other s at n ≤ at + 4 * n
+  unfolding first_other
+  first_most at zero = omega arith
+  first_most at (suc n) = go (finite (float_at s at)) (first_most (at + 4) n)
     where
-      go : (b : Bool) → firstOther s (at + 4) n ≤ at + 4 + 4 * n → cond b (firstOther s (at + 4) n) at ≤ at + 4 * suc n
+      go : (b : Bool) → first_other s (at + 4) n ≤ at + 4 + 4 * n → cond b (first_other s (at + 4) n) at ≤ at + 4 * suc n
       go true more = omega arith
       go false more = omega arith
 
   -- a run's check as the code makes it
-  pub by-found :
-      (why : ℕ → Refusal) (at n end found : ℕ) → end ≡ at + 4 * n → found ≡ firstOther s at n →
-      refuseUnless (eqb found end) (why found) ≡ wordsCheck why s at n
-  by-found why at n end found e f = (λ t. refuseUnless (eqb (f t) (e t)) (why (f t))) ∙ sym (by_first why at n)
+  pub by_found :
+      (why : ℕ → Refusal) (at n end found : ℕ) → end ≡ at + 4 * n → found ≡ first_other s at n →
+      refuse_unless (eqb found end) (why found) ≡ words_check why s at n
+  by_found why at n end found e f = (λ t. refuse_unless (eqb (f t) (e t)) (why (f t))) ∙ sym (by_first why at n)
 
   -- the words after the first
   later : (at n : ℕ) → FiniteRun s at (suc n) → FiniteRun s (at + 4) n
@@ -94,118 +94,118 @@ module _ (s : List ℕ) where
   here at n r = is_true (finite (float_at s at)) (subst (λ (p : ℕ). T (finite (float_at s p))) (omega arith) (r 0 (omega arith)))
 
   -- all finite: the first other stands behind them
-  pub none_other : (at n : ℕ) → FiniteRun s at n → firstOther s at n ≡ at + 4 * n
-  unfolding firstOther
+  pub none_other : (at n : ℕ) → FiniteRun s at n → first_other s at n ≡ at + 4 * n
+  unfolding first_other
   none_other at zero r = omega arith
   none_other at (suc n) r =
-      ap (λ (b : Bool). cond b (firstOther s (at + 4) n) at) (here at n r) ∙ none_other (at + 4) n (later at n r) ∙ omega arith
+      ap (λ (b : Bool). cond b (first_other s (at + 4) n) at) (here at n r) ∙ none_other (at + 4) n (later at n r) ∙ omega arith
 
   -- the search: from the word i on the first other is that of the whole run
   abbrev pub Sought : ℕ → ℕ → ℕ → Type 0
-  Sought at n i = firstOther s (at + 4 * i) (n - i) ≡ firstOther s at n
+  Sought at n i = first_other s (at + 4 * i) (n - i) ≡ first_other s at n
 
-  pub sought-first : (at n : ℕ) → Sought at n 0
-  sought-first at n =
+  pub sought_first : (at n : ℕ) → Sought at n 0
+  sought_first at n =
       let e : at + 4 * 0 ≡ at = omega arith in
       let f : n - 0 ≡ n = omega arith in
-      λ t. firstOther s (e t) (f t)
+      λ t. first_other s (e t) (f t)
 
-  one_more : (at n i : ℕ) → i < n → firstOther s (at + 4 * i) (n - i) ≡ cond (finite (float_at s (at + 4 * i))) (firstOther s (at + 4 * (i + 1)) (n - (i + 1))) (at + 4 * i)
-  unfolding firstOther
+  one_more : (at n i : ℕ) → i < n → first_other s (at + 4 * i) (n - i) ≡ cond (finite (float_at s (at + 4 * i))) (first_other s (at + 4 * (i + 1)) (n - (i + 1))) (at + 4 * i)
+  unfolding first_other
   one_more at n i h =
       let e : n - i ≡ suc (n - (i + 1)) = omega arith in
       let f : at + 4 * i + 4 ≡ at + 4 * (i + 1) = omega arith in
-      ap (firstOther s (at + 4 * i)) e
-      ∙ ap (λ (p : ℕ). cond (finite (float_at s (at + 4 * i))) (firstOther s p (n - (i + 1))) (at + 4 * i)) f
+      ap (first_other s (at + 4 * i)) e
+      ∙ ap (λ (p : ℕ). cond (finite (float_at s (at + 4 * i))) (first_other s p (n - (i + 1))) (at + 4 * i)) f
 
-  pub sought-on : (at n i : ℕ) → i < n → Sought at n i → finite (float_at s (at + 4 * i)) ≡ true → Sought at n (i + 1)
-  sought-on at n i h z e =
-      sym (one_more at n i h ∙ ap (λ (b : Bool). cond b (firstOther s (at + 4 * (i + 1)) (n - (i + 1))) (at + 4 * i)) e) ∙ z
+  pub sought_on : (at n i : ℕ) → i < n → Sought at n i → finite (float_at s (at + 4 * i)) ≡ true → Sought at n (i + 1)
+  sought_on at n i h z e =
+      sym (one_more at n i h ∙ ap (λ (b : Bool). cond b (first_other s (at + 4 * (i + 1)) (n - (i + 1))) (at + 4 * i)) e) ∙ z
 
-  pub sought-here : (at n i : ℕ) → i < n → Sought at n i → finite (float_at s (at + 4 * i)) ≡ false → at + 4 * i ≡ firstOther s at n
-  sought-here at n i h z e =
-      sym (one_more at n i h ∙ ap (λ (b : Bool). cond b (firstOther s (at + 4 * (i + 1)) (n - (i + 1))) (at + 4 * i)) e) ∙ z
+  pub sought_here : (at n i : ℕ) → i < n → Sought at n i → finite (float_at s (at + 4 * i)) ≡ false → at + 4 * i ≡ first_other s at n
+  sought_here at n i h z e =
+      sym (one_more at n i h ∙ ap (λ (b : Bool). cond b (first_other s (at + 4 * (i + 1)) (n - (i + 1))) (at + 4 * i)) e) ∙ z
 
-  pub sought-none : (at n i : ℕ) → i ≤ n → n ≤ i → Sought at n i → at + 4 * n ≡ firstOther s at n
-  unfolding firstOther
-  sought-none at n i l h z =
+  pub sought_none : (at n i : ℕ) → i ≤ n → n ≤ i → Sought at n i → at + 4 * n ≡ first_other s at n
+  unfolding first_other
+  sought_none at n i l h z =
       let e : i ≡ n = omega arith in
       let f : n - i ≡ 0 = omega arith in
-      ap (λ (j : ℕ). at + 4 * j) (sym e) ∙ sym (ap (firstOther s (at + 4 * i)) f) ∙ z
+      ap (λ (j : ℕ). at + 4 * j) (sym e) ∙ sym (ap (first_other s (at + 4 * i)) f) ∙ z
 
-  pub all-run : (at n : ℕ) → allFinite s at n ≡ true → FiniteRun s at n
-  unfolding allFinite
-  all-run at zero e i h = absurd (omega arith)
-  all-run at (suc n) e i h = elim (dec_lt i n) [
-    | yes l ↦ all-run at n (true-l (allFinite s at n) _ e) i l
-    | no g ↦ subst (λ (j : ℕ). T (finite (float_at s (at + 4 * j)))) (omega (arith, g)) (true-r (allFinite s at n) _ e)
+  pub all_run : (at n : ℕ) → all_finite s at n ≡ true → FiniteRun s at n
+  unfolding all_finite
+  all_run at zero e i h = absurd (omega arith)
+  all_run at (suc n) e i h = elim (dec_lt i n) [
+    | yes l ↦ all_run at n (true_l (all_finite s at n) _ e) i l
+    | no g ↦ subst (λ (j : ℕ). T (finite (float_at s (at + 4 * j)))) (omega (arith, g)) (true_r (all_finite s at n) _ e)
   ]
     where
-      true-l : (a b : Bool) → (a && b) ≡ true → a ≡ true
-      true-l true b q = refl
-      true-l false b q = q
+      true_l : (a b : Bool) → (a && b) ≡ true → a ≡ true
+      true_l true b q = refl
+      true_l false b q = q
 
-      true-r : (a b : Bool) → (a && b) ≡ true → T b
-      true-r true b q = subst T (sym q) tt
-      true-r false b q = absurd (subst T (sym q) tt)
+      true_r : (a b : Bool) → (a && b) ≡ true → T b
+      true_r true b q = subst T (sym q) tt
+      true_r false b q = absurd (subst T (sym q) tt)
 
   -- a word more: its sum is gathered with those before it
-  pub all-next :
-      (at i seen w : ℕ) → ltb seen (2 ^ 31) ≡ allFinite s at i → w ≡ word_at s (at + 4 * i) →
-      ltb (bit_or seen (w % 2 ^ 31 + 2 ^ 23)) (2 ^ 31) ≡ allFinite s at (i + 1)
-  unfolding allFinite float_at
-  all-next at i seen w so_far e =
+  pub all_next :
+      (at i seen w : ℕ) → ltb seen (2 ^ 31) ≡ all_finite s at i → w ≡ word_at s (at + 4 * i) →
+      ltb (bit_or seen (w % 2 ^ 31 + 2 ^ 23)) (2 ^ 31) ≡ all_finite s at (i + 1)
+  unfolding all_finite float_at
+  all_next at i seen w so_far e =
       gathered seen (w % 2 ^ 31 + 2 ^ 23)
-      ∙ (λ t. so_far t && (sym (finite-sum w) ∙ ap (λ (x : ℕ). finite (of_bits binary32 x)) e) t)
-      ∙ ap (allFinite s at) (sym (add-one i))
+      ∙ (λ t. so_far t && (sym (finite_sum w) ∙ ap (λ (x : ℕ). finite (of_bits binary32 x)) e) t)
+      ∙ ap (all_finite s at) (sym (add-one i))
 
   -- accepted exactly where all are finite
-  pub run-finite : (why : ℕ → Refusal) (at n : ℕ) → wordsCheck why s at n ≡ Accepted → FiniteRun s at n
-  unfolding wordsCheck
-  run-finite why at zero e i h = absurd (omega arith)
-  run-finite why at (suc n) e i h = go (finite (float_at s at)) refl e (run-finite why (at + 4) n) i h
+  pub run_finite : (why : ℕ → Refusal) (at n : ℕ) → words_check why s at n ≡ Accepted → FiniteRun s at n
+  unfolding words_check
+  run_finite why at zero e i h = absurd (omega arith)
+  run_finite why at (suc n) e i h = go (finite (float_at s at)) refl e (run_finite why (at + 4) n) i h
     where
       go :
-          (b : Bool) → finite (float_at s at) ≡ b → cond b (wordsCheck why s (at + 4) n) (Refused (why at)) ≡ Accepted →
-          (wordsCheck why s (at + 4) n ≡ Accepted → FiniteRun s (at + 4) n) →
+          (b : Bool) → finite (float_at s at) ≡ b → cond b (words_check why s (at + 4) n) (Refused (why at)) ≡ Accepted →
+          (words_check why s (at + 4) n ≡ Accepted → FiniteRun s (at + 4) n) →
           (i : ℕ) → i < suc n → T (finite (float_at s (at + 4 * i)))
       go true f e more zero h = subst (λ (p : ℕ). T (finite (float_at s p))) (omega arith) (subst T (sym f) tt)
       go true f e more (suc i) h = subst (λ (p : ℕ). T (finite (float_at s p))) (omega arith) (more e i (omega arith))
-      go false f e more i h = refused-not-accepted e
+      go false f e more i h = refused_not_accepted e
 
-  pub finite-run : (why : ℕ → Refusal) (at n : ℕ) → FiniteRun s at n → wordsCheck why s at n ≡ Accepted
-  unfolding wordsCheck
-  finite-run why at zero r = refl
-  finite-run why at (suc n) r =
-      ap (λ (b : Bool). cond b (wordsCheck why s (at + 4) n) (Refused (why at))) (here at n r)
-      ∙ finite-run why (at + 4) n (later at n r)
+  pub finite_run : (why : ℕ → Refusal) (at n : ℕ) → FiniteRun s at n → words_check why s at n ≡ Accepted
+  unfolding words_check
+  finite_run why at zero r = refl
+  finite_run why at (suc n) r =
+      ap (λ (b : Bool). cond b (words_check why s (at + 4) n) (Refused (why at))) (here at n r)
+      ∙ finite_run why (at + 4) n (later at n r)
 
   -- two runs, one behind the other
-  pub two_runs : (why : ℕ → Refusal) (at m n : ℕ) → wordsCheck why s at (m + n) ≡ (wordsCheck why s at m then wordsCheck why s (at + 4 * m) n)
-  unfolding wordsCheck
+  pub two_runs : (why : ℕ → Refusal) (at m n : ℕ) → words_check why s at (m + n) ≡ (words_check why s at m then words_check why s (at + 4 * m) n)
+  unfolding words_check
   two_runs why at zero n =
       let e : 0 + n ≡ n = omega arith in
       let f : at ≡ at + 4 * 0 = omega arith in
-      λ i. wordsCheck why s (f i) (e i)
+      λ i. words_check why s (f i) (e i)
   two_runs why at (suc m) n =
       let e : suc m + n ≡ suc (m + n) = omega arith in
-      ap (wordsCheck why s at) e
+      ap (words_check why s at) e
       ∙ go (finite (float_at s at)) (two_runs why (at + 4) m n)
     where
       go :
           (b : Bool) →
-          wordsCheck why s (at + 4) (m + n) ≡ (wordsCheck why s (at + 4) m then wordsCheck why s (at + 4 + 4 * m) n) →
-          cond b (wordsCheck why s (at + 4) (m + n)) (Refused (why at))
-          ≡ (cond b (wordsCheck why s (at + 4) m) (Refused (why at)) then wordsCheck why s (at + 4 * suc m) n)
+          words_check why s (at + 4) (m + n) ≡ (words_check why s (at + 4) m then words_check why s (at + 4 + 4 * m) n) →
+          cond b (words_check why s (at + 4) (m + n)) (Refused (why at))
+          ≡ (cond b (words_check why s (at + 4) m) (Refused (why at)) then words_check why s (at + 4 * suc m) n)
       go true more =
           let e : at + 4 + 4 * m ≡ at + 4 * suc m = omega arith in
-          more ∙ ap (λ (p : ℕ). wordsCheck why s (at + 4) m then wordsCheck why s p n) e
+          more ∙ ap (λ (p : ℕ). words_check why s (at + 4) m then words_check why s p n) e
       go false more = refl
 
   -- ---- tables, with words between them that are finite
 
   abbrev check : ℕ → ℕ → Verdict
-  check = wordsCheck MonthWord s
+  check = words_check MonthWord s
 
   -- the tables stand in the n words from `at` on, each behind `gap` others, which are finite
   Spread : ℕ → ℕ → List Table → Type 0
@@ -215,11 +215,11 @@ module _ (s : List ℕ) where
       × Spread (table_end t) rest ts
 
   no_words : (at : ℕ) → check at 0 ≡ Accepted
-  unfolding wordsCheck
+  unfolding words_check
   no_words at = refl
 
-  joined : (at n : ℕ) (ts : List Table) → Spread at n ts → check at n ≡ eachCheck s ts
-  unfolding Spread eachCheck wordsCheck
+  joined : (at n : ℕ) (ts : List Table) → Spread at n ts → check at n ≡ each_check s ts
+  unfolding Spread each_check words_check
   joined at n [] e = ap (check at) e
   joined at n (t ∷ ts) (gap, rest, from, count, between, more) =
       let m = words_in t + rest in
@@ -237,14 +237,14 @@ module _ (s : List ℕ) where
       (at m n : ℕ) → T (finite (of_bits binary32 m)) → T (finite (of_bits binary32 n)) → word_at s at ≡ m → word_at s (at + 4) ≡ n →
       check at 2 ≡ Accepted
   unfolding float_at
-  between at m n p q d e = finite-run MonthWord at 2 both
+  between at m n p q d e = finite_run MonthWord at 2 both
     where
       both : FiniteRun s at 2
       both zero h = subst (λ (a : ℕ). T (finite (of_bits binary32 (word_at s a)))) (omega arith) (subst (λ (w : ℕ). T (finite (of_bits binary32 w))) (sym d) p)
       both (suc zero) h = subst (λ (w : ℕ). T (finite (of_bits binary32 w))) (sym e) q
       both (suc (suc i)) h = absurd (omega arith)
 
-  spread : Marked s 0 sizes → Spread 252 9574 floatTables
+  spread : Marked s 0 sizes → Spread 252 9574 float_tables
   unfolding Spread of_bits
   spread marks =
       let m1 = marks.2 in
@@ -382,49 +382,49 @@ module _ (s : List ℕ) where
         ),
       )
 
-  pub walked-words : monthFileCheck s ≡ Accepted → check 252 9574 ≡ tableWordsCheck s
-  unfolding tableWordsCheck
-  walked-words e = joined 252 9574 floatTables (spread (accepted-marks s e))
+  pub walked_words : month_file_check s ≡ Accepted → check 252 9574 ≡ table_words_check s
+  unfolding table_words_check
+  walked_words e = joined 252 9574 float_tables (spread (accepted_marks s e))
 
   -- ---- table by table
 
-  each-finite :
-      (ts : List Table) → eachCheck s ts ≡ Accepted → (k : ℕ) → k < length ts →
-      let t = get_or ts k noSuchTable in FiniteRun s t.from (words_in t)
-  unfolding eachCheck
-  each-finite [] e k h = absurd (omega arith)
-  each-finite (t ∷ ts) e zero h = run-finite MonthWord t.from (words_in t) (then-both (check t.from (words_in t)) (eachCheck s ts) e).0
-  each-finite (t ∷ ts) e (suc k) h =
-      each-finite ts (then-both (check t.from (words_in t)) (eachCheck s ts) e).1 k (omega arith)
+  each_finite :
+      (ts : List Table) → each_check s ts ≡ Accepted → (k : ℕ) → k < length ts →
+      let t = get_or ts k no_such_table in FiniteRun s t.from (words_in t)
+  unfolding each_check
+  each_finite [] e k h = absurd (omega arith)
+  each_finite (t ∷ ts) e zero h = run_finite MonthWord t.from (words_in t) (then_both (check t.from (words_in t)) (each_check s ts) e).0
+  each_finite (t ∷ ts) e (suc k) h =
+      each_finite ts (then_both (check t.from (words_in t)) (each_check s ts) e).1 k (omega arith)
 
-  finite-each :
-      (ts : List Table) → ((k : ℕ) → k < length ts → let t = get_or ts k noSuchTable in FiniteRun s t.from (words_in t)) →
-      eachCheck s ts ≡ Accepted
-  unfolding eachCheck
-  finite-each [] r = refl
-  finite-each (t ∷ ts) r =
-      ap (λ (v : Verdict). v then eachCheck s ts) (finite-run MonthWord t.from (words_in t) (r 0 (omega arith)))
-      ∙ finite-each ts (λ k h. r (suc k) (omega arith))
+  finite_each :
+      (ts : List Table) → ((k : ℕ) → k < length ts → let t = get_or ts k no_such_table in FiniteRun s t.from (words_in t)) →
+      each_check s ts ≡ Accepted
+  unfolding each_check
+  finite_each [] r = refl
+  finite_each (t ∷ ts) r =
+      ap (λ (v : Verdict). v then each_check s ts) (finite_run MonthWord t.from (words_in t) (r 0 (omega arith)))
+      ∙ finite_each ts (λ k h. r (suc k) (omega arith))
 
   -- accepted exactly where every word of the tables 2 to 20 is finite
-  pub tables-finite : tableWordsCheck s ≡ Accepted → FiniteMonth s
-  unfolding tableWordsCheck
-  tables-finite e = record { words = by_number }
+  pub tables_finite : table_words_check s ≡ Accepted → FiniteMonth s
+  unfolding table_words_check
+  tables_finite e = record { words = by_number }
     where
       by_number : (number : ℕ) → 2 ≤ number → number ≤ 20 → FiniteRun s (start_of number) (words_of number)
       by_number zero l h = absurd (omega arith)
       by_number (suc zero) l h = absurd (omega arith)
-      by_number (suc (suc k)) l h = each-finite floatTables e k (omega arith)
+      by_number (suc (suc k)) l h = each_finite float_tables e k (omega arith)
 
-  pub finite-tables : FiniteMonth s → tableWordsCheck s ≡ Accepted
-  unfolding tableWordsCheck
-  finite-tables f = finite-each floatTables (λ k h. f.words (suc (suc k)) (omega arith) (omega arith))
+  pub finite_tables : FiniteMonth s → table_words_check s ≡ Accepted
+  unfolding table_words_check
+  finite_tables f = finite_each float_tables (λ k h. f.words (suc (suc k)) (omega arith) (omega arith))
 
   -- and every word of the record
-  pub record-finite : recordWordsCheck s 1 ≡ Accepted → FiniteRecord s
-  unfolding recordWordsCheck
-  record-finite e = record { words = run-finite RecordWord (start_of xf2cof) (words_of xf2cof) e }
+  pub record_finite : record_words_check s 1 ≡ Accepted → FiniteRecord s
+  unfolding record_words_check
+  record_finite e = record { words = run_finite RecordWord (start_of xf2cof) (words_of xf2cof) e }
 
-  pub finite-record : FiniteRecord s → recordWordsCheck s 1 ≡ Accepted
-  unfolding recordWordsCheck
-  finite-record f = finite-run RecordWord (start_of xf2cof) (words_of xf2cof) f.words
+  pub finite_record : FiniteRecord s → record_words_check s 1 ≡ Accepted
+  unfolding record_words_check
+  finite_record f = finite_run RecordWord (start_of xf2cof) (words_of xf2cof) f.words

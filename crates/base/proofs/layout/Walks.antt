@@ -3,31 +3,31 @@
 use Rattle.std.proofs.Common.{◌≡◌, ℕ, zero, suc, ◌+◌, ◌-◌, ◌*◌, ◌/◌, ◌%◌, ◌<◌, ◌≤◌, Bool, true, false, cond, T, eqb, ltb, leb, ◌⊎◌, List, [], ◌∷◌, ◌++◌, length, get_or, drop, replicate, sym, refl, ap, ◌∙◌, inl, inr, add-one, arith, eqb→eq, leb→le, drop-cons, eq-eqb, ne_eqb, eqb-true, le-leb, leb-true}
 use native.Mathlib.Decide.{dec_le, ℕ_discrete}
 use borrow.Author.Tests.{lt-leb, eqb-false}
-use Rattle.base.proofs.verdicts.Picks.{cond-true, cond-false}
+use Rattle.base.proofs.verdicts.Picks.{cond_true, cond_false}
 use Rattle.base.specs.Words.{word_at}
 use Rattle.base.specs.declared.refusal.Refusal.TheVariants.{Ended, Marker}
 use Rattle.base.specs.declared.refusal.Verdict.{Verdict}
 use Rattle.base.specs.declared.refusal.Verdict.TheVariants.{Accepted, Refused}
-use Rattle.base.specs.MonthFile.{monthFileSize, sizes, Four, marker, anything, layout, isRight, walk, monthFileCheck, Marked, RecordSize}
+use Rattle.base.specs.MonthFile.{month_file_size, sizes, Four, marker, anything, layout, is_right, walk, month_file_check, Marked, RecordSize}
 use Rattle.base.proofs.lists.Entries.{at as entry}
-use Rattle.base.proofs.verdicts.Refusals.{refused-not-accepted}
+use Rattle.base.proofs.verdicts.Refusals.{refused_not_accepted}
 
 abbrev ended : ℕ → Verdict
 ended at = Refused (Ended at)
 
 module _ (s : List ℕ) where
   -- a step
-  pub step : (at : ℕ) (f : Four) (fs : List Four) → at + 4 ≤ length s → isRight s at f ≡ true → walk s at (f ∷ fs) ≡ walk s (at + 4) fs
+  pub step : (at : ℕ) (f : Four) (fs : List Four) → at + 4 ≤ length s → is_right s at f ≡ true → walk s at (f ∷ fs) ≡ walk s (at + 4) fs
   unfolding walk
-  step at f fs h r = cond-true _ _ (le-leb _ _ h) ∙ cond-true _ _ r
+  step at f fs h r = cond_true _ _ (le-leb _ _ h) ∙ cond_true _ _ r
 
   pub wrong : (at n : ℕ) (fs : List Four) → at + 4 ≤ length s → (word_at s at ≡ n → ⊥) → walk s at (marker n ∷ fs) ≡ Refused (Marker at)
   unfolding walk
-  wrong at n fs h r = cond-true _ _ (le-leb _ _ h) ∙ cond-false _ _ (ne_eqb _ _ r)
+  wrong at n fs h r = cond_true _ _ (le-leb _ _ h) ∙ cond_false _ _ (ne_eqb _ _ r)
 
   gone : (at : ℕ) (f : Four) (fs : List Four) → length s < at + 4 → walk s at (f ∷ fs) ≡ ended at
   unfolding walk
-  gone at f fs h = cond-false _ _ (lt-leb _ _ h)
+  gone at f fs h = cond_false _ _ (lt-leb _ _ h)
 
   -- j words that are there
   skip : (j at : ℕ) (fs : List Four) → at + j * 4 ≤ length s → walk s at (replicate j anything ++ fs) ≡ walk s (at + j * 4) fs
@@ -45,26 +45,26 @@ module _ (s : List ℕ) where
 
   -- a record of n bytes at `at`: its opening marker, its body and its closing marker
   module _ (at n : ℕ) (ns : List ℕ) (m : at % 4 ≡ 0) (w : n % 4 ≡ 0) (h : at ≤ length s) where
-    pub no-open : length s < at + 4 → walk s at (layout (n ∷ ns)) ≡ ended (length s / 4 * 4)
+    pub no_open : length s < at + 4 → walk s at (layout (n ∷ ns)) ≡ ended (length s / 4 * 4)
     unfolding layout
-    no-open l = gone at (marker n) _ l ∙ ap ended (omega arith)
+    no_open l = gone at (marker n) _ l ∙ ap ended (omega arith)
 
-    pub bad-open : at + 4 ≤ length s → (word_at s at ≡ n → ⊥) → walk s at (layout (n ∷ ns)) ≡ Refused (Marker at)
+    pub bad_open : at + 4 ≤ length s → (word_at s at ≡ n → ⊥) → walk s at (layout (n ∷ ns)) ≡ Refused (Marker at)
     unfolding layout
-    bad-open l e = wrong at n _ l e
+    bad_open l e = wrong at n _ l e
 
     opened : at + 4 ≤ length s → word_at s at ≡ n → walk s at (layout (n ∷ ns)) ≡ walk s (at + 4) (replicate (n / 4) anything ++ (marker n ∷ layout ns))
     unfolding layout
     opened l e = step at (marker n) _ l (eq-eqb _ _ e)
 
-    pub no-close : at + 4 ≤ length s → word_at s at ≡ n → length s < at + n + 8 → walk s at (layout (n ∷ ns)) ≡ ended (length s / 4 * 4)
-    no-close l e k = opened l e ∙ short (n / 4) (at + 4) (marker n) (layout ns) (omega arith) l (omega arith)
+    pub no_close : at + 4 ≤ length s → word_at s at ≡ n → length s < at + n + 8 → walk s at (layout (n ∷ ns)) ≡ ended (length s / 4 * 4)
+    no_close l e k = opened l e ∙ short (n / 4) (at + 4) (marker n) (layout ns) (omega arith) l (omega arith)
 
     closing : at + 4 ≤ length s → word_at s at ≡ n → at + n + 8 ≤ length s → walk s at (layout (n ∷ ns)) ≡ walk s (at + n + 4) (marker n ∷ layout ns)
     closing l e k = opened l e ∙ skip (n / 4) (at + 4) (marker n ∷ layout ns) (omega arith) ∙ ap (λ (x : ℕ). walk s x (marker n ∷ layout ns)) (omega arith)
 
-    pub bad-close : at + 4 ≤ length s → word_at s at ≡ n → at + n + 8 ≤ length s → (word_at s (at + n + 4) ≡ n → ⊥) → walk s at (layout (n ∷ ns)) ≡ Refused (Marker (at + n + 4))
-    bad-close l e k d = closing l e k ∙ wrong (at + n + 4) n (layout ns) (omega arith) d
+    pub bad_close : at + 4 ≤ length s → word_at s at ≡ n → at + n + 8 ≤ length s → (word_at s (at + n + 4) ≡ n → ⊥) → walk s at (layout (n ∷ ns)) ≡ Refused (Marker (at + n + 4))
+    bad_close l e k d = closing l e k ∙ wrong (at + n + 4) n (layout ns) (omega arith) d
 
     pub passed : at + 4 ≤ length s → word_at s at ≡ n → at + n + 8 ≤ length s → word_at s (at + n + 4) ≡ n → walk s at (layout (n ∷ ns)) ≡ walk s (at + n + 8) (layout ns)
     passed l e k d = closing l e k ∙ step (at + n + 4) (marker n) (layout ns) (omega arith) (eq-eqb _ _ d) ∙ ap (λ (x : ℕ). walk s x (layout ns)) (omega arith)
@@ -84,8 +84,8 @@ sized k h = go (eqb (n % 4) 0) (λ x. eqb→eq (n % 4) 0 x) (entry sized_b sizes
     go true f t = record { is = refl; fours = f tt; most = leb→le n 11184 t }
     go false f t = absurd t
 
-pub next-size : (k : ℕ) → k < 9 → drop k sizes ≡ get_or sizes k 0 ∷ drop (k + 1) sizes
-next-size k h = drop-cons sizes k 0 h ∙ ap (λ (j : ℕ). get_or sizes k 0 ∷ drop j sizes) (sym (add-one k))
+pub next_size : (k : ℕ) → k < 9 → drop k sizes ≡ get_or sizes k 0 ∷ drop (k + 1) sizes
+next_size k h = drop-cons sizes k 0 h ∙ ap (λ (j : ℕ). get_or sizes k 0 ∷ drop j sizes) (sym (add-one k))
 
 -- where the walk is at the loop's head
 pub record Walked (s : List ℕ) (at k : ℕ) : Type 0 where
@@ -93,27 +93,27 @@ pub record Walked (s : List ℕ) (at k : ℕ) : Type 0 where
   pub inside : at ≤ length s
   pub low : at ≤ k * 11192
   pub turns : k ≤ 9
-  pub same : monthFileCheck s ≡ walk s at (layout (drop k sizes))
+  pub same : month_file_check s ≡ walk s at (layout (drop k sizes))
 
 pub first : (s : List ℕ) → Walked s 0 0
-unfolding monthFileCheck
+unfolding month_file_check
 first s = record { fours = refl; inside = omega arith; low = omega arith; turns = omega arith; same = refl }
 
 module _ (s : List ℕ) (at k n : ℕ) (w : Walked s at k) (h : k < 9) (z : RecordSize k n) where
-  here : monthFileCheck s ≡ walk s at (layout (n ∷ drop (k + 1) sizes))
-  here = w.same ∙ ap (λ (l : List ℕ). walk s at (layout l)) (next-size k h) ∙ ap (λ (x : ℕ). walk s at (layout (x ∷ drop (k + 1) sizes))) (sym z.is)
+  here : month_file_check s ≡ walk s at (layout (n ∷ drop (k + 1) sizes))
+  here = w.same ∙ ap (λ (l : List ℕ). walk s at (layout l)) (next_size k h) ∙ ap (λ (x : ℕ). walk s at (layout (x ∷ drop (k + 1) sizes))) (sym z.is)
 
-  pub ends-short : (length s < at + 4) ⊎ ((eqb (word_at s at) n ≡ true) × (at + 4 ≤ length s) × (length s < at + n + 8)) → monthFileCheck s ≡ ended (length s / 4 * 4)
-  ends-short (inl l) = here ∙ no-open s at n _ w.fours z.fours w.inside l
-  ends-short (inr l) = here ∙ no-close s at n _ w.fours z.fours w.inside l.1 (eqb-true _ _ l.0) l.2
+  pub ends_short : (length s < at + 4) ⊎ ((eqb (word_at s at) n ≡ true) × (at + 4 ≤ length s) × (length s < at + n + 8)) → month_file_check s ≡ ended (length s / 4 * 4)
+  ends_short (inl l) = here ∙ no_open s at n _ w.fours z.fours w.inside l
+  ends_short (inr l) = here ∙ no_close s at n _ w.fours z.fours w.inside l.1 (eqb-true _ _ l.0) l.2
 
   module _ (o : at + 4 ≤ length s) where
-    pub ends_open : eqb (word_at s at) n ≡ false → monthFileCheck s ≡ Refused (Marker at)
-    ends_open e = here ∙ bad-open s at n _ w.fours z.fours w.inside o (eqb-false _ _ e)
+    pub ends_open : eqb (word_at s at) n ≡ false → month_file_check s ≡ Refused (Marker at)
+    ends_open e = here ∙ bad_open s at n _ w.fours z.fours w.inside o (eqb-false _ _ e)
 
     module _ (e : eqb (word_at s at) n ≡ true) (l : at + n + 8 ≤ length s) where
-      pub ends_close : eqb (word_at s (at + n + 4)) n ≡ false → monthFileCheck s ≡ Refused (Marker (at + n + 4))
-      ends_close d = here ∙ bad-close s at n _ w.fours z.fours w.inside o (eqb-true _ _ e) l (eqb-false _ _ d)
+      pub ends_close : eqb (word_at s (at + n + 4)) n ≡ false → month_file_check s ≡ Refused (Marker (at + n + 4))
+      ends_close d = here ∙ bad_close s at n _ w.fours z.fours w.inside o (eqb-true _ _ e) l (eqb-false _ _ d)
 
       pub goes_on : eqb (word_at s (at + n + 4)) n ≡ true → Walked s (at + n + 8) (k + 1)
       goes_on d = let f = w.fours in let g = z.fours in let b = w.low in let t = z.most in
@@ -125,7 +125,7 @@ module _ (s : List ℕ) (at k n : ℕ) (w : Walked s at k) (h : k < 9) (z : Reco
             same = here ∙ passed s at n _ w.fours z.fours w.inside o (eqb-true _ _ e) l (eqb-true _ _ d);
           }
 
-pub ends : (s : List ℕ) (at k : ℕ) → Walked s at k → 9 ≤ k → monthFileCheck s ≡ Accepted
+pub ends : (s : List ℕ) (at k : ℕ) → Walked s at k → 9 ≤ k → month_file_check s ≡ Accepted
 unfolding walk layout
 ends s at k w h = let e : k ≡ 9 = omega (arith, w.turns) in w.same ∙ ap (λ (j : ℕ). walk s at (layout (drop j sizes))) e
 
@@ -134,24 +134,24 @@ ends s at k w h = let e : k ≡ 9 = omega (arith, w.turns) in w.same ∙ ap (λ 
 walked : (s : List ℕ) (at : ℕ) (fs : List Four) → at ≤ length s → walk s at fs ≡ Accepted → at + length fs * 4 ≤ length s
 unfolding walk
 walked s at [] h e = omega arith
-walked s at (f ∷ fs) h e = go (leb (at + 4) (length s)) (isRight s at f) (leb-true (at + 4) (length s)) (walked s (at + 4) fs) e
+walked s at (f ∷ fs) h e = go (leb (at + 4) (length s)) (is_right s at f) (leb-true (at + 4) (length s)) (walked s (at + 4) fs) e
   where
     go :
         (a b : Bool) → (a ≡ true → at + 4 ≤ length s) →
         (at + 4 ≤ length s → walk s (at + 4) fs ≡ Accepted → at + 4 + length fs * 4 ≤ length s) →
         cond a (cond b (walk s (at + 4) fs) (Refused (Marker at))) (ended at) ≡ Accepted → at + suc (length fs) * 4 ≤ length s
     go true true q r e = omega (arith, r (q refl) e)
-    go true false q r e = refused-not-accepted e
-    go false b q r e = refused-not-accepted e
+    go true false q r e = refused_not_accepted e
+    go false b q r e = refused_not_accepted e
 
-all-fours : length (layout sizes) ≡ 9638
+all_fours : length (layout sizes) ≡ 9638
 unfolding layout
-all-fours = refl
+all_fours = refl
 
 -- 'in all 38,552 bytes'
-pub accepted-length : (s : List ℕ) → monthFileCheck s ≡ Accepted → monthFileSize ≤ length s
-unfolding monthFileCheck
-accepted-length s e = omega (arith, walked s 0 (layout sizes) (omega arith) e, all-fours)
+pub accepted_length : (s : List ℕ) → month_file_check s ≡ Accepted → month_file_size ≤ length s
+unfolding month_file_check
+accepted_length s e = omega (arith, walked s 0 (layout sizes) (omega arith) e, all_fours)
 
 -- ---- and the markers
 
@@ -164,22 +164,22 @@ pub fours : Fours sizes
 fours = (refl, (refl, (refl, (refl, (refl, (refl, (refl, (refl, (refl, tt)))))))))
 
 -- a walk that accepts has met no other
-pub marks-met : (s : List ℕ) (at : ℕ) (ns : List ℕ) → Fours ns → at % 4 ≡ 0 → at ≤ length s → walk s at (layout ns) ≡ Accepted → Marked s at ns
-marks-met s at [] f m h e = tt
-marks-met s at (n ∷ ns) f m h e = let w = f.0 in elim (dec_le (at + 4) (length s)) [
-  | no q ↦ refused-not-accepted (sym (no-open s at n ns m w h (omega arith)) ∙ e)
+pub marks_met : (s : List ℕ) (at : ℕ) (ns : List ℕ) → Fours ns → at % 4 ≡ 0 → at ≤ length s → walk s at (layout ns) ≡ Accepted → Marked s at ns
+marks_met s at [] f m h e = tt
+marks_met s at (n ∷ ns) f m h e = let w = f.0 in elim (dec_le (at + 4) (length s)) [
+  | no q ↦ refused_not_accepted (sym (no_open s at n ns m w h (omega arith)) ∙ e)
   | yes q ↦ elim (ℕ_discrete (word_at s at) n) [
-    | no d ↦ refused-not-accepted (sym (bad-open s at n ns m w h q d) ∙ e)
+    | no d ↦ refused_not_accepted (sym (bad_open s at n ns m w h q d) ∙ e)
     | yes o ↦ elim (dec_le (at + n + 8) (length s)) [
-      | no l ↦ refused-not-accepted (sym (no-close s at n ns m w h q o (omega arith)) ∙ e)
+      | no l ↦ refused_not_accepted (sym (no_close s at n ns m w h q o (omega arith)) ∙ e)
       | yes l ↦ elim (ℕ_discrete (word_at s (at + n + 4)) n) [
-        | no d ↦ refused-not-accepted (sym (bad-close s at n ns m w h q o l d) ∙ e)
-        | yes c ↦ (o, c, marks-met s (at + n + 8) ns f.1 (omega arith) l (sym (passed s at n ns m w h q o l c) ∙ e))
+        | no d ↦ refused_not_accepted (sym (bad_close s at n ns m w h q o l d) ∙ e)
+        | yes c ↦ (o, c, marks_met s (at + n + 8) ns f.1 (omega arith) l (sym (passed s at n ns m w h q o l c) ∙ e))
       ]
     ]
   ]
 ]
 
-pub accepted-marks : (s : List ℕ) → monthFileCheck s ≡ Accepted → Marked s 0 sizes
-unfolding monthFileCheck
-accepted-marks s e = marks-met s 0 sizes fours refl (omega arith) e
+pub accepted_marks : (s : List ℕ) → month_file_check s ≡ Accepted → Marked s 0 sizes
+unfolding month_file_check
+accepted_marks s e = marks_met s 0 sizes fours refl (omega arith) e

@@ -1,6 +1,6 @@
--- `sqrtOf` gives the value of its format that is nearest to the square root: `sqrt-nearest`. In
+-- `sqrt_of` gives the value of its format that is nearest to the square root: `sqrt_nearest`. In
 -- units of the format's smallest value the root of a positive x is √a * 2 ^ k, where the whole
--- number a has two digits for each that the format keeps (`Scaled`), and `sqrtOf` is q * 2 ^ k
+-- number a has two digits for each that the format keeps (`Scaled`), and `sqrt_of` is q * 2 ^ k
 -- units, with the whole number q that is nearest to √a (`Near`). There is no tie: a middle would be
 -- (2 * q + 1) / 2, and the square of 2 * q + 1 is odd where 4 * a is even. Any other value of the
 -- format is a multiple of 2 ^ k units, or lies below every root with that k (`coarse`). Assumes
@@ -15,14 +15,14 @@ use lib.Ieee.Fits.{two, reach, down_pos, and_l, and_r}
 use lib.Ieee.Exact.{HasValue, units_val}
 use lib.Ieee.Scale.{finite}
 use lib.Ieee.Positive.{num, den, positive, den_pos, own_value, value→cross, first_pos, value_pos, positive_of_value, positive-finite}
-use Rattle.base.specs.Number.{root, closestRoot, sqrtOf, NearestRoot}
-use Rattle.base.proofs.rounding.Rounding.{shifts, tail, prec-tail, size-gt, units-fit}
-use Rattle.base.proofs.roots.Roots.{root-whole, root_ge, closest-down, closest-up, closest-root-le, closest-root-ge, closest-root-scale}
-use Rattle.base.proofs.roots.Rooted.{four, rounded-units}
+use Rattle.base.specs.Number.{root, closest_root, sqrt_of, NearestRoot}
+use Rattle.base.proofs.rounding.Rounding.{shifts, tail, prec_tail, size_gt, units_fit}
+use Rattle.base.proofs.roots.Roots.{root_whole, root_ge, closest_down, closest_up, closest_root_le, closest_root_ge, closest_root_scale}
+use Rattle.base.proofs.roots.Rooted.{four, rounded_units}
 
 -- ---- two cases of an order
-pub le-or-lt : (m n : ℕ) → (m ≤ n) ⊎ (n < m)
-le-or-lt m n = go (leb m n) (leb→le m n) (nleb→lt m n)
+pub le_or_lt : (m n : ℕ) → (m ≤ n) ⊎ (n < m)
+le_or_lt m n = go (leb m n) (leb→le m n) (nleb→lt m n)
   where
     go : (b : Bool) → (T b → m ≤ n) → (T (not b) → n < m) → (m ≤ n) ⊎ (n < m)
     go true y z = inl (y tt)
@@ -32,34 +32,34 @@ le-or-lt m n = go (leb m n) (leb→le m n) (nleb→lt m n)
 abbrev pub Near : ℕ → ℕ → Type 0
 Near a q = (q * q < a + q) × (a ≤ q * q + q)
 
-pub closest-near : (a : ℕ) → 0 < a → Near a (closestRoot a 1)
-closest-near a h = go (le-or-lt a (w * w + w))
+pub closest_near : (a : ℕ) → 0 < a → Near a (closest_root a 1)
+closest_near a h = go (le_or_lt a (w * w + w))
   where
     w : ℕ
     w = root a
 
-    one : closestRoot a 1 ≡ closestRoot (a * 1) 1
-    one = sym (closest-root-scale a 1 (pow_pos 0))
+    one : closest_root a 1 ≡ closest_root (a * 1) 1
+    one = sym (closest_root_scale a 1 (pow_pos 0))
 
-    go : (a ≤ w * w + w) ⊎ (w * w + w < a) → Near a (closestRoot a 1)
+    go : (a ≤ w * w + w) ⊎ (w * w + w < a) → Near a (closest_root a 1)
     go (inl l) =
-        let o = root-whole a in
+        let o = root_whole a in
         let g = root_ge a 1 h in
-        subst (Near a) (sym (one ∙ closest-down a w 1 (pow_pos 0) o.0 l)) (omega arith, l)
+        subst (Near a) (sym (one ∙ closest_down a w 1 (pow_pos 0) o.0 l)) (omega arith, l)
     go (inr l) =
-        let o = root-whole a in
-        subst (Near a) (sym (one ∙ closest-up a w 1 (pow_pos 0) l o.1)) (omega arith, omega arith)
+        let o = root_whole a in
+        subst (Near a) (sym (one ∙ closest_up a w 1 (pow_pos 0) l o.1)) (omega arith, omega arith)
 
 -- ---- the middles to both sides of q, all in multiples of u
-squares-lt : {s t : ℕ} → s < t → s * s < t * t
-squares-lt {s} {t} h = lt_of_le_of_lt (mul-le-mul_left s (le_of_lt h)) (mul-lt-mul_of_pos_right h (lt_of_le_of_lt (omega arith) h))
+squares_lt : {s t : ℕ} → s < t → s * s < t * t
+squares_lt {s} {t} h = lt_of_le_of_lt (mul-le-mul_left s (le_of_lt h)) (mul-lt-mul_of_pos_right h (lt_of_le_of_lt (omega arith) h))
 
 module _ (a q u : ℕ) (U : 0 < u) where
   square : (c : ℕ) → c * u * (c * u) ≡ c * c * (u * u)
   square c = mul-mul-mul_comm c u c u
 
-  left-of : (c s : ℕ) → c * c < 4 * a → s ≤ c * u → s * s < 4 * a * (u * u)
-  left-of c s h l = lt_of_le_of_lt (mul-le-mul l l) (lt_of_le_of_lt (le_of_eq (square c)) (mul-lt-mul_of_pos_right h (mul-pos U U)))
+  left_of : (c s : ℕ) → c * c < 4 * a → s ≤ c * u → s * s < 4 * a * (u * u)
+  left_of c s h l = lt_of_le_of_lt (mul-le-mul l l) (lt_of_le_of_lt (le_of_eq (square c)) (mul-lt-mul_of_pos_right h (mul-pos U U)))
 
   right_of : (c s : ℕ) → 4 * a < c * c → c * u ≤ s → 4 * a * (u * u) < s * s
   right_of c s h l = lt_of_lt_of_le (mul-lt-mul_of_pos_right h (mul-pos U U)) (le_trans (le_of_eq (sym (square c))) (mul-le-mul l l))
@@ -70,7 +70,7 @@ module _ (a q u : ℕ) (U : 0 < u) where
       let e : q ≡ c + 1 = omega arith in
       let n0 : (c + 1) * (c + 1) < a + (c + 1) = subst (λ (x : ℕ). x * x < a + x) e n.0 in
       let m : q * u ≡ (c + 1) * u = ap (λ (x : ℕ). x * u) e in
-      left-of (2 * c + 1) (z + q * u) (omega arith) (omega arith)
+      left_of (2 * c + 1) (z + q * u) (omega arith) (omega arith)
 
   over : (z : ℕ) → Near a q → (q + 1) * u ≤ z → 4 * a * (u * u) < (z + q * u) * (z + q * u)
   over z n l = let n1 = n.1 in right_of (2 * q + 1) (z + q * u) (omega arith) (omega arith)
@@ -78,7 +78,7 @@ module _ (a q u : ℕ) (U : 0 < u) where
   exact : (z : ℕ) → q * q ≤ a → z < q * u → (z + q * u) * (z + q * u) < 4 * a * (u * u)
   exact z h l =
       let t : z + q * u < 2 * q * u = omega arith in
-      lt_of_lt_of_le (squares-lt t) (le_trans (le_of_eq (square (2 * q))) (mul-le-mul_right (u * u) (omega arith)))
+      lt_of_lt_of_le (squares_lt t) (le_trans (le_of_eq (square (2 * q))) (mul-le-mul_right (u * u) (omega arith)))
 
 -- ---- m * 2 ^ i with an m of suc p digits is a multiple of 2 ^ k, or has fewer than suc p + k
 -- digits
@@ -86,7 +86,7 @@ abbrev Coarse : ℕ → ℕ → ℕ → Type 0
 Coarse p k z = (z < 2 ^ p * 2 ^ k) ⊎ ((c : ℕ) × (z ≡ c * 2 ^ k))
 
 coarse : (p k m i : ℕ) → m < 2 ^ suc p → Coarse p k (m * 2 ^ i)
-coarse p k m i h = go (le-or-lt k i)
+coarse p k m i h = go (le_or_lt k i)
   where
     go : (k ≤ i) ⊎ (i < k) → Coarse p k (m * 2 ^ i)
     go (inl l) = inr (m * 2 ^ (i - k), sym (mul_assoc m (2 ^ (i - k)) (2 ^ k) ∙ ap (λ (x : ℕ). m * x) (sym (pow-add 2 (i - k) k) ∙ ap (λ (x : ℕ). 2 ^ x) (back i k l))))
@@ -124,18 +124,18 @@ exponent l (negsuc b) h =
     let g : suc b ≤ l = le_of_suc-le-suc (lt_of_not-le (λ (o : l < suc b). not-le_of_lt (pow-lt o) h)) in
     (l - suc b, one-mul (2 ^ l) ∙ ap (λ (x : ℕ). 2 ^ x) (sym (back l (suc b) g)) ∙ pow-add 2 (l - suc b) (suc b))
 
-in-units : (f : Format) (v : Float) → T (fits f v) → T (finite v) → InUnits f v
+in_units : (f : Format) (v : Float) → T (fits f v) → T (finite v) → InUnits f v
 unfolding fits
-in-units f nan t p = absurd p
-in-units f (inf s) t p = absurd p
-in-units f (fin s zero e) t p = record {
+in_units f nan t p = absurd p
+in_units f (inf s) t p = absurd p
+in_units f (fin s zero e) t p = record {
   m = 0;
   i = 0;
   few = pow_pos (prec f);
   value = ap (λ (x : ℕ). x * 2 ^ low f) (zero-mul (up e)) ∙ zero-mul (2 ^ low f) ∙ sym (zero-mul (down e));
   bound = pow_pos (low f + suc (emax f));
 }
-in-units f (fin s (suc n) e) t p =
+in_units f (fin s (suc n) e) t p =
     let a : Bool = eqb (suc n % 2) 1 in
     let b : Bool = ltb (suc n) (2 ^ prec f) in
     let c : Bool = leb (down e) (2 ^ low f) in
@@ -186,8 +186,8 @@ module _ (f : Format) (x : Float) (w : InUnits f x) (M : 0 < w.m) where
       let s = shift (prec f) z (i + l) (two f) few big in
       let t = s.0 in
       let k = s.1 in
-      let e = prec-tail f in
-      let lead : 2 ^ (z - 1) ≤ m = size_reaches m (z - 1) (omega (arith, size-gt m 0 M)) in
+      let e = prec_tail f in
+      let lead : 2 ^ (z - 1) ≤ m = size_reaches m (z - 1) (omega (arith, size_gt m 0 M)) in
       let end : z - 1 + i < l + suc (emax f) = lt_of_not-le (λ (g : l + suc (emax f) ≤ z - 1 + i). not-le_of_lt w.bound (le_trans (pow_mono g) (le_trans (le_of_eq (pow-add 2 (z - 1) i)) (mul-le-mul_right (2 ^ i) lead)))) in
       let square : m * 2 ^ i * 2 ^ l ≡ m * 2 ^ t * 4 ^ k = sym (shifts m t k k i l s.2) ∙ mul_assoc (m * 2 ^ t) (2 ^ k) (2 ^ k) ∙ ap (λ (y : ℕ). m * 2 ^ t * y) (sym (four k)) in
       record {
@@ -205,20 +205,20 @@ module _ (f : Format) (x : Float) (w : InUnits f x) (M : 0 < w.m) where
       }
 
 -- ---- so the root is q * 2 ^ k units
-pub sqrt-units : (f : Format) (x : Float) → T (positive x) → (s : Scaled f x) → sqrtOf f x ≡ units f false (closestRoot s.a 1) s.k
-unfolding sqrtOf
-sqrt-units f nan p s = absurd p
-sqrt-units f (inf t) p s = absurd p
-sqrt-units f (fin true m e) p s = absurd p
-sqrt-units f (fin false zero e) p s = absurd p
-sqrt-units f (fin false (suc m) e) p s = rounded-units f (suc m * up e) (down e) s.a s.k (down_pos e) s.value s.least s.most
+pub sqrt_units : (f : Format) (x : Float) → T (positive x) → (s : Scaled f x) → sqrt_of f x ≡ units f false (closest_root s.a 1) s.k
+unfolding sqrt_of
+sqrt_units f nan p s = absurd p
+sqrt_units f (inf t) p s = absurd p
+sqrt_units f (fin true m e) p s = absurd p
+sqrt_units f (fin false zero e) p s = absurd p
+sqrt_units f (fin false (suc m) e) p s = rounded_units f (suc m * up e) (down e) s.a s.k (down_pos e) s.value s.least s.most
 
 num_pos : (x : Float) → T (positive x) → 0 < num x
 num_pos x p = value_pos x (num x) (den x) p (den_pos x) (own_value x p)
 
 pub scaled : (f : Format) (x : Float) → T (fits f x) → T (positive x) → Scaled f x
 scaled f x t p =
-    let w = in-units f x t (positive-finite x p) in
+    let w = in_units f x t (positive-finite x p) in
     scale f x w (first_pos w.m (2 ^ w.i) (first_pos (w.m * 2 ^ w.i) (den x) (lt_of_lt_of_le (mul-pos (num_pos x p) (pow_pos (low f))) (le_of_eq w.value))))
 
 -- ---- from units to fractions: with Y / dy = z / l, R / dr = g / l and X / dx = N / (l * l), what
@@ -227,14 +227,14 @@ squared : (n : ℕ) → n ^ 2 ≡ n * n
 squared n = pow-suc n 1 ∙ ap (λ (x : ℕ). x * n) (pow-suc n 0 ∙ ap (λ (x : ℕ). x * n) (pow-zero n) ∙ one-mul n)
 
 module _ (l X dx Y dy R dr N z g : ℕ) (L : 0 < l) (Dx : 0 < dx) (Dy : 0 < dy) (Dr : 0 < dr) (x : X * (l * l) ≡ N * dx) (y : Y * l ≡ z * dy) (r : R * l ≡ g * dr) where
-  left-term : Y * dr * l ≡ z * (dy * dr)
-  left-term = mul_right_comm Y dr l ∙ ap (λ (n : ℕ). n * dr) y ∙ mul_assoc z dy dr
+  left_term : Y * dr * l ≡ z * (dy * dr)
+  left_term = mul_right_comm Y dr l ∙ ap (λ (n : ℕ). n * dr) y ∙ mul_assoc z dy dr
 
-  right-term : R * dy * l ≡ g * (dy * dr)
-  right-term = mul_right_comm R dy l ∙ ap (λ (n : ℕ). n * dy) r ∙ mul_right_comm g dr dy ∙ mul_assoc g dy dr
+  right_term : R * dy * l ≡ g * (dy * dr)
+  right_term = mul_right_comm R dy l ∙ ap (λ (n : ℕ). n * dy) r ∙ mul_right_comm g dr dy ∙ mul_assoc g dy dr
 
   sum : (Y * dr + R * dy) * l ≡ (z + g) * (dy * dr)
-  sum = add-mul (Y * dr) (R * dy) l ∙ ap (λ (n : ℕ). n + R * dy * l) left-term ∙ ap (λ (n : ℕ). z * (dy * dr) + n) right-term ∙ sym (add-mul z g (dy * dr))
+  sum = add-mul (Y * dr) (R * dy) l ∙ ap (λ (n : ℕ). n + R * dy * l) left_term ∙ ap (λ (n : ℕ). z * (dy * dr) + n) right_term ∙ sym (add-mul z g (dy * dr))
 
   middle : (Y * dr + R * dy) ^ 2 * dx * (l * l) ≡ (z + g) * (z + g) * (dx * (dy * dr * (dy * dr)))
   middle =
@@ -246,8 +246,8 @@ module _ (l X dx Y dy R dr N z g : ℕ) (L : 0 < l) (Dx : 0 < dx) (Dy : 0 < dy) 
       ∙ mul_assoc ((z + g) * (z + g)) (d * d) dx
       ∙ ap (λ (n : ℕ). (z + g) * (z + g) * n) (mul_comm (d * d) dx)
 
-  four-times : 4 * X * (dy * dr) ^ 2 * (l * l) ≡ 4 * N * (dx * (dy * dr * (dy * dr)))
-  four-times =
+  four_times : 4 * X * (dy * dr) ^ 2 * (l * l) ≡ 4 * N * (dx * (dy * dr * (dy * dr)))
+  four_times =
       let d = dy * dr in
       ap (λ (n : ℕ). 4 * X * n * (l * l)) (squared d)
       ∙ mul_right_comm (4 * X) (d * d) (l * l)
@@ -257,15 +257,15 @@ module _ (l X dx Y dy R dr N z g : ℕ) (L : 0 < l) (Dx : 0 < dx) (Dy : 0 < dy) 
   bottom : 0 < dx * (dy * dr * (dy * dr))
   bottom = mul-pos Dx (mul-pos (mul-pos Dy Dr) (mul-pos Dy Dr))
 
-  fractions-below : (z < g → (z + g) * (z + g) < 4 * N) → Y * dr < R * dy → (Y * dr + R * dy) ^ 2 * dx < 4 * X * (dy * dr) ^ 2
-  fractions-below k h =
-      let o : z < g = lt_of_mul-lt-mul_right (dy * dr) (lt_of_le_of_lt (le_of_eq (sym left-term)) (lt_of_lt_of_le (mul-lt-mul_of_pos_right h L) (le_of_eq right-term))) in
-      lt_of_mul-lt-mul_right (l * l) (lt_of_le_of_lt (le_of_eq middle) (lt_of_lt_of_le (mul-lt-mul_of_pos_right (k o) bottom) (le_of_eq (sym four-times))))
+  fractions_below : (z < g → (z + g) * (z + g) < 4 * N) → Y * dr < R * dy → (Y * dr + R * dy) ^ 2 * dx < 4 * X * (dy * dr) ^ 2
+  fractions_below k h =
+      let o : z < g = lt_of_mul-lt-mul_right (dy * dr) (lt_of_le_of_lt (le_of_eq (sym left_term)) (lt_of_lt_of_le (mul-lt-mul_of_pos_right h L) (le_of_eq right_term))) in
+      lt_of_mul-lt-mul_right (l * l) (lt_of_le_of_lt (le_of_eq middle) (lt_of_lt_of_le (mul-lt-mul_of_pos_right (k o) bottom) (le_of_eq (sym four_times))))
 
-  fractions-above : (g < z → 4 * N < (z + g) * (z + g)) → R * dy < Y * dr → 4 * X * (dy * dr) ^ 2 < (Y * dr + R * dy) ^ 2 * dx
-  fractions-above k h =
-      let o : g < z = lt_of_mul-lt-mul_right (dy * dr) (lt_of_le_of_lt (le_of_eq (sym right-term)) (lt_of_lt_of_le (mul-lt-mul_of_pos_right h L) (le_of_eq left-term))) in
-      lt_of_mul-lt-mul_right (l * l) (lt_of_le_of_lt (le_of_eq four-times) (lt_of_lt_of_le (mul-lt-mul_of_pos_right (k o) bottom) (le_of_eq (sym middle))))
+  fractions_above : (g < z → 4 * N < (z + g) * (z + g)) → R * dy < Y * dr → 4 * X * (dy * dr) ^ 2 < (Y * dr + R * dy) ^ 2 * dx
+  fractions_above k h =
+      let o : g < z = lt_of_mul-lt-mul_right (dy * dr) (lt_of_le_of_lt (le_of_eq (sym right_term)) (lt_of_lt_of_le (mul-lt-mul_of_pos_right h L) (le_of_eq left_term))) in
+      lt_of_mul-lt-mul_right (l * l) (lt_of_le_of_lt (le_of_eq four_times) (lt_of_lt_of_le (mul-lt-mul_of_pos_right (k o) bottom) (le_of_eq (sym middle))))
 
 -- ---- the order of values, as one of fractions
 lt→cross : (r y : Float) → T (positive r) → T (finite y) → T (lt r y) → num r * den y < num y * den r
@@ -299,7 +299,7 @@ zero-lt→cross (fin false m e) (fin false n d) z p h = (tt, ltb→lt (m * up e 
 -- ---- q * 2 ^ k units is the nearest value
 module _ (f : Format) (x : Float) (s : Scaled f x) where
   abbrev q : ℕ
-  q = closestRoot s.a 1
+  q = closest_root s.a 1
 
   abbrev g : ℕ
   g = q * 2 ^ s.k
@@ -308,58 +308,58 @@ module _ (f : Format) (x : Float) (s : Scaled f x) where
   r = units f false q s.k
 
   reaches : 2 ^ tail f ≤ q
-  reaches = closest-root-ge s.a (2 ^ tail f) s.least
+  reaches = closest_root_ge s.a (2 ^ tail f) s.least
 
   fills : q ≤ 2 ^ prec f
-  fills = subst (λ (p : ℕ). q ≤ 2 ^ p) (sym (prec-tail f)) (closest-root-le s.a (suc (tail f)) s.most)
+  fills = subst (λ (p : ℕ). q ≤ 2 ^ p) (sym (prec_tail f)) (closest_root_le s.a (suc (tail f)) s.most)
 
   no_overflow : g < 2 ^ (low f + suc (emax f))
   no_overflow = lt_of_le_of_lt (mul-le-mul_right (2 ^ s.k) fills) (lt_of_le_of_lt (le_of_eq (sym (pow-add 2 (prec f) s.k))) (pow-lt s.room))
 
-  pub root-value : HasValue r false g (2 ^ low f)
-  root-value = units_val f false q s.k no_overflow
+  pub root_value : HasValue r false g (2 ^ low f)
+  root_value = units_val f false q s.k no_overflow
 
   near : Near s.a q
-  near = closest-near s.a (lt_of_lt_of_le (mul-pos (pow_pos (tail f)) (pow_pos (tail f))) s.least)
+  near = closest_near s.a (lt_of_lt_of_le (mul-pos (pow_pos (tail f)) (pow_pos (tail f))) s.least)
 
   abbrev N : ℕ
   N = s.a * 4 ^ s.k
 
-  four-squares : 4 * N ≡ 4 * s.a * (2 ^ s.k * 2 ^ s.k)
-  four-squares = ap (λ (y : ℕ). 4 * (s.a * y)) (four s.k) ∙ sym (mul_assoc 4 s.a (2 ^ s.k * 2 ^ s.k))
+  four_squares : 4 * N ≡ 4 * s.a * (2 ^ s.k * 2 ^ s.k)
+  four_squares = ap (λ (y : ℕ). 4 * (s.a * y)) (four s.k) ∙ sym (mul_assoc 4 s.a (2 ^ s.k * 2 ^ s.k))
 
-  x-value : num x * (2 ^ low f * 2 ^ low f) ≡ N * den x
-  x-value = ap (λ (y : ℕ). num x * y) (sym (four (low f))) ∙ s.value
+  x_value : num x * (2 ^ low f * 2 ^ low f) ≡ N * den x
+  x_value = ap (λ (y : ℕ). num x * y) (sym (four (low f))) ∙ s.value
 
-  r-value : num r * 2 ^ low f ≡ g * den r
-  r-value = value→cross r g (2 ^ low f) root-value
+  r_value : num r * 2 ^ low f ≡ g * den r
+  r_value = value→cross r g (2 ^ low f) root_value
 
   module _ (y : Float) (w : InUnits f y) where
     abbrev z : ℕ
     z = w.m * 2 ^ w.i
 
     steps : Coarse (tail f) s.k z
-    steps = coarse (tail f) s.k w.m w.i (subst (λ (p : ℕ). w.m < 2 ^ p) (prec-tail f) w.few)
+    steps = coarse (tail f) s.k w.m w.i (subst (λ (p : ℕ). w.m < 2 ^ p) (prec_tail f) w.few)
 
-    farther-below : num y * den r < num r * den y → (num y * den r + num r * den y) ^ 2 * den x < 4 * num x * (den y * den r) ^ 2
-    farther-below =
-        fractions-below (2 ^ low f) (num x) (den x) (num y) (den y) (num r) (den r) N z g (pow_pos (low f)) (den_pos x) (den_pos y) (den_pos r) x-value w.value r-value
-        (λ (l : z < g). lt_of_lt_of_le (left (tail f) s.a s.k q z s.least near reaches steps l) (le_of_eq (sym four-squares)))
+    farther_below : num y * den r < num r * den y → (num y * den r + num r * den y) ^ 2 * den x < 4 * num x * (den y * den r) ^ 2
+    farther_below =
+        fractions_below (2 ^ low f) (num x) (den x) (num y) (den y) (num r) (den r) N z g (pow_pos (low f)) (den_pos x) (den_pos y) (den_pos r) x_value w.value r_value
+        (λ (l : z < g). lt_of_lt_of_le (left (tail f) s.a s.k q z s.least near reaches steps l) (le_of_eq (sym four_squares)))
 
-    farther-above : num r * den y < num y * den r → 4 * num x * (den y * den r) ^ 2 < (num y * den r + num r * den y) ^ 2 * den x
-    farther-above =
-        fractions-above (2 ^ low f) (num x) (den x) (num y) (den y) (num r) (den r) N z g (pow_pos (low f)) (den_pos x) (den_pos y) (den_pos r) x-value w.value r-value
-        (λ (l : g < z). lt_of_le_of_lt (le_of_eq four-squares) (right (tail f) s.a s.k q z s.least near reaches steps l))
+    farther_above : num r * den y < num y * den r → 4 * num x * (den y * den r) ^ 2 < (num y * den r + num r * den y) ^ 2 * den x
+    farther_above =
+        fractions_above (2 ^ low f) (num x) (den x) (num y) (den y) (num r) (den r) N z g (pow_pos (low f)) (den_pos x) (den_pos y) (den_pos r) x_value w.value r_value
+        (λ (l : g < z). lt_of_le_of_lt (le_of_eq four_squares) (right (tail f) s.a s.k q z s.least near reaches steps l))
 
-  nearest-units : NearestRoot f x r
-  nearest-units =
-      let p : T (positive r) = positive_of_value r g (2 ^ low f) root-value (mul-pos (lt_of_lt_of_le (pow_pos (tail f)) reaches) (pow_pos s.k)) in
+  nearest_units : NearestRoot f x r
+  nearest_units =
+      let p : T (positive r) = positive_of_value r g (2 ^ low f) root_value (mul-pos (lt_of_lt_of_le (pow_pos (tail f)) reaches) (pow_pos s.k)) in
       record {
-        held = units-fit f false q s.k fills no_overflow;
+        held = units_fit f false q s.k fills no_overflow;
         above_zero = p;
-        below = λ y t o h. let c = zero-lt→cross y r o p h in farther-below y (in-units f y t c.0) c.1;
-        above = λ y t o h. farther-above y (in-units f y t o) (lt→cross r y p o h);
+        below = λ y t o h. let c = zero-lt→cross y r o p h in farther_below y (in_units f y t c.0) c.1;
+        above = λ y t o h. farther_above y (in_units f y t o) (lt→cross r y p o h);
       }
 
-pub sqrt-nearest : (f : Format) (x : Float) → T (fits f x) → T (positive x) → NearestRoot f x (sqrtOf f x)
-sqrt-nearest f x t p = let s = scaled f x t p in subst (NearestRoot f x) (sym (sqrt-units f x p s)) (nearest-units f x s)
+pub sqrt_nearest : (f : Format) (x : Float) → T (fits f x) → T (positive x) → NearestRoot f x (sqrt_of f x)
+sqrt_nearest f x t p = let s = scaled f x t p in subst (NearestRoot f x) (sym (sqrt_units f x p s)) (nearest_units f x s)

@@ -7,77 +7,77 @@ use lib.Ieee.{size, nearest}
 use lib.Ieee.Digits.{size-lt}
 use lib.Ieee.Fits.{nearest-le}
 use lib.Ieee.Nearest.{nearest-ge}
-use Rattle.base.specs.Number.{rootIn, root, closestRoot}
-use Rattle.base.proofs.rounding.Halves.{nearest-below, nearest-above}
+use Rattle.base.specs.Number.{root_in, root, closest_root}
+use Rattle.base.proofs.rounding.Halves.{nearest_below, nearest_above}
 
 -- ---- squares
-pub root-of-lt : (x y : ℕ) → x * x < (y + 1) * (y + 1) → x ≤ y
-root-of-lt x y h = le_of_suc-le-suc (lt_of_not-le (λ (g : suc y ≤ x). not-le_of_lt h (let l : y + 1 ≤ x = omega arith in mul-le-mul l l)))
+pub root_of_lt : (x y : ℕ) → x * x < (y + 1) * (y + 1) → x ≤ y
+root_of_lt x y h = le_of_suc-le-suc (lt_of_not-le (λ (g : suc y ≤ x). not-le_of_lt h (let l : y + 1 ≤ x = omega arith in mul-le-mul l l)))
 
-double-square : (q : ℕ) → 2 * q * (2 * q) ≡ q * q * 4
-double-square q = mul-mul-mul_comm 2 q 2 q ∙ mul_comm 4 (q * q)
+double_square : (q : ℕ) → 2 * q * (2 * q) ≡ q * q * 4
+double_square q = mul-mul-mul_comm 2 q 2 q ∙ mul_comm 4 (q * q)
 
-next-square : (q : ℕ) → (q + 1) * (q + 1) ≡ q * q + 2 * q + 1
-next-square q = simp (mul-add, add-mul) (omega arith)
+next_square : (q : ℕ) → (q + 1) * (q + 1) ≡ q * q + 2 * q + 1
+next_square q = simp (mul-add, add-mul) (omega arith)
 
-odd-square : (q : ℕ) → (2 * q + 1) * (2 * q + 1) ≡ q * q * 4 + q * 4 + 1
-odd-square q = let e = double-square q in next-square (2 * q) ∙ omega arith
+odd_square : (q : ℕ) → (2 * q + 1) * (2 * q + 1) ≡ q * q * 4 + q * 4 + 1
+odd_square q = let e = double_square q in next_square (2 * q) ∙ omega arith
 
 -- ---- the whole part of a root
 abbrev Whole : ℕ → ℕ → Type 0
 Whole n r = (r * r ≤ n) × (n < (r + 1) * (r + 1))
 
-in_whole : (k n : ℕ) → n < 4 ^ k → Whole n (rootIn k n)
-unfolding rootIn
+in_whole : (k n : ℕ) → n < 4 ^ k → Whole n (root_in k n)
+unfolding root_in
 in_whole zero n h = (omega arith, omega arith)
-in_whole (suc k) n h = go (rootIn k (n / 4)) (in_whole k (n / 4) (let e = pow-suc 4 k in omega arith))
+in_whole (suc k) n h = go (root_in k (n / 4)) (in_whole k (n / 4) (let e = pow-suc 4 k in omega arith))
   where
     go : (r : ℕ) → Whole (n / 4) r → Whole n (cond (leb ((2 * r + 1) * (2 * r + 1)) n) (2 * r + 1) (2 * r))
     go r w = pick (leb ((2 * r + 1) * (2 * r + 1)) n) (leb→le ((2 * r + 1) * (2 * r + 1)) n) (nleb→lt ((2 * r + 1) * (2 * r + 1)) n)
       where
         pick : (b : Bool) → (T b → (2 * r + 1) * (2 * r + 1) ≤ n) → (T (not b) → n < (2 * r + 1) * (2 * r + 1)) → Whole n (cond b (2 * r + 1) (2 * r))
         pick true y z =
-            let e = next-square (2 * r + 1) in
-            let f = odd-square r in
-            let g = next-square r in
+            let e = next_square (2 * r + 1) in
+            let f = odd_square r in
+            let g = next_square r in
             (y tt, omega arith)
         pick false y z =
-            let e = double-square r in
+            let e = double_square r in
             (omega arith, z tt)
 
-pub root-whole : (n : ℕ) → Whole n (root n)
+pub root_whole : (n : ℕ) → Whole n (root n)
 unfolding root
-root-whole n = in_whole (size n) n (lt_of_lt_of_le (size-lt n) (le-of-lt-four (size n)))
+root_whole n = in_whole (size n) n (lt_of_lt_of_le (size-lt n) (le_of_lt_four (size n)))
   where
-    le-of-lt-four : (z : ℕ) → 2 ^ z ≤ 4 ^ z
-    le-of-lt-four z = pow-le-pow_left (omega arith) z
+    le_of_lt_four : (z : ℕ) → 2 ^ z ≤ 4 ^ z
+    le_of_lt_four z = pow-le-pow_left (omega arith) z
 
 pub root_is : (n q : ℕ) → q * q ≤ n → n < (q + 1) * (q + 1) → root n ≡ q
-root_is n q lo hi = le_antisymm (root-of-lt (root n) q (lt_of_le_of_lt (root-whole n).0 hi)) (root-of-lt q (root n) (lt_of_le_of_lt lo (root-whole n).1))
+root_is n q lo hi = le_antisymm (root_of_lt (root n) q (lt_of_le_of_lt (root_whole n).0 hi)) (root_of_lt q (root n) (lt_of_le_of_lt lo (root_whole n).1))
 
 -- ---- the nearest whole number
 module _ (a q u : ℕ) (U : 0 < u) where
-  middle : closestRoot (a * u) u ≡ nearest (root a) (compare (a * u * 4) ((2 * root a + 1) * (2 * root a + 1) * u))
-  unfolding closestRoot
+  middle : closest_root (a * u) u ≡ nearest (root a) (compare (a * u * 4) ((2 * root a + 1) * (2 * root a + 1) * u))
+  unfolding closest_root
   middle = ap (λ (n : ℕ). nearest (root n) (compare (a * u * 4) ((2 * root n + 1) * (2 * root n + 1) * u))) (mul-div_cancel a U)
 
-  at-root : root a ≡ q → closestRoot (a * u) u ≡ nearest q (compare (a * u * 4) ((2 * q + 1) * (2 * q + 1) * u))
-  at-root e = middle ∙ ap (λ (r : ℕ). nearest r (compare (a * u * 4) ((2 * r + 1) * (2 * r + 1) * u))) e
+  at_root : root a ≡ q → closest_root (a * u) u ≡ nearest q (compare (a * u * 4) ((2 * q + 1) * (2 * q + 1) * u))
+  at_root e = middle ∙ ap (λ (r : ℕ). nearest r (compare (a * u * 4) ((2 * r + 1) * (2 * r + 1) * u))) e
 
-  pub closest-down : q * q ≤ a → a ≤ q * q + q → closestRoot (a * u) u ≡ q
-  closest-down lo hi =
-      let e = odd-square q in
-      let g = next-square q in
+  pub closest_down : q * q ≤ a → a ≤ q * q + q → closest_root (a * u) u ≡ q
+  closest_down lo hi =
+      let e = odd_square q in
+      let g = next_square q in
       let l : a * 4 < (2 * q + 1) * (2 * q + 1) = omega arith in
-      at-root (root_is a q lo (omega arith))
-      ∙ nearest-below q (a * u * 4) ((2 * q + 1) * (2 * q + 1) * u) (lt_of_le_of_lt (le_of_eq (mul_right_comm a u 4)) (mul-lt-mul_of_pos_right l U))
+      at_root (root_is a q lo (omega arith))
+      ∙ nearest_below q (a * u * 4) ((2 * q + 1) * (2 * q + 1) * u) (lt_of_le_of_lt (le_of_eq (mul_right_comm a u 4)) (mul-lt-mul_of_pos_right l U))
 
-  pub closest-up : q * q + q < a → a < (q + 1) * (q + 1) → closestRoot (a * u) u ≡ q + 1
-  closest-up lo hi =
-      let e = odd-square q in
+  pub closest_up : q * q + q < a → a < (q + 1) * (q + 1) → closest_root (a * u) u ≡ q + 1
+  closest_up lo hi =
+      let e = odd_square q in
       let l : (2 * q + 1) * (2 * q + 1) < a * 4 = omega arith in
-      at-root (root_is a q (omega arith) hi)
-      ∙ nearest-above q (a * u * 4) ((2 * q + 1) * (2 * q + 1) * u) (lt_of_lt_of_le (mul-lt-mul_of_pos_right l U) (le_of_eq (mul_right_comm a 4 u)))
+      at_root (root_is a q (omega arith) hi)
+      ∙ nearest_above q (a * u * 4) ((2 * q + 1) * (2 * q + 1) * u) (lt_of_lt_of_le (mul-lt-mul_of_pos_right l U) (le_of_eq (mul_right_comm a 4 u)))
 
 -- ---- the digits, one a turn: of a, as its two highest of 54 places go, i of them are read
 pub record Turn (a digits q rest i : ℕ) : Type 0 where
@@ -96,16 +96,16 @@ module _ (a d q r i : ℕ) (t : Turn a d q r i) (h : i < 53) where
 
   pub turn_one : q * 4 + 1 ≤ r * 4 + d / 2 ^ 52 → Turn a (d % 2 ^ 52 * 4) (q * 2 + 1) (r * 4 + d / 2 ^ 52 - (q * 4 + 1)) (i + 1)
   turn_one g =
-      let e : (q * 2 + 1) * (q * 2 + 1) ≡ q * q * 4 + q * 4 + 1 = ap (λ (x : ℕ). (x + 1) * (x + 1)) (mul_comm q 2) ∙ odd-square q in
+      let e : (q * 2 + 1) * (q * 2 + 1) ≡ q * q * 4 + q * 4 + 1 = ap (λ (x : ℕ). (x + 1) * (x + 1)) (mul_comm q 2) ∙ odd_square q in
       record { turns = omega arith; places = omega arith; over = omega arith; below = omega (arith, twice); value = omega (arith, more) }
 
-  pub turn-zero : r * 4 + d / 2 ^ 52 < q * 4 + 1 → Turn a (d % 2 ^ 52 * 4) (q * 2) (r * 4 + d / 2 ^ 52) (i + 1)
-  turn-zero g =
+  pub turn_zero : r * 4 + d / 2 ^ 52 < q * 4 + 1 → Turn a (d % 2 ^ 52 * 4) (q * 2) (r * 4 + d / 2 ^ 52) (i + 1)
+  turn_zero g =
       let e : q * 2 * (q * 2) ≡ q * q * 4 = mul-mul-mul_comm q 2 q 2 in
       record { turns = omega arith; places = omega arith; over = omega arith; below = omega (arith, twice); value = omega (arith, more) }
 
-  pub q-lt : q < 2 ^ 52
-  q-lt = lt_of_lt_of_le t.below (pow_mono {i = i} {j = 52} (omega arith))
+  pub q_lt : q < 2 ^ 52
+  q_lt = lt_of_lt_of_le t.below (pow_mono {i = i} {j = 52} (omega arith))
 
 pub first : (a : ℕ) → a < 2 ^ 54 → Turn a a 0 0 0
 first a h = record { turns = omega arith; places = h; over = omega arith; below = omega arith; value = omega arith }
@@ -119,18 +119,18 @@ module _ (a d q r i : ℕ) (t : Turn a d q r i) (h : 53 ≤ i) where
       let l = t.places in
       omega arith
 
-  pub last-lt : q < 2 ^ 53
-  last-lt = lt_of_lt_of_le t.below (pow_mono {i = i} {j = 53} t.turns)
+  pub last_lt : q < 2 ^ 53
+  last_lt = lt_of_lt_of_le t.below (pow_mono {i = i} {j = 53} t.turns)
 
 -- ---- with a root's whole part q and what is left over, the nearest number
 module _ (a q r : ℕ) (e : q * q + r ≡ a * 2 ^ 52) where
-  pub down : r ≤ q → q ≡ closestRoot (a * 2 ^ 52) 1
-  down g = sym (ap (λ (x : ℕ). closestRoot x 1) (sym (mul-one (a * 2 ^ 52))) ∙ closest-down (a * 2 ^ 52) q 1 (omega arith) (omega arith) (omega arith))
+  pub down : r ≤ q → q ≡ closest_root (a * 2 ^ 52) 1
+  down g = sym (ap (λ (x : ℕ). closest_root x 1) (sym (mul-one (a * 2 ^ 52))) ∙ closest_down (a * 2 ^ 52) q 1 (omega arith) (omega arith) (omega arith))
 
-  pub up : q < r → r ≤ 2 * q → q + 1 ≡ closestRoot (a * 2 ^ 52) 1
+  pub up : q < r → r ≤ 2 * q → q + 1 ≡ closest_root (a * 2 ^ 52) 1
   up g o =
-      let n = next-square q in
-      sym (ap (λ (x : ℕ). closestRoot x 1) (sym (mul-one (a * 2 ^ 52))) ∙ closest-up (a * 2 ^ 52) q 1 (omega arith) (omega arith) (omega arith))
+      let n = next_square q in
+      sym (ap (λ (x : ℕ). closest_root x 1) (sym (mul-one (a * 2 ^ 52))) ∙ closest_up (a * 2 ^ 52) q 1 (omega arith) (omega arith) (omega arith))
 
 -- ---- the product of w = h * 2 ^ 27 + l and the next number, taken off in parts
 parts : (h l : ℕ) → (h * 2 ^ 27 + l) * (h * 2 ^ 27 + l) ≡ h * h * 2 ^ 54 + h * l * 2 ^ 28 + l * l
@@ -150,8 +150,8 @@ sizes w h =
 
 -- what is left over w * (w + 1), less one
 module _ (a w high over rest : ℕ) (p : high + w / 2 ^ 27 * (w / 2 ^ 27) * 4 ≡ a) (q : over + w / 2 ^ 27 * (w % 2 ^ 27 * 2 + 1) ≡ high * 2 ^ 25) (r : rest + (w % 2 ^ 27 * (w % 2 ^ 27 + 1) + 1) ≡ over * 2 ^ 27) where
-  taken-off : w * w + (w + 1 + rest) ≡ a * 2 ^ 52
-  taken-off =
+  taken_off : w * w + (w + 1 + rest) ≡ a * 2 ^ 52
+  taken_off =
       let h = w / 2 ^ 27 in
       let l = w % 2 ^ 27 in
       let s : h * 2 ^ 27 + l ≡ w = omega arith in
@@ -161,53 +161,53 @@ module _ (a w high over rest : ℕ) (p : high + w / 2 ^ 27 * (w / 2 ^ 27) * 4 �
       omega arith
 
   -- (w + 1) ^ 2 is above or not, and the middles to both sides of it are not passed
-  pub next-nearest : rest < w * 2 + 2 → w + 1 ≡ closestRoot (a * 2 ^ 52) 1
-  next-nearest h = go (leb w rest) (leb→le w rest) (nleb→lt w rest)
+  pub next_nearest : rest < w * 2 + 2 → w + 1 ≡ closest_root (a * 2 ^ 52) 1
+  next_nearest h = go (leb w rest) (leb→le w rest) (nleb→lt w rest)
     where
-      go : (b : Bool) → (T b → w ≤ rest) → (T (not b) → rest < w) → w + 1 ≡ closestRoot (a * 2 ^ 52) 1
+      go : (b : Bool) → (T b → w ≤ rest) → (T (not b) → rest < w) → w + 1 ≡ closest_root (a * 2 ^ 52) 1
       go true y z =
           let l = y tt in
-          let n = next-square w in
-          let e = taken-off in
+          let n = next_square w in
+          let e = taken_off in
           down a (w + 1) (rest - w) (omega arith) (omega arith)
       go false y z =
           let l = z tt in
-          up a w (w + 1 + rest) taken-off (omega arith) (omega arith)
+          up a w (w + 1 + rest) taken_off (omega arith) (omega arith)
 
 pub moved : (a d q r i q' r' : ℕ) → q' ≡ q → r' ≡ r → Turn a d q r i → Turn a d q' r' i
 moved a d q r i q' r' e f t = subst (λ (x : ℕ). Turn a d x r' i) (sym e) (subst (λ (x : ℕ). Turn a d q x i) (sym f) t)
 
 -- ---- how large the nearest number is
-pub closest-root-le : (a p : ℕ) → a < 2 ^ p * 2 ^ p → closestRoot a 1 ≤ 2 ^ p
-unfolding closestRoot
-closest-root-le a p h =
+pub closest_root_le : (a p : ℕ) → a < 2 ^ p * 2 ^ p → closest_root a 1 ≤ 2 ^ p
+unfolding closest_root
+closest_root_le a p h =
     let e = div-one a in
     let o = pow_pos p in
     let n : 2 ^ p - 1 + 1 ≡ 2 ^ p = omega arith in
-    let l : root (a / 1) ≤ 2 ^ p - 1 = root-of-lt (root (a / 1)) (2 ^ p - 1) (rw n (lt_of_le_of_lt (le_trans (root-whole (a / 1)).0 (le_of_eq e)) h)) in
+    let l : root (a / 1) ≤ 2 ^ p - 1 = root_of_lt (root (a / 1)) (2 ^ p - 1) (rw n (lt_of_le_of_lt (le_trans (root_whole (a / 1)).0 (le_of_eq e)) h)) in
     le_trans (nearest-le (root (a / 1)) (compare (a * 4) ((2 * root (a / 1) + 1) * (2 * root (a / 1) + 1) * 1))) (omega arith)
 
 pub root_ge : (a q : ℕ) → q * q ≤ a → q ≤ root a
-root_ge a q h = root-of-lt q (root a) (lt_of_le_of_lt h (root-whole a).1)
+root_ge a q h = root_of_lt q (root a) (lt_of_le_of_lt h (root_whole a).1)
 
-pub root-lt : (a q : ℕ) → a < q * q → root a < q
-root-lt a q h = lt_of_not-le (λ (g : q ≤ root a). not-le_of_lt h (le_trans (mul-le-mul g g) (root-whole a).0))
+pub root_lt : (a q : ℕ) → a < q * q → root a < q
+root_lt a q h = lt_of_not-le (λ (g : q ≤ root a). not-le_of_lt h (le_trans (mul-le-mul g g) (root_whole a).0))
 
-pub closest-root-ge : (a q : ℕ) → q * q ≤ a → q ≤ closestRoot a 1
-unfolding closestRoot
-closest-root-ge a q h =
+pub closest_root_ge : (a q : ℕ) → q * q ≤ a → q ≤ closest_root a 1
+unfolding closest_root
+closest_root_ge a q h =
     le_trans (root_ge (a / 1) q (le_trans h (le_of_eq (sym (div-one a))))) (nearest-ge (root (a / 1)) (compare (a * 4) ((2 * root (a / 1) + 1) * (2 * root (a / 1) + 1) * 1)))
 
 -- ---- the nearest number to a root sees only the fraction's value
-pub closest-root-scale : (a u : ℕ) → 0 < u → closestRoot (a * u) u ≡ closestRoot a 1
-closest-root-scale a u U = go (leb a (q * q + q)) (leb→le a (q * q + q)) (nleb→lt a (q * q + q))
+pub closest_root_scale : (a u : ℕ) → 0 < u → closest_root (a * u) u ≡ closest_root a 1
+closest_root_scale a u U = go (leb a (q * q + q)) (leb→le a (q * q + q)) (nleb→lt a (q * q + q))
   where
     q : ℕ
     q = root a
 
-    one : closestRoot a 1 ≡ closestRoot (a * 1) 1
-    one = ap (λ (x : ℕ). closestRoot x 1) (sym (mul-one a))
+    one : closest_root a 1 ≡ closest_root (a * 1) 1
+    one = ap (λ (x : ℕ). closest_root x 1) (sym (mul-one a))
 
-    go : (b : Bool) → (T b → a ≤ q * q + q) → (T (not b) → q * q + q < a) → closestRoot (a * u) u ≡ closestRoot a 1
-    go true y z = closest-down a q u U (root-whole a).0 (y tt) ∙ sym (one ∙ closest-down a q 1 (pow_pos 0) (root-whole a).0 (y tt))
-    go false y z = closest-up a q u U (z tt) (root-whole a).1 ∙ sym (one ∙ closest-up a q 1 (pow_pos 0) (z tt) (root-whole a).1)
+    go : (b : Bool) → (T b → a ≤ q * q + q) → (T (not b) → q * q + q < a) → closest_root (a * u) u ≡ closest_root a 1
+    go true y z = closest_down a q u U (root_whole a).0 (y tt) ∙ sym (one ∙ closest_down a q 1 (pow_pos 0) (root_whole a).0 (y tt))
+    go false y z = closest_up a q u U (z tt) (root_whole a).1 ∙ sym (one ∙ closest_up a q 1 (pow_pos 0) (z tt) (root_whole a).1)

@@ -8,32 +8,32 @@ use lib.Ieee.{inf, nan, binary32, odd, of_fields, of_bits, nan_bits}
 use lib.Ieee.Bits.{is_true}
 use lib.Ieee.Scale.{finite}
 use Rattle.base.specs.declared.words.TableWord.TheVariants.{Finite, NotFinite}
-use Rattle.base.specs.Words.{word_at, float_at, tableWordAt}
-use Rattle.base.proofs.rounding.Patterns.{no-nan-bits}
+use Rattle.base.specs.Words.{word_at, float_at, table_word_at}
+use Rattle.base.proofs.rounding.Patterns.{no_nan_bits}
 
 -- ---- one pattern
 
-odd-finite : (d : ℕ) (s : Bool) (q k l : ℕ) → finite (odd d s q k l) ≡ true
+odd_finite : (d : ℕ) (s : Bool) (q k l : ℕ) → finite (odd d s q k l) ≡ true
 unfolding odd
-odd-finite d s zero k l = refl
-odd-finite d s (suc q) k l = refl
+odd_finite d s zero k l = refl
+odd_finite d s (suc q) k l = refl
 
-none-finite : (b s : Bool) → finite (cond b (inf s) nan) ≡ false
-none-finite true s = refl
-none-finite false s = refl
+none_finite : (b s : Bool) → finite (cond b (inf s) nan) ≡ false
+none_finite true s = refl
+none_finite false s = refl
 
 -- by the fields
-by-exponent : (s : Bool) (e t : ℕ) → e ≤ 255 → finite (of_fields binary32 s e t) ≡ ltb e 255
+by_exponent : (s : Bool) (e t : ℕ) → e ≤ 255 → finite (of_fields binary32 s e t) ≡ ltb e 255
 unfolding of_fields
-by-exponent s zero t h = odd-finite 24 s t 0 149
-by-exponent s (suc e) t h = elim (dec_lt (suc e) 255) [
+by_exponent s zero t h = odd_finite 24 s t 0 149
+by_exponent s (suc e) t h = elim (dec_lt (suc e) 255) [
   | yes l ↦
       ap (λ (b : Bool). finite (cond b (cond (eqb t 0) (inf s) nan) (odd 24 s (2 ^ 23 + t) e 149))) (ne_eqb (suc e) 255 (λ q. omega arith))
-      ∙ odd-finite 24 s (2 ^ 23 + t) e 149
+      ∙ odd_finite 24 s (2 ^ 23 + t) e 149
       ∙ sym (lt-ltb (suc e) 255 l)
   | no g ↦
       ap (λ (b : Bool). finite (cond b (cond (eqb t 0) (inf s) nan) (odd 24 s (2 ^ 23 + t) e 149))) (eq-eqb (suc e) 255 (omega (arith, g)))
-      ∙ none-finite (eqb t 0) s
+      ∙ none_finite (eqb t 0) s
       ∙ sym (le-ltb (suc e) 255 (omega (arith, g)))
 ]
 
@@ -48,43 +48,43 @@ same_test a b c d f g = elim (dec_lt a b) [
 ]
 
 -- the sign left out, the pattern is below the infinity's
-pub finite-bits : (x : ℕ) → finite (of_bits binary32 x) ≡ ltb (x % 2 ^ 31) (255 * 2 ^ 23)
+pub finite_bits : (x : ℕ) → finite (of_bits binary32 x) ≡ ltb (x % 2 ^ 31) (255 * 2 ^ 23)
 unfolding of_bits
-finite-bits x =
-    by-exponent _ (x % 2 ^ 31 / 2 ^ 23) (x % 2 ^ 23) (omega arith)
+finite_bits x =
+    by_exponent _ (x % 2 ^ 31 / 2 ^ 23) (x % 2 ^ 23) (omega arith)
     ∙ same_test (x % 2 ^ 31 / 2 ^ 23) 255 (x % 2 ^ 31) (255 * 2 ^ 23) (λ l. omega arith) (λ l. omega arith)
 
-pub finite-sum : (x : ℕ) → finite (of_bits binary32 x) ≡ ltb (x % 2 ^ 31 + 2 ^ 23) (2 ^ 31)
-finite-sum x =
-    finite-bits x ∙ same_test (x % 2 ^ 31) (255 * 2 ^ 23) (x % 2 ^ 31 + 2 ^ 23) (2 ^ 31) (λ l. omega arith) (λ l. omega arith)
+pub finite_sum : (x : ℕ) → finite (of_bits binary32 x) ≡ ltb (x % 2 ^ 31 + 2 ^ 23) (2 ^ 31)
+finite_sum x =
+    finite_bits x ∙ same_test (x % 2 ^ 31) (255 * 2 ^ 23) (x % 2 ^ 31 + 2 ^ 23) (2 ^ 31) (λ l. omega arith) (λ l. omega arith)
 
 -- and so is no NaN's
-pub finite-no-nan : (x : ℕ) → T (finite (of_bits binary32 x)) → T (not (nan_bits binary32 x))
-finite-no-nan x t =
-    let l = ltb-true (x % 2 ^ 31) (255 * 2 ^ 23) (sym (finite-bits x) ∙ is_true (finite (of_bits binary32 x)) t) in
-    no-nan-bits binary32 x (omega arith)
+pub finite_no_nan : (x : ℕ) → T (finite (of_bits binary32 x)) → T (not (nan_bits binary32 x))
+finite_no_nan x t =
+    let l = ltb-true (x % 2 ^ 31) (255 * 2 ^ 23) (sym (finite_bits x) ∙ is_true (finite (of_bits binary32 x)) t) in
+    no_nan_bits binary32 x (omega arith)
 
 -- ---- a word of a table
 
 module _ (s : List ℕ) (at x : ℕ) (e : x ≡ word_at s at) where
   by_word : finite (float_at s at) ≡ ltb (x % 2 ^ 31) (255 * 2 ^ 23)
   unfolding float_at
-  by_word = ap (λ (w : ℕ). finite (of_bits binary32 w)) (sym e) ∙ finite-bits x
+  by_word = ap (λ (w : ℕ). finite (of_bits binary32 w)) (sym e) ∙ finite_bits x
 
-  pub told-finite : x % 2 ^ 31 < 255 * 2 ^ 23 → Finite (of_bits binary32 x) ≡ tableWordAt s at
-  unfolding tableWordAt float_at
-  told-finite h =
+  pub told_finite : x % 2 ^ 31 < 255 * 2 ^ 23 → Finite (of_bits binary32 x) ≡ table_word_at s at
+  unfolding table_word_at float_at
+  told_finite h =
       ap (λ (w : ℕ). Finite (of_bits binary32 w)) e
       ∙ sym (ap (λ (b : Bool). cond b (Finite (float_at s at)) NotFinite) (by_word ∙ lt-ltb (x % 2 ^ 31) (255 * 2 ^ 23) h))
 
-  pub told-other : 255 * 2 ^ 23 ≤ x % 2 ^ 31 → NotFinite ≡ tableWordAt s at
-  unfolding tableWordAt
-  told-other h = sym (ap (λ (b : Bool). cond b (Finite (float_at s at)) NotFinite) (by_word ∙ le-ltb (x % 2 ^ 31) (255 * 2 ^ 23) h))
+  pub told_other : 255 * 2 ^ 23 ≤ x % 2 ^ 31 → NotFinite ≡ table_word_at s at
+  unfolding table_word_at
+  told_other h = sym (ap (λ (b : Bool). cond b (Finite (float_at s at)) NotFinite) (by_word ∙ le-ltb (x % 2 ^ 31) (255 * 2 ^ 23) h))
 
 -- ---- several
 
-or-below : (a b : ℕ) → bit_or a b < 2 ^ 31 → (a < 2 ^ 31) × (b < 2 ^ 31)
-or-below a b h =
+or_below : (a b : ℕ) → bit_or a b < 2 ^ 31 → (a < 2 ^ 31) × (b < 2 ^ 31)
+or_below a b h =
     let e = or_add_and a b in
     let l = and_le_l a b in
     let r = and_le_r a b in
@@ -94,7 +94,7 @@ or-below a b h =
 pub gathered : (a b : ℕ) → ltb (bit_or a b) (2 ^ 31) ≡ (ltb a (2 ^ 31) && ltb b (2 ^ 31))
 gathered a b = elim (dec_lt (bit_or a b) (2 ^ 31)) [
   | yes l ↦
-      let both = or-below a b l in
+      let both = or_below a b l in
       lt-ltb (bit_or a b) (2 ^ 31) l ∙ sym ((λ i. lt-ltb a (2 ^ 31) both.0 i && lt-ltb b (2 ^ 31) both.1 i))
   | no n ↦ le-ltb (bit_or a b) (2 ^ 31) (omega (arith, n)) ∙ sym (some (ltb a (2 ^ 31)) refl (ltb b (2 ^ 31)) refl n)
 ]

@@ -12,24 +12,24 @@ use lib.Ieee.Nearest.{closest}
 
 -- ---- `nearest` by an order
 module _ (q a b : ℕ) where
-  pub nearest-below : a < b → nearest q (compare a b) ≡ q
-  nearest-below h = go (compare a b) (le→leb a b (le_of_lt h)) (λ (t : T (compare_is_eq (compare a b))). lt_irrefl b (subst (λ (x : ℕ). x < b) (eqb→eq a b t) h))
+  pub nearest_below : a < b → nearest q (compare a b) ≡ q
+  nearest_below h = go (compare a b) (le→leb a b (le_of_lt h)) (λ (t : T (compare_is_eq (compare a b))). lt_irrefl b (subst (λ (x : ℕ). x < b) (eqb→eq a b t) h))
     where
       go : (o : Ordering) → T (is_le o) → (T (compare_is_eq o) → ⊥) → nearest q o ≡ q
       go Ordering.lt t n = refl
       go Ordering.eq t n = absurd (n tt)
       go Ordering.gt t n = absurd t
 
-  pub nearest-at : a ≡ b → nearest q (compare a b) ≡ q + q % 2
-  nearest-at e = go (compare a b) (eq→eqb e)
+  pub nearest_at : a ≡ b → nearest q (compare a b) ≡ q + q % 2
+  nearest_at e = go (compare a b) (eq→eqb e)
     where
       go : (o : Ordering) → T (compare_is_eq o) → nearest q o ≡ q + q % 2
       go Ordering.lt t = absurd t
       go Ordering.eq t = refl
       go Ordering.gt t = absurd t
 
-  pub nearest-above : b < a → nearest q (compare a b) ≡ q + 1
-  nearest-above h = go (compare a b) (lt→nleb a b h)
+  pub nearest_above : b < a → nearest q (compare a b) ≡ q + 1
+  nearest_above h = go (compare a b) (lt→nleb a b h)
     where
       go : (o : Ordering) → T (not (is_le o)) → nearest q o ≡ q + 1
       go Ordering.lt t = absurd t
@@ -63,16 +63,16 @@ module _ (m h d : ℕ) (H : 0 < h) (e : d ≡ 2 * h) where
   moves : q * d + d ≤ m + (h - 1) + q % 2 → (m + (h - 1) + q % 2) / d ≡ q + 1
   moves l = quotient_is (m + (h - 1) + q % 2) d (suc q) (omega arith) (omega (arith, next)) (omega (arith, whole, rest_lt, after)) ∙ sym (add-one q)
 
-  at-half : (q % 2 ≡ 0) ⊎ (q % 2 ≡ 1) → m % d * 2 ≡ d → (m + (h - 1) + q % 2) / d ≡ q + q % 2
-  at-half (inl z) t = stays (omega (arith, whole)) ∙ omega arith
-  at-half (inr z) t = moves (omega (arith, whole)) ∙ omega arith
+  at_half : (q % 2 ≡ 0) ⊎ (q % 2 ≡ 1) → m % d * 2 ≡ d → (m + (h - 1) + q % 2) / d ≡ q + q % 2
+  at_half (inl z) t = stays (omega (arith, whole)) ∙ omega arith
+  at_half (inr z) t = moves (omega (arith, whole)) ∙ omega arith
 
   pub half_up : (m + (h - 1) + q % 2) / d ≡ closest m d
   half_up = elim (dec_lt (m % d * 2) d) [
-    | yes l ↦ stays (omega (arith, whole)) ∙ sym (nearest-below q (m % d * 2) d l)
+    | yes l ↦ stays (omega (arith, whole)) ∙ sym (nearest_below q (m % d * 2) d l)
     | no l ↦ elim (dec_lt d (m % d * 2)) [
-      | yes g ↦ moves (omega (arith, whole)) ∙ sym (nearest-above q (m % d * 2) d g)
-      | no g ↦ (let t : m % d * 2 ≡ d = omega arith in at-half (parity q) t ∙ sym (nearest-at q (m % d * 2) d t))
+      | yes g ↦ moves (omega (arith, whole)) ∙ sym (nearest_above q (m % d * 2) d g)
+      | no g ↦ (let t : m % d * 2 ≡ d = omega arith in at_half (parity q) t ∙ sym (nearest_at q (m % d * 2) d t))
     ]
   ]
     where
@@ -87,8 +87,8 @@ module _ (n : ℕ) (N : 0 < n) (W : n < 64) where
   half_is : half_of n ≡ 2 ^ (n - 1)
   half_is = ap (λ (x : ℕ). x % 2 ^ 64) (one-mul (2 ^ (n - 1))) ∙ mod-eq_of_lt (pow-lt {i = n - 1} {j = 64} (omega arith))
 
-  pub half-small : half_of n ≤ 2 ^ 62
-  half-small = rw half_is (pow_mono {i = n - 1} {j = 62} (omega arith))
+  pub half_small : half_of n ≤ 2 ^ 62
+  half_small = rw half_is (pow_mono {i = n - 1} {j = 62} (omega arith))
 
   pub half_pos : 0 < half_of n
   half_pos = rw half_is (pow_pos (n - 1))

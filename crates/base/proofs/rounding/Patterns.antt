@@ -8,12 +8,12 @@ use lib.Ieee.{Float, nan, inf, fin, Format, binary32, binary64, prec, low, up, d
 use lib.Ieee.Fits.{inf-fits, up_pos}
 use lib.Ieee.Compare.{differs_from_itself, nan_differs}
 use lib.Ieee.Bits.{is_true, is_false, of_bits-to_bits, to_bits-lt, nan_bits_is, nan_bits_above}
-use Rattle.base.specs.Number.{negative, absOf}
+use Rattle.base.specs.Number.{negative, abs_of}
 use Rattle.base.proofs.order.Order.{nought, le→cross, cross→le}
 
 -- the test `x != x`
-pub is-nan : (x : Float) → ne x x ≡ true → x ≡ nan
-is-nan x e = differs_from_itself x (subst T (sym e) tt)
+pub is_nan_law : (x : Float) → ne x x ≡ true → x ≡ nan
+is_nan_law x e = differs_from_itself x (subst T (sym e) tt)
 
 pub no_nan : (x : Float) → ne x x ≡ false → T (not (is_nan x))
 unfolding is_nan
@@ -22,12 +22,12 @@ no_nan (inf s) e = tt
 no_nan (fin s m d) e = tt
 
 -- the magnitude's bits of a float that is no NaN
-pub magnitude-le : (f : Format) (x : Float) → T (fits f x) → T (not (is_nan x)) → to_bits f x % top f ≤ ones f * hid f
-magnitude-le f x h n =
+pub magnitude_le : (f : Format) (x : Float) → T (fits f x) → T (not (is_nan x)) → to_bits f x % top f ≤ ones f * hid f
+magnitude_le f x h n =
     nltb→le (ones f * hid f) (to_bits f x % top f) (subst (λ (b : Bool). T (not b)) (sym (ap is_nan (of_bits-to_bits f x h)) ∙ sym (nan_bits_is f (to_bits f x)) ∙ nan_bits_above f (to_bits f x)) n)
 
-pub no-nan-bits : (f : Format) (n : ℕ) → n % top f ≤ ones f * hid f → T (not (nan_bits f n))
-no-nan-bits f n h = subst (λ (b : Bool). T (not b)) (sym (nan_bits_above f n)) (le→nltb (ones f * hid f) (n % top f) h)
+pub no_nan_bits : (f : Format) (n : ℕ) → n % top f ≤ ones f * hid f → T (not (nan_bits f n))
+no_nan_bits f n h = subst (λ (b : Bool). T (not b)) (sym (nan_bits_above f n)) (le→nltb (ones f * hid f) (n % top f) h)
 
 -- 0 / 0
 pub no_number : (f : Format) → div f (of_bits f 0) (of_bits f 0) ≡ nan
@@ -35,9 +35,9 @@ unfolding div of_bits
 no_number binary32 = refl
 no_number binary64 = refl
 
-pub nan-bits : (f : Format) (n : ℕ) → ones f * hid f < n % top f → nan ≡ of_bits f n
+pub nan_bits_law : (f : Format) (n : ℕ) → ones f * hid f < n % top f → nan ≡ of_bits f n
 unfolding is_nan
-nan-bits f n h = go (of_bits f n) (subst T (sym (nan_bits_above f n) ∙ nan_bits_is f n) (lt→ltb (ones f * hid f) (n % top f) h))
+nan_bits_law f n h = go (of_bits f n) (subst T (sym (nan_bits_above f n) ∙ nan_bits_is f n) (lt→ltb (ones f * hid f) (n % top f) h))
   where
     go : (x : Float) → T (is_nan x) → nan ≡ x
     go nan t = refl
@@ -49,9 +49,9 @@ module _ (f : Format) (n : ℕ) (h : top f + n < 2 * top f) where
   signless : n < top f
   signless = omega arith
 
-  signless-bits : (s : Bool) → (cond s (top f) 0 + n) % top f ≡ n
-  signless-bits true = add-mod_left (top f) n ∙ mod-eq_of_lt signless
-  signless-bits false = ap (λ (x : ℕ). x % top f) (zero-add n) ∙ mod-eq_of_lt signless
+  signless_bits : (s : Bool) → (cond s (top f) 0 + n) % top f ≡ n
+  signless_bits true = add-mod_left (top f) n ∙ mod-eq_of_lt signless
+  signless_bits false = ap (λ (x : ℕ). x % top f) (zero-add n) ∙ mod-eq_of_lt signless
 
 -- the digits' and the exponent's bits of a finite number
 abbrev body : Format → ℕ → ℤ → ℕ
@@ -61,69 +61,69 @@ split : (f : Format) (s : Bool) (m : ℕ) (e : ℤ) → to_bits f (fin s m e) �
 unfolding to_bits
 split f s m e = add_assoc (cond s (top f) 0) _ _
 
-fits-either : (f : Format) (s t : Bool) (m : ℕ) (e : ℤ) → T (fits f (fin s m e)) → T (fits f (fin t m e))
+fits_either : (f : Format) (s t : Bool) (m : ℕ) (e : ℤ) → T (fits f (fin s m e)) → T (fits f (fin t m e))
 unfolding fits
-fits-either f s t zero e h = h
-fits-either f s t (suc m) e h = h
+fits_either f s t zero e h = h
+fits_either f s t (suc m) e h = h
 
-body-lt : (f : Format) (s : Bool) (m : ℕ) (e : ℤ) → T (fits f (fin s m e)) → top f + body f m e < 2 * top f
-body-lt f s m e h = subst (λ (b : ℕ). b < 2 * top f) (split f true m e) (to_bits-lt f (fin true m e) (fits-either f s true m e h))
+body_lt : (f : Format) (s : Bool) (m : ℕ) (e : ℤ) → T (fits f (fin s m e)) → top f + body f m e < 2 * top f
+body_lt f s m e h = subst (λ (b : ℕ). b < 2 * top f) (split f true m e) (to_bits-lt f (fin true m e) (fits_either f s true m e h))
 
 -- the bits of a size, under either sign
 module _ (f : Format) (s t : Bool) where
-  signed-fin : (m : ℕ) (e : ℤ) → T (fits f (fin s m e)) → of_bits f (cond t (top f) 0 + to_bits f (fin s m e) % top f) ≡ fin t m e
-  signed-fin m e h =
-      let rest : to_bits f (fin s m e) % top f ≡ body f m e = ap (λ (b : ℕ). b % top f) (split f s m e) ∙ signless-bits f (body f m e) (body-lt f s m e h) s in
-      ap (of_bits f) (ap (λ (b : ℕ). cond t (top f) 0 + b) rest ∙ sym (split f t m e)) ∙ of_bits-to_bits f (fin t m e) (fits-either f s t m e h)
+  signed_fin : (m : ℕ) (e : ℤ) → T (fits f (fin s m e)) → of_bits f (cond t (top f) 0 + to_bits f (fin s m e) % top f) ≡ fin t m e
+  signed_fin m e h =
+      let rest : to_bits f (fin s m e) % top f ≡ body f m e = ap (λ (b : ℕ). b % top f) (split f s m e) ∙ signless_bits f (body f m e) (body_lt f s m e h) s in
+      ap (of_bits f) (ap (λ (b : ℕ). cond t (top f) 0 + b) rest ∙ sym (split f t m e)) ∙ of_bits-to_bits f (fin t m e) (fits_either f s t m e h)
 
-  signed-inf : of_bits f (cond t (top f) 0 + to_bits f (inf s) % top f) ≡ inf t
+  signed_inf : of_bits f (cond t (top f) 0 + to_bits f (inf s) % top f) ≡ inf t
   unfolding to_bits
-  signed-inf =
+  signed_inf =
       let l : top f + ones f * hid f < 2 * top f = to_bits-lt f (inf true) (inf-fits f true) in
-      ap (λ (b : ℕ). of_bits f (cond t (top f) 0 + b)) (signless-bits f (ones f * hid f) l s) ∙ of_bits-to_bits f (inf t) (inf-fits f t)
+      ap (λ (b : ℕ). of_bits f (cond t (top f) 0 + b)) (signless_bits f (ones f * hid f) l s) ∙ of_bits-to_bits f (inf t) (inf-fits f t)
 
-pub signed-size : (f : Format) (t : Bool) (x : Float) → T (fits f x) → T (not (is_nan x)) → of_bits f (cond t (top f) 0 + to_bits f x % top f) ≡ cond t (neg (absOf x)) (absOf x)
-unfolding absOf negative neg is_nan
-signed-size f t nan h n = absurd n
-signed-size f true (inf true) h n = signed-inf f true true
-signed-size f true (inf false) h n = signed-inf f false true
-signed-size f true (fin true m e) h n = signed-fin f true true m e h
-signed-size f true (fin false m e) h n = signed-fin f false true m e h
-signed-size f false (inf true) h n = signed-inf f true false
-signed-size f false (inf false) h n = signed-inf f false false
-signed-size f false (fin true m e) h n = signed-fin f true false m e h
-signed-size f false (fin false m e) h n = signed-fin f false false m e h
+pub signed_size : (f : Format) (t : Bool) (x : Float) → T (fits f x) → T (not (is_nan x)) → of_bits f (cond t (top f) 0 + to_bits f x % top f) ≡ cond t (neg (abs_of x)) (abs_of x)
+unfolding abs_of negative neg is_nan
+signed_size f t nan h n = absurd n
+signed_size f true (inf true) h n = signed_inf f true true
+signed_size f true (inf false) h n = signed_inf f false true
+signed_size f true (fin true m e) h n = signed_fin f true true m e h
+signed_size f true (fin false m e) h n = signed_fin f false true m e h
+signed_size f false (inf true) h n = signed_inf f true false
+signed_size f false (inf false) h n = signed_inf f false false
+signed_size f false (fin true m e) h n = signed_fin f true false m e h
+signed_size f false (fin false m e) h n = signed_fin f false false m e h
 
-pub abs-bits : (f : Format) (x : Float) → T (fits f x) → T (not (is_nan x)) → of_bits f (to_bits f x % top f) ≡ absOf x
-abs-bits f x h n = ap (of_bits f) (sym (zero-add (to_bits f x % top f))) ∙ signed-size f false x h n
+pub abs_bits : (f : Format) (x : Float) → T (fits f x) → T (not (is_nan x)) → of_bits f (to_bits f x % top f) ≡ abs_of x
+abs_bits f x h n = ap (of_bits f) (sym (zero-add (to_bits f x % top f))) ∙ signed_size f false x h n
 
-pub abs-nan : (x : Float) → x ≡ nan → x ≡ absOf x
-unfolding absOf negative
-abs-nan x e = e ∙ ap absOf (sym e)
+pub abs_nan : (x : Float) → x ≡ nan → x ≡ abs_of x
+unfolding abs_of negative
+abs_nan x e = e ∙ ap abs_of (sym e)
 
-pub abs-no-nan : (f : Format) (x : Float) → T (fits f x) → T (not (is_nan x)) → T (not (nan_bits f (to_bits f x % top f)))
-abs-no-nan f x h n = no-nan-bits f (to_bits f x % top f) (le_trans (mod-le (to_bits f x % top f) (top f)) (magnitude-le f x h n))
+pub abs_no_nan : (f : Format) (x : Float) → T (fits f x) → T (not (is_nan x)) → T (not (nan_bits f (to_bits f x % top f)))
+abs_no_nan f x h n = no_nan_bits f (to_bits f x % top f) (le_trans (mod-le (to_bits f x % top f) (top f)) (magnitude_le f x h n))
 
 -- ---- not below zero: the bits are at most those of -0
-no-digits : (f : Format) → (size 0 - prec f) * hid f + 0 / 2 ^ (size 0 - prec f) ≡ 0
+no_digits : (f : Format) → (size 0 - prec f) * hid f + 0 / 2 ^ (size 0 - prec f) ≡ 0
 unfolding size
-no-digits binary32 = refl
-no-digits binary64 = refl
+no_digits binary32 = refl
+no_digits binary64 = refl
 
-body-zero : (f : Format) (e : ℤ) → body f 0 e ≡ 0
-body-zero f e = ap (λ (n : ℕ). (size n - prec f) * hid f + n / 2 ^ (size n - prec f)) none ∙ no-digits f
+body_zero : (f : Format) (e : ℤ) → body f 0 e ≡ 0
+body_zero f e = ap (λ (n : ℕ). (size n - prec f) * hid f + n / 2 ^ (size n - prec f)) none ∙ no_digits f
   where
     none : 0 * up e * 2 ^ low f / down e ≡ 0
     none = ap (λ (n : ℕ). n * 2 ^ low f / down e) (zero-mul (up e)) ∙ ap (λ (n : ℕ). n / down e) (zero-mul (2 ^ low f)) ∙ zero-div (down e)
 
-minus-zero : (f : Format) → of_bits f (top f + 0) ≡ fin true 0 (pos 0)
+minus_zero : (f : Format) → of_bits f (top f + 0) ≡ fin true 0 (pos 0)
 unfolding of_bits
-minus-zero binary32 = refl
-minus-zero binary64 = refl
+minus_zero binary32 = refl
+minus_zero binary64 = refl
 
-body-pos : (f : Format) (m : ℕ) (e : ℤ) → T (fits f (fin true (suc m) e)) → 0 < body f (suc m) e
-body-pos f m e h = elim (eq-zero-or-pos (body f (suc m) e)) [
-  | inl z ↦ absurd (subst (λ (x : Float). T (is_zero x)) (sym (minus-zero f) ∙ ap (of_bits f) (sym (split f true (suc m) e ∙ ap (λ (b : ℕ). top f + b) z)) ∙ of_bits-to_bits f (fin true (suc m) e) h) tt)
+body_pos : (f : Format) (m : ℕ) (e : ℤ) → T (fits f (fin true (suc m) e)) → 0 < body f (suc m) e
+body_pos f m e h = elim (eq-zero-or-pos (body f (suc m) e)) [
+  | inl z ↦ absurd (subst (λ (x : Float). T (is_zero x)) (sym (minus_zero f) ∙ ap (of_bits f) (sym (split f true (suc m) e ∙ ap (λ (b : ℕ). top f + b) z)) ∙ of_bits-to_bits f (fin true (suc m) e) h) tt)
   | inr p ↦ p
 ]
   where
@@ -133,26 +133,26 @@ body-pos f m e h = elim (eq-zero-or-pos (body f (suc m) e)) [
     is_zero (fin s zero d) = true
     is_zero (fin s (suc k) d) = false
 
-inf-not-below : (f : Format) (s : Bool) → le nought (inf s) ≡ leb (to_bits f (inf s)) (top f)
+inf_not_below : (f : Format) (s : Bool) → le nought (inf s) ≡ leb (to_bits f (inf s)) (top f)
 unfolding le to_bits
-inf-not-below binary32 true = refl
-inf-not-below binary32 false = refl
-inf-not-below binary64 true = refl
-inf-not-below binary64 false = refl
+inf_not_below binary32 true = refl
+inf_not_below binary32 false = refl
+inf_not_below binary64 true = refl
+inf_not_below binary64 false = refl
 
-pub not-below-bits : (f : Format) (x : Float) → T (fits f x) → T (not (is_nan x)) → le nought x ≡ leb (to_bits f x) (top f)
+pub not_below_bits : (f : Format) (x : Float) → T (fits f x) → T (not (is_nan x)) → le nought x ≡ leb (to_bits f x) (top f)
 unfolding is_nan
-not-below-bits f nan h n = absurd n
-not-below-bits f (inf s) h n = inf-not-below f s
-not-below-bits f (fin false m e) h n =
+not_below_bits f nan h n = absurd n
+not_below_bits f (inf s) h n = inf_not_below f s
+not_below_bits f (fin false m e) h n =
     is_true (le nought (fin false m e)) (cross→le nought (fin false m e) tt tt (omega (arith, zero-mul (down e))))
-    ∙ sym (is_true (leb (to_bits f (fin false m e)) (top f)) (subst (λ (b : ℕ). T (leb b (top f))) (sym (split f false m e)) (le→leb (0 + body f m e) (top f) (omega (arith, body-lt f false m e h)))))
-not-below-bits f (fin true zero e) h n =
+    ∙ sym (is_true (leb (to_bits f (fin false m e)) (top f)) (subst (λ (b : ℕ). T (leb b (top f))) (sym (split f false m e)) (le→leb (0 + body f m e) (top f) (omega (arith, body_lt f false m e h)))))
+not_below_bits f (fin true zero e) h n =
     is_true (le nought (fin true 0 e)) (cross→le nought (fin true 0 e) tt tt (omega (arith, zero-mul (down e), zero-mul (up e))))
-    ∙ sym (is_true (leb (to_bits f (fin true 0 e)) (top f)) (subst (λ (b : ℕ). T (leb b (top f))) (sym (split f true 0 e)) (le→leb (top f + body f 0 e) (top f) (omega (arith, body-zero f e)))))
-not-below-bits f (fin true (suc m) e) h n =
+    ∙ sym (is_true (leb (to_bits f (fin true 0 e)) (top f)) (subst (λ (b : ℕ). T (leb b (top f))) (sym (split f true 0 e)) (le→leb (top f + body f 0 e) (top f) (omega (arith, body_zero f e)))))
+not_below_bits f (fin true (suc m) e) h n =
     is_false (le nought (fin true (suc m) e)) (not_T (le nought (fin true (suc m) e)) (λ t. omega (arith, le→cross nought (fin true (suc m) e) tt tt t, zero-mul (down e), mul-pos (zero-lt-suc m) (up_pos e))))
-    ∙ sym (is_false (leb (to_bits f (fin true (suc m) e)) (top f)) (subst (λ (b : ℕ). T (not (leb b (top f)))) (sym (split f true (suc m) e)) (lt→nleb (top f + body f (suc m) e) (top f) (omega (arith, body-pos f m e h)))))
+    ∙ sym (is_false (leb (to_bits f (fin true (suc m) e)) (top f)) (subst (λ (b : ℕ). T (not (leb b (top f)))) (sym (split f true (suc m) e)) (lt→nleb (top f + body f (suc m) e) (top f) (omega (arith, body_pos f m e h)))))
 
 -- ---- what owning a float tells of its bits
 module _ (f : Format) (x : Float) (own : fits f x ≡ true) where
@@ -169,4 +169,4 @@ module _ (f : Format) (x : Float) (own : fits f x ≡ true) where
   by_bits n e = sym read_back ∙ ap (of_bits f) e
 
   pub capped : ne x x ≡ false → to_bits f x % top f ≤ ones f * hid f
-  capped e = magnitude-le f x held (no_nan x e)
+  capped e = magnitude_le f x held (no_nan x e)

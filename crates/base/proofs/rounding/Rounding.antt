@@ -1,7 +1,7 @@
 -- The bit pattern of a rounded fraction: what `round` gives, from integers that a program can hold.
 -- A fraction a / c that is m * 2 ^ k / 2 ^ n of the format's smallest values, where m / 2 ^ n has
 -- as many digits as the format keeps (`Keeps`), rounds to the pattern k * hid + closest m (2 ^ n),
--- the sign aside (`round-bits`), or to an infinity (`round-inf`). Assumes nothing.
+-- the sign aside (`round_bits`), or to an infinity (`round_inf`). Assumes nothing.
 use Rattle.std.proofs.Common.{◌≡◌, ℕ, suc, ◌+◌, ◌-◌, ◌*◌, ◌/◌, ◌%◌, ◌^◌, ◌<◌, ◌≤◌, Bool, true, false, cond, not, T, ltb, ◌⊎◌, sym, refl, ap, ◌∙◌, subst, inl, inr, le_trans, le_of_eq, lt_of_lt_of_le, le_of_suc-le-suc, lt_of_le_of_lt, add-zero, add_assoc, mul-le-mul_right, mul_assoc, lt-suc_self, mul_comm, le_antisymm, eq-or-lt_of_le, mul-pos, lt_of_not-le, le-div_iff_mul-le, mul-one, mul_right_comm, not-le_of_lt, le_of_mul-le-mul_right, div-one, mul-div_cancel, mul_left_comm, arith, ltb→lt, nltb→le, pow_pos, pow_mono, pow-add, shl_lt, shr_lt}
 use Prim.Native.Nat.{compare}
 use native.Mathlib.Nat.{pow-succ'}
@@ -20,8 +20,8 @@ shifts m x i n k l e =
     mul_assoc (m * 2 ^ x) (2 ^ i) (2 ^ n) ∙ mul_assoc m (2 ^ x) (2 ^ i * 2 ^ n) ∙ ap (λ (z : ℕ). m * z) (sym (mul_assoc (2 ^ x) (2 ^ i) (2 ^ n)) ∙ ap (λ (z : ℕ). z * 2 ^ n) (sym (pow-add 2 x i)) ∙ sym (pow-add 2 (x + i) n) ∙ ap (λ (z : ℕ). 2 ^ z) e ∙ pow-add 2 k l) ∙ sym (mul_assoc m (2 ^ k) (2 ^ l))
 
 -- ---- how many digits a number has
-pub size-gt : (n j : ℕ) → 2 ^ j ≤ n → j < size n
-size-gt n j h = lt_of_not-le (λ (g : size n ≤ j). not-le_of_lt (lt_of_lt_of_le (size-lt n) (pow_mono g)) h)
+pub size_gt : (n j : ℕ) → 2 ^ j ≤ n → j < size n
+size_gt n j h = lt_of_not-le (λ (g : size n ≤ j). not-le_of_lt (lt_of_lt_of_le (size-lt n) (pow_mono g)) h)
 
 -- with suc p digits kept of m * 2 ^ k / 2 ^ n, k are dropped
 abbrev pub Keeps : ℕ → ℕ → ℕ → ℕ → Type 0
@@ -36,24 +36,24 @@ just z p k h g = omega arith
 swap : (a n k : ℕ) → 2 ^ (a + n) * 2 ^ k ≡ 2 ^ (a + k) * 2 ^ n
 swap a n k = ap (λ (x : ℕ). x * 2 ^ k) (pow-add 2 a n) ∙ mul_right_comm (2 ^ a) (2 ^ n) (2 ^ k) ∙ ap (λ (x : ℕ). x * 2 ^ n) (sym (pow-add 2 a k))
 
-drop-is : (p m n k : ℕ) → Keeps p m n k → size (m * 2 ^ k / 2 ^ n) - suc p ≡ k
-drop-is p m n k (h, inl e) =
+drop_is : (p m n k : ℕ) → Keeps p m n k → size (m * 2 ^ k / 2 ^ n) - suc p ≡ k
+drop_is p m n k (h, inl e) =
     ap (λ (j : ℕ). size (m * 2 ^ j / 2 ^ n) - suc p) e
     ∙ ap (λ (x : ℕ). size (x / 2 ^ n) - suc p) (mul-one m)
     ∙ few (size (m / 2 ^ n)) (suc p) (size-le (m / 2 ^ n) (suc p) (shr_lt (suc p) n h))
     ∙ sym e
-drop-is p m n k (h, inr g) =
+drop_is p m n k (h, inr g) =
     let z = m * 2 ^ k / 2 ^ n in
     let lo : 2 ^ (p + k) ≤ z = (le-div_iff_mul-le (pow_pos n)).1 (le_trans (le_of_eq (sym (swap p n k))) (mul-le-mul_right (2 ^ k) g)) in
     let up' : m * 2 ^ k < 2 ^ (suc p + k + n) = lt_of_lt_of_le (shl_lt (suc p + n) k h) (le_of_eq (ap (λ (x : ℕ). 2 ^ x) (omega arith))) in
-    just (size z) p k (size-le z (suc p + k) (shr_lt (suc p + k) n up')) (size-gt z (p + k) lo)
+    just (size z) p k (size-le z (suc p + k) (shr_lt (suc p + k) n up')) (size_gt z (p + k) lo)
 
 -- ---- the whole number that is kept
-pub closest-le : (p m n : ℕ) → m < 2 ^ (p + n) → closest m (2 ^ n) ≤ 2 ^ p
-closest-le p m n h = le_trans (nearest-le (m / 2 ^ n) (compare (m % 2 ^ n * 2) (2 ^ n))) (shr_lt p n h)
+pub closest_le : (p m n : ℕ) → m < 2 ^ (p + n) → closest m (2 ^ n) ≤ 2 ^ p
+closest_le p m n h = le_trans (nearest-le (m / 2 ^ n) (compare (m % 2 ^ n * 2) (2 ^ n))) (shr_lt p n h)
 
-pub closest-ge : (p m n : ℕ) → 2 ^ (p + n) ≤ m → 2 ^ p ≤ closest m (2 ^ n)
-closest-ge p m n h =
+pub closest_ge : (p m n : ℕ) → 2 ^ (p + n) ≤ m → 2 ^ p ≤ closest m (2 ^ n)
+closest_ge p m n h =
     le_trans ((le-div_iff_mul-le (pow_pos n)).1 (le_trans (le_of_eq (sym (pow-add 2 p n))) h)) (nearest-ge (m / 2 ^ n) (compare (m % 2 ^ n * 2) (2 ^ n)))
 
 -- the same, of what is kept after the rounding, which can be 2 ^ suc p
@@ -61,8 +61,8 @@ abbrev pub Kept : ℕ → ℕ → ℕ → Type 0
 Kept p q k = (q ≤ 2 ^ suc p) × ((k ≡ 0) ⊎ (2 ^ p ≤ q))
 
 kept : (p m n k : ℕ) → Keeps p m n k → Kept p (closest m (2 ^ n)) k
-kept p m n k (h, inl e) = (closest-le (suc p) m n h, inl e)
-kept p m n k (h, inr g) = (closest-le (suc p) m n h, inr (closest-ge p m n g))
+kept p m n k (h, inl e) = (closest_le (suc p) m n h, inl e)
+kept p m n k (h, inr g) = (closest_le (suc p) m n h, inr (closest_ge p m n g))
 
 -- ---- the pattern of q * 2 ^ k of the smallest values
 shifted : (a p k : ℕ) → suc k * a + a ≡ k * a + (a + a)
@@ -80,11 +80,11 @@ pattern p q k (h, b) = go (eq-or-lt_of_le h)
   where
     go : (q ≡ 2 ^ suc p) ⊎ (q < 2 ^ suc p) → Pat p q k (q * 2 ^ k) (size (q * 2 ^ k) - suc p)
     go (inr g) =
-        subst (λ (j : ℕ). Pat p q k (q * 2 ^ k) j) (sym (ap (λ (x : ℕ). size x - suc p) (sym (div-one (q * 2 ^ k))) ∙ drop-is p q 0 k (unshifted p q k g b)))
+        subst (λ (j : ℕ). Pat p q k (q * 2 ^ k) j) (sym (ap (λ (x : ℕ). size x - suc p) (sym (div-one (q * 2 ^ k))) ∙ drop_is p q 0 k (unshifted p q k g b)))
         (ap (λ (x : ℕ). k * 2 ^ p + x) (shl-shr q k))
     go (inl e) =
         let w : q * 2 ^ k ≡ 2 ^ p * 2 ^ suc k = ap (λ (x : ℕ). x * 2 ^ k) (e ∙ pow-succ' 2 p) ∙ mul_assoc 2 (2 ^ p) (2 ^ k) ∙ mul_left_comm 2 (2 ^ p) (2 ^ k) ∙ ap (λ (x : ℕ). 2 ^ p * x) (sym (pow-succ' 2 k)) in
-        let j : size (q * 2 ^ k) - suc p ≡ suc k = ap (λ (x : ℕ). size x - suc p) (w ∙ sym (div-one (2 ^ p * 2 ^ suc k))) ∙ drop-is p (2 ^ p) 0 (suc k) (unshifted p (2 ^ p) (suc k) (pow-lt (omega arith)) (inr (le_of_eq refl))) in
+        let j : size (q * 2 ^ k) - suc p ≡ suc k = ap (λ (x : ℕ). size x - suc p) (w ∙ sym (div-one (2 ^ p * 2 ^ suc k))) ∙ drop_is p (2 ^ p) 0 (suc k) (unshifted p (2 ^ p) (suc k) (pow-lt (omega arith)) (inr (le_of_eq refl))) in
         subst (λ (j : ℕ). Pat p q k (q * 2 ^ k) j) (sym j)
         (ap (λ (x : ℕ). suc k * 2 ^ p + x / 2 ^ suc k) w ∙ ap (λ (x : ℕ). suc k * 2 ^ p + x) (shl-shr (2 ^ p) (suc k)) ∙ shifted (2 ^ p) p k ∙ ap (λ (x : ℕ). k * 2 ^ p + x) (sym (e ∙ pow-succ' 2 p ∙ omega arith)))
 
@@ -105,40 +105,40 @@ tail binary64 = 52
 abbrev pub KeepsIn : Format → ℕ → ℕ → ℕ → Type 0
 KeepsIn f m n k = Keeps (tail f) m n k
 
-pattern-in : (f : Format) (q k : ℕ) → Kept (tail f) q k → (size (q * 2 ^ k) - prec f) * hid f + q * 2 ^ k / 2 ^ (size (q * 2 ^ k) - prec f) ≡ k * hid f + q
-pattern-in binary32 q k h = pattern 23 q k h
-pattern-in binary64 q k h = pattern 52 q k h
+pattern_in : (f : Format) (q k : ℕ) → Kept (tail f) q k → (size (q * 2 ^ k) - prec f) * hid f + q * 2 ^ k / 2 ^ (size (q * 2 ^ k) - prec f) ≡ k * hid f + q
+pattern_in binary32 q k h = pattern 23 q k h
+pattern_in binary64 q k h = pattern 52 q k h
 
-drop-in : (f : Format) (m n k : ℕ) → KeepsIn f m n k → size (m * 2 ^ k / 2 ^ n) - prec f ≡ k
-drop-in binary32 m n k h = drop-is 23 m n k h
-drop-in binary64 m n k h = drop-is 52 m n k h
+drop_in : (f : Format) (m n k : ℕ) → KeepsIn f m n k → size (m * 2 ^ k / 2 ^ n) - prec f ≡ k
+drop_in binary32 m n k h = drop_is 23 m n k h
+drop_in binary64 m n k h = drop_is 52 m n k h
 
-pub units-fit : (f : Format) (s : Bool) (q k : ℕ) → q ≤ 2 ^ prec f → q * 2 ^ k < 2 ^ (low f + suc (emax f)) → T (fits f (units f s q k))
+pub units_fit : (f : Format) (s : Bool) (q k : ℕ) → q ≤ 2 ^ prec f → q * 2 ^ k < 2 ^ (low f + suc (emax f)) → T (fits f (units f s q k))
 unfolding units
-units-fit f s q k h g =
+units_fit f s q k h g =
     cond-fits f (ltb (q * 2 ^ k) (2 ^ (low f + suc (emax f)))) _ _ (odd-fits f (suc (prec f)) s q k (lt_of_le_of_lt h (pow-lt (lt-suc_self (prec f)))) h g) (inf-fits f s)
 
-pub prec-tail : (f : Format) → prec f ≡ suc (tail f)
-prec-tail binary32 = refl
-prec-tail binary64 = refl
+pub prec_tail : (f : Format) → prec f ≡ suc (tail f)
+prec_tail binary32 = refl
+prec_tail binary64 = refl
 
-pub units-bits : (f : Format) (s : Bool) (q k : ℕ) → Kept (tail f) q k → q * 2 ^ k < 2 ^ (low f + suc (emax f)) → units f s q k ≡ of_bits f (cond s (top f) 0 + (k * hid f + q))
-units-bits f s q k K g =
+pub units_bits : (f : Format) (s : Bool) (q k : ℕ) → Kept (tail f) q k → q * 2 ^ k < 2 ^ (low f + suc (emax f)) → units f s q k ≡ of_bits f (cond s (top f) 0 + (k * hid f + q))
+units_bits f s q k K g =
     let v = units f s q k in
-    sym (of_bits-to_bits f v (units-fit f s q k (subst (λ (p : ℕ). q ≤ 2 ^ p) (sym (prec-tail f)) K.0) g))
-    ∙ ap (of_bits f) (bits_of_value f v s (q * 2 ^ k) (units_val f s q k g) ∙ add_assoc (cond s (top f) 0) _ _ ∙ ap (λ (x : ℕ). cond s (top f) 0 + x) (pattern-in f q k K))
+    sym (of_bits-to_bits f v (units_fit f s q k (subst (λ (p : ℕ). q ≤ 2 ^ p) (sym (prec_tail f)) K.0) g))
+    ∙ ap (of_bits f) (bits_of_value f v s (q * 2 ^ k) (units_val f s q k g) ∙ add_assoc (cond s (top f) 0) _ _ ∙ ap (λ (x : ℕ). cond s (top f) 0 + x) (pattern_in f q k K))
 
 module _ (f : Format) (s : Bool) (a c m n k : ℕ) (C : 0 < c) (h : a * 2 ^ low f * 2 ^ n ≡ m * 2 ^ k * c) (K : KeepsIn f m n k) where
-  pub round-units : round f s a c ≡ units f s (closest m (2 ^ n)) k
-  round-units =
+  pub round_units : round f s a c ≡ units f s (closest m (2 ^ n)) k
+  round_units =
       let w = a * 2 ^ low f in
-      let e1 : size (w / c) - prec f ≡ k = ap (λ (x : ℕ). size x - prec f) (div_same w c (m * 2 ^ k) (2 ^ n) C (pow_pos n) h) ∙ drop-in f m n k K in
+      let e1 : size (w / c) - prec f ≡ k = ap (λ (x : ℕ). size x - prec f) (div_same w c (m * 2 ^ k) (2 ^ n) C (pow_pos n) h) ∙ drop_in f m n k K in
       let e2 : closest w (c * 2 ^ k) ≡ closest m (2 ^ n) = closest_same w (c * 2 ^ k) m (2 ^ n) (mul-pos C (pow_pos k)) (pow_pos n) (h ∙ mul_assoc m (2 ^ k) c ∙ ap (λ (x : ℕ). m * x) (mul_comm (2 ^ k) c)) in
       round_is f s a c ∙ ap (λ (j : ℕ). core f s w c j) e1 ∙ ap (λ (q : ℕ). units f s q k) e2
 
-pub units-inf : (f : Format) (s : Bool) (q k : ℕ) → 2 ^ (low f + suc (emax f)) ≤ q * 2 ^ k → units f s q k ≡ inf s
+pub units_inf : (f : Format) (s : Bool) (q k : ℕ) → 2 ^ (low f + suc (emax f)) ≤ q * 2 ^ k → units f s q k ≡ inf s
 unfolding units
-units-inf f s q k h = cond_no (ltb (q * 2 ^ k) (2 ^ (low f + suc (emax f)))) _ _ (le→nltb (q * 2 ^ k) (2 ^ (low f + suc (emax f))) h)
+units_inf f s q k h = cond_no (ltb (q * 2 ^ k) (2 ^ (low f + suc (emax f)))) _ _ (le→nltb (q * 2 ^ k) (2 ^ (low f + suc (emax f))) h)
 
 -- ---- the largest patterns
 pub inf_bits : (f : Format) (s : Bool) → inf s ≡ of_bits f (cond s (top f) 0 + ones f * hid f)
@@ -155,8 +155,8 @@ full binary32 q k e g = omega arith
 full binary64 q k e g = omega arith
 
 module _ (f : Format) (s : Bool) (a c m n k : ℕ) (C : 0 < c) (h : a * 2 ^ low f * 2 ^ n ≡ m * 2 ^ k * c) (K : KeepsIn f m n k) where
-  pub round-bits : prec f + k ≤ low f + suc (emax f) → round f s a c ≡ of_bits f (cond s (top f) 0 + (k * hid f + closest m (2 ^ n)))
-  round-bits g = go (ltb (q * 2 ^ k) (2 ^ l)) (ltb→lt (q * 2 ^ k) (2 ^ l)) (nltb→le (q * 2 ^ k) (2 ^ l))
+  pub round_bits : prec f + k ≤ low f + suc (emax f) → round f s a c ≡ of_bits f (cond s (top f) 0 + (k * hid f + closest m (2 ^ n)))
+  round_bits g = go (ltb (q * 2 ^ k) (2 ^ l)) (ltb→lt (q * 2 ^ k) (2 ^ l)) (nltb→le (q * 2 ^ k) (2 ^ l))
     where
       q : ℕ
       q = closest m (2 ^ n)
@@ -165,13 +165,13 @@ module _ (f : Format) (s : Bool) (a c m n k : ℕ) (C : 0 < c) (h : a * 2 ^ low 
       l = low f + suc (emax f)
 
       go : (b : Bool) → (T b → q * 2 ^ k < 2 ^ l) → (T (not b) → 2 ^ l ≤ q * 2 ^ k) → round f s a c ≡ of_bits f (cond s (top f) 0 + (k * hid f + q))
-      go true y z = round-units f s a c m n k C h K ∙ units-bits f s q k (kept (tail f) m n k K) (y tt)
+      go true y z = round_units f s a c m n k C h K ∙ units_bits f s q k (kept (tail f) m n k K) (y tt)
       go false y z =
-          let e = edge (prec f) q k l g (subst (λ (p : ℕ). q ≤ 2 ^ p) (sym (prec-tail f)) (kept (tail f) m n k K).0) (z tt) in
-          round-units f s a c m n k C h K ∙ units-inf f s q k (z tt) ∙ inf_bits f s ∙ ap (λ (x : ℕ). of_bits f (cond s (top f) 0 + x)) (sym (full f q k e.0 e.1))
+          let e = edge (prec f) q k l g (subst (λ (p : ℕ). q ≤ 2 ^ p) (sym (prec_tail f)) (kept (tail f) m n k K).0) (z tt) in
+          round_units f s a c m n k C h K ∙ units_inf f s q k (z tt) ∙ inf_bits f s ∙ ap (λ (x : ℕ). of_bits f (cond s (top f) 0 + x)) (sym (full f q k e.0 e.1))
 
-  pub round-inf : 2 ^ (tail f + n) ≤ m → low f + suc (emax f) ≤ tail f + k → round f s a c ≡ inf s
-  round-inf o g =
-      round-units f s a c m n k C h K
-      ∙ units-inf f s (closest m (2 ^ n)) k
-      (le_trans (pow_mono g) (le_trans (le_of_eq (pow-add 2 (tail f) k)) (mul-le-mul_right (2 ^ k) (closest-ge (tail f) m n o))))
+  pub round_inf : 2 ^ (tail f + n) ≤ m → low f + suc (emax f) ≤ tail f + k → round f s a c ≡ inf s
+  round_inf o g =
+      round_units f s a c m n k C h K
+      ∙ units_inf f s (closest m (2 ^ n)) k
+      (le_trans (pow_mono g) (le_trans (le_of_eq (pow-add 2 (tail f) k)) (mul-le-mul_right (2 ^ k) (closest_ge (tail f) m n o))))

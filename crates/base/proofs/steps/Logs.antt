@@ -1,4 +1,4 @@
--- The exponent and the digits of a number above zero, and `lnOf` by the sorts of bit patterns.
+-- The exponent and the digits of a number above zero, and `ln_of` by the sorts of bit patterns.
 -- Assumes nothing.
 use Rattle.std.proofs.Common.{◌≡◌, ℕ, zero, suc, ◌+◌, ◌-◌, ◌*◌, ◌/◌, ◌%◌, ◌^◌, ◌<◌, ◌≤◌, Bool, true, false, cond, not, T, ltb, leb, ◌⊎◌, ℤ, pos, negsuc, ◌+ℤ◌, sym, refl, ap, ◌∙◌, subst, inl, inr, true≢false, le_trans, le_of_eq, lt_of_lt_of_le, lt_of_le_of_lt, lt_irrefl, mul-le-mul_right, mul_assoc, eq-zero-or-pos, le_antisymm, eq-or-lt_of_le, mul-lt-mul_of_pos_right, mul-pos, lt_of_not-le, zero-mul, mul-one, mul_right_comm, not-le_of_lt, arith, le→leb, ltb→lt, nltb→le, pow_pos, pow_mono, pow-add}
 use mathlib.Core.Bool.{false≢true}
@@ -14,52 +14,52 @@ use lib.Ieee.Scale.{round_same}
 use lib.Ieee.Nearest.{closest}
 use lib.Ieee.Bits.{is_true, is_false}
 use Rattle.base.specs.Double.{fraction}
-use Rattle.base.specs.Elementary.{lnSum, lnOf}
-use Rattle.base.proofs.verdicts.Picks.{cond-true, cond-false}
-use Rattle.base.proofs.rounding.Fields.{decode, field-val, subnormal-val, infinite}
-use Rattle.base.proofs.rounding.Rounding.{size-gt}
-use Rattle.base.proofs.rounding.Sorts.{normal-value, subnormal-value, lead, no_wrap}
+use Rattle.base.specs.Elementary.{ln_sum, ln_of}
+use Rattle.base.proofs.verdicts.Picks.{cond_true, cond_false}
+use Rattle.base.proofs.rounding.Fields.{decode, field_val, subnormal_val, infinite}
+use Rattle.base.proofs.rounding.Rounding.{size_gt}
+use Rattle.base.proofs.rounding.Sorts.{normal_value, subnormal_value, lead, no_wrap}
 
 -- ---- a rounded fraction, turned
-neg-odd : (d q k l : ℕ) → neg (odd d false q k l) ≡ odd d true q k l
+neg_odd : (d q k l : ℕ) → neg (odd d false q k l) ≡ odd d true q k l
 unfolding neg odd
-neg-odd d zero k l = refl
-neg-odd d (suc q) k l = refl
+neg_odd d zero k l = refl
+neg_odd d (suc q) k l = refl
 
-neg-units : (q k : ℕ) → neg (units binary64 false q k) ≡ units binary64 true q k
+neg_units : (q k : ℕ) → neg (units binary64 false q k) ≡ units binary64 true q k
 unfolding units neg
-neg-units q k = go (ltb (q * 2 ^ k) (2 ^ 2098))
+neg_units q k = go (ltb (q * 2 ^ k) (2 ^ 2098))
   where
     go : (b : Bool) → neg (cond b (odd 54 false q k 1074) (inf false)) ≡ cond b (odd 54 true q k 1074) (inf true)
-    go true = neg-odd 54 q k 1074
+    go true = neg_odd 54 q k 1074
     go false = refl
 
-neg-round : (a c : ℕ) → neg (round binary64 false a c) ≡ round binary64 true a c
+neg_round : (a c : ℕ) → neg (round binary64 false a c) ≡ round binary64 true a c
 unfolding round
-neg-round a c =
+neg_round a c =
     let k = size (a * 2 ^ 1074 / c) - 53 in
-    neg-units (closest (a * 2 ^ 1074) (c * 2 ^ k)) k
+    neg_units (closest (a * 2 ^ 1074) (c * 2 ^ k)) k
 
 -- ---- a - b as a float
 minus_pos : (a b : ℕ) → b ≤ a → minus a b ≡ pos (a - b)
-minus_pos a b h = cond-true _ _ (is_true (leb b a) (le→leb b a h))
+minus_pos a b h = cond_true _ _ (is_true (leb b a) (le→leb b a h))
 
-minus-neg : (a b : ℕ) → a < b → minus a b ≡ negsuc (b - suc a)
-minus-neg a b h = cond-false _ _ (is_false (leb b a) (lt→nleb b a h))
+minus_neg : (a b : ℕ) → a < b → minus a b ≡ negsuc (b - suc a)
+minus_neg a b h = cond_false _ _ (is_false (leb b a) (lt→nleb b a h))
 
-pub exponent-up : (a b : ℕ) → b ≤ a → of_int binary64 (pos (a - b)) ≡ of_int binary64 (minus a b)
-exponent-up a b h = ap (of_int binary64) (sym (minus_pos a b h))
+pub exponent_up : (a b : ℕ) → b ≤ a → of_int binary64 (pos (a - b)) ≡ of_int binary64 (minus a b)
+exponent_up a b h = ap (of_int binary64) (sym (minus_pos a b h))
 
-pub exponent-down : (a b : ℕ) → a < b → neg (of_int binary64 (pos (b - a))) ≡ of_int binary64 (minus a b)
+pub exponent_down : (a b : ℕ) → a < b → neg (of_int binary64 (pos (b - a))) ≡ of_int binary64 (minus a b)
 unfolding of_int
-exponent-down a b h =
+exponent_down a b h =
     let e : b - a ≡ suc (b - suc a) = omega arith in
-    neg-round (b - a) 1 ∙ ap (λ (n : ℕ). round binary64 true n 1) e ∙ ap (of_int binary64) (sym (minus-neg a b h))
+    neg_round (b - a) 1 ∙ ap (λ (n : ℕ). round binary64 true n 1) e ∙ ap (of_int binary64) (sym (minus_neg a b h))
 
 -- ---- two ways to write a number have the same leading place
 module _ (a b i j p q : ℕ) (h : a * 2 ^ i ≡ b * 2 ^ j) where
-  place-le : a < 2 ^ suc p → 2 ^ q ≤ b → q + j ≤ p + i
-  place-le x y =
+  place_le : a < 2 ^ suc p → 2 ^ q ≤ b → q + j ≤ p + i
+  place_le x y =
       let lo : 2 ^ (q + j) ≤ a * 2 ^ i = le_trans (le_of_eq (pow-add 2 q j)) (le_trans (mul-le-mul_right (2 ^ j) y) (le_of_eq (sym h))) in
       let hi : a * 2 ^ i < 2 ^ (suc p + i) = lt_of_lt_of_le (mul-lt-mul_of_pos_right x (pow_pos i)) (le_of_eq (sym (pow-add 2 (suc p) i))) in
       let l : q + j < suc p + i = lt_of_not-le (λ (g : suc p + i ≤ q + j). not-le_of_lt (lt_of_le_of_lt lo hi) (pow_mono g)) in
@@ -76,7 +76,7 @@ abbrev places : ℕ → ℕ
 places n = size (suc n) - 1
 
 some : (n : ℕ) → 0 < size (suc n)
-some n = size-gt (suc n) 0 (omega arith)
+some n = size_gt (suc n) 0 (omega arith)
 
 -- the number n + 1, times 2 ^ e, is m * 2 ^ f / 2 ^ 1127, where m has 53 digits
 module _ (n m f : ℕ) (lo : 2 ^ 52 ≤ m) (hi : m < 2 ^ 53) where
@@ -87,26 +87,26 @@ module _ (n m f : ℕ) (lo : 2 ^ 52 ≤ m) (hi : m < 2 ^ 53) where
   most = lt_of_lt_of_le (size-lt (suc n)) (pow_mono {i = size (suc n)} {j = suc (places n)} (omega arith))
 
   place : (i j : ℕ) → suc n * 2 ^ i ≡ m * 2 ^ j → places n + i ≡ 52 + j
-  place i j h = le_antisymm (place-le m (suc n) j i 52 (places n) (sym h) hi least) (place-le (suc n) m i j (places n) 52 h most lo)
+  place i j h = le_antisymm (place_le m (suc n) j i 52 (places n) (sym h) hi least) (place_le (suc n) m i j (places n) 52 h most lo)
 
-  by_place : (e : ℤ) (i j : ℕ) → suc n * 2 ^ i ≡ m * 2 ^ j → (places n + i ≡ 52 + j → minus f 1075 ≡ e +ℤ pos (places n)) → lnSum (of_int binary64 (minus f 1075)) (fraction m (2 ^ 52)) ≡ lnOf (fin false (suc n) e)
-  unfolding lnOf fraction
+  by_place : (e : ℤ) (i j : ℕ) → suc n * 2 ^ i ≡ m * 2 ^ j → (places n + i ≡ 52 + j → minus f 1075 ≡ e +ℤ pos (places n)) → ln_sum (of_int binary64 (minus f 1075)) (fraction m (2 ^ 52)) ≡ ln_of (fin false (suc n) e)
+  unfolding ln_of fraction
   by_place e i j h g =
       let p = place i j h in
       let x : round binary64 false m (2 ^ 52) ≡ round binary64 false (suc n) (2 ^ places n) = sym (round_same binary64 false (suc n) (2 ^ places n) m (2 ^ 52) (pow_pos (places n)) (pow_pos 52) (digits_same (suc n) m i j (places n) 52 h p)) in
       let y = g p in
-      λ t. lnSum (of_int binary64 (y t)) (x t)
+      λ t. ln_sum (of_int binary64 (y t)) (x t)
 
   module _ (w : ℕ) (v : w * 2 ^ 53 ≡ m * 2 ^ f) where
-    ln-up : (k : ℕ) → suc n * 2 ^ k * 2 ^ 1074 ≡ w * 1 → lnSum (of_int binary64 (minus f 1075)) (fraction m (2 ^ 52)) ≡ lnOf (fin false (suc n) (pos k))
-    ln-up k h =
+    ln_up : (k : ℕ) → suc n * 2 ^ k * 2 ^ 1074 ≡ w * 1 → ln_sum (of_int binary64 (minus f 1075)) (fraction m (2 ^ 52)) ≡ ln_of (fin false (suc n) (pos k))
+    ln_up k h =
         let i : suc n * 2 ^ (k + 1127) ≡ m * 2 ^ f = ap (λ (x : ℕ). suc n * x) (pow-add 2 k 1127) ∙ sym (mul_assoc (suc n) (2 ^ k) (2 ^ 1127)) ∙ sym (mul_assoc (suc n * 2 ^ k) (2 ^ 1074) (2 ^ 53)) ∙ ap (λ (x : ℕ). x * 2 ^ 53) (h ∙ mul-one w) ∙ v in
         by_place (pos k) (k + 1127) f i (λ (p : places n + (k + 1127) ≡ 52 + f).
         let e : f - 1075 ≡ k + places n = omega arith in
         minus_pos f 1075 (omega arith) ∙ ap pos e)
 
-    ln-down : (k : ℕ) → suc n * 1 * 2 ^ 1074 ≡ w * 2 ^ suc k → lnSum (of_int binary64 (minus f 1075)) (fraction m (2 ^ 52)) ≡ lnOf (fin false (suc n) (negsuc k))
-    ln-down k h =
+    ln_down : (k : ℕ) → suc n * 1 * 2 ^ 1074 ≡ w * 2 ^ suc k → ln_sum (of_int binary64 (minus f 1075)) (fraction m (2 ^ 52)) ≡ ln_of (fin false (suc n) (negsuc k))
+    ln_down k h =
         let r : w * 2 ^ suc k * 2 ^ 53 ≡ m * 2 ^ (f + suc k) = mul_right_comm w (2 ^ suc k) (2 ^ 53) ∙ ap (λ (x : ℕ). x * 2 ^ suc k) v ∙ mul_assoc m (2 ^ f) (2 ^ suc k) ∙ ap (λ (x : ℕ). m * x) (sym (pow-add 2 f (suc k))) in
         let i : suc n * 2 ^ 1127 ≡ m * 2 ^ (f + suc k) = sym (mul_assoc (suc n) (2 ^ 1074) (2 ^ 53)) ∙ ap (λ (x : ℕ). x * 2 ^ 1074 * 2 ^ 53) (sym (mul-one (suc n))) ∙ ap (λ (x : ℕ). x * 2 ^ 53) h ∙ r in
         by_place (negsuc k) 1127 (f + suc k) i (λ (p : places n + 1127 ≡ 52 + (f + suc k)). shifted (places n) k p)
@@ -118,74 +118,74 @@ module _ (n m f : ℕ) (lo : 2 ^ 52 ≤ m) (hi : m < 2 ^ 53) where
             go true y z =
                 let l = y tt in
                 let e : 1075 - suc f ≡ suc k - suc d = omega arith in
-                minus-neg f 1075 (omega arith) ∙ ap negsuc e
+                minus_neg f 1075 (omega arith) ∙ ap negsuc e
             go false y z =
                 let l = z tt in
                 let e : f - 1075 ≡ d - suc k = omega arith in
                 minus_pos f 1075 (omega arith) ∙ ap pos e
 
 -- ---- the logarithm of a number by its value
-abbrev pub lnBy : ℕ → ℕ → Float
-lnBy m f = lnSum (of_int binary64 (minus f 1075)) (fraction m (2 ^ 52))
+abbrev pub ln_by : ℕ → ℕ → Float
+ln_by m f = ln_sum (of_int binary64 (minus f 1075)) (fraction m (2 ^ 52))
 
-ln-value : (x : Float) (w m f : ℕ) → HasValue x false w (2 ^ 1074) → 0 < w → w * 2 ^ 53 ≡ m * 2 ^ f → 2 ^ 52 ≤ m → m < 2 ^ 53 → lnBy m f ≡ lnOf x
-ln-value nan w m f h W v lo hi = absurd h
-ln-value (inf s) w m f h W v lo hi = absurd h
-ln-value (fin s zero e) w m f h W v lo hi = absurd (lt_irrefl 0 (subst (λ (x : ℕ). 0 < x) (sym h.1 ∙ ap (λ (x : ℕ). x * 2 ^ 1074) (zero-mul (up e))) (mul-pos W (down_pos e))))
-ln-value (fin true (suc n) e) w m f h W v lo hi = absurd (true≢false h.0)
-ln-value (fin false (suc n) (pos k)) w m f h W v lo hi = ln-up n m f lo hi w v k h.1
-ln-value (fin false (suc n) (negsuc k)) w m f h W v lo hi = ln-down n m f lo hi w v k h.1
+ln_value : (x : Float) (w m f : ℕ) → HasValue x false w (2 ^ 1074) → 0 < w → w * 2 ^ 53 ≡ m * 2 ^ f → 2 ^ 52 ≤ m → m < 2 ^ 53 → ln_by m f ≡ ln_of x
+ln_value nan w m f h W v lo hi = absurd h
+ln_value (inf s) w m f h W v lo hi = absurd h
+ln_value (fin s zero e) w m f h W v lo hi = absurd (lt_irrefl 0 (subst (λ (x : ℕ). 0 < x) (sym h.1 ∙ ap (λ (x : ℕ). x * 2 ^ 1074) (zero-mul (up e))) (mul-pos W (down_pos e))))
+ln_value (fin true (suc n) e) w m f h W v lo hi = absurd (true≢false h.0)
+ln_value (fin false (suc n) (pos k)) w m f h W v lo hi = ln_up n m f lo hi w v k h.1
+ln_value (fin false (suc n) (negsuc k)) w m f h W v lo hi = ln_down n m f lo hi w v k h.1
 
-pub normal-ln : (b : ℕ) → 2 ^ 52 ≤ b → b < 2047 * 2 ^ 52 → lnBy (b % 2 ^ 52 + 2 ^ 52) (b / 2 ^ 52 + 52) ≡ lnOf (of_bits binary64 b)
-normal-ln b l h =
+pub normal_ln : (b : ℕ) → 2 ^ 52 ≤ b → b < 2047 * 2 ^ 52 → ln_by (b % 2 ^ 52 + 2 ^ 52) (b / 2 ^ 52 + 52) ≡ ln_of (of_bits binary64 b)
+normal_ln b l h =
     let x = b / 2 ^ 52 in
     let m = b % 2 ^ 52 + 2 ^ 52 in
     let n : x - 1 + 53 ≡ x + 52 = omega arith in
-    ln-value (of_bits binary64 b) (m * 2 ^ (x - 1)) m (x + 52) (normal-value b l h) (mul-pos (omega arith) (pow_pos (x - 1)))
+    ln_value (of_bits binary64 b) (m * 2 ^ (x - 1)) m (x + 52) (normal_value b l h) (mul-pos (omega arith) (pow_pos (x - 1)))
     (mul_assoc m (2 ^ (x - 1)) (2 ^ 53) ∙ ap (λ (z : ℕ). m * z) (sym (pow-add 2 (x - 1) 53) ∙ ap (λ (z : ℕ). 2 ^ z) n)) (omega arith) (omega arith)
 
-pub subnormal-ln : (b : ℕ) (p : 0 < b) (h : b < 2 ^ 52) → lnBy (b * 2 ^ (count_leading_zeros 64 b - 11) % 2 ^ 64) (53 - (count_leading_zeros 64 b - 11)) ≡ lnOf (of_bits binary64 b)
-subnormal-ln b p h =
+pub subnormal_ln : (b : ℕ) (p : 0 < b) (h : b < 2 ^ 52) → ln_by (b * 2 ^ (count_leading_zeros 64 b - 11) % 2 ^ 64) (53 - (count_leading_zeros 64 b - 11)) ≡ ln_of (of_bits binary64 b)
+subnormal_ln b p h =
     let s = count_leading_zeros 64 b - 11 in
     let d = (lead b p h).1 in
     let n : s + (53 - s) ≡ 53 = omega arith in
-    subst (λ (m : ℕ). lnBy m (53 - s) ≡ lnOf (of_bits binary64 b)) (sym (no_wrap b p h))
-    (ln-value (of_bits binary64 b) b (b * 2 ^ s) (53 - s) (subnormal-value b h) p
+    subst (λ (m : ℕ). ln_by m (53 - s) ≡ ln_of (of_bits binary64 b)) (sym (no_wrap b p h))
+    (ln_value (of_bits binary64 b) b (b * 2 ^ s) (53 - s) (subnormal_value b h) p
     (sym (mul_assoc b (2 ^ s) (2 ^ (53 - s)) ∙ ap (λ (z : ℕ). b * z) (sym (pow-add 2 s (53 - s)) ∙ ap (λ (z : ℕ). 2 ^ z) n))) (lead b p h).2 (lead b p h).3)
 
 -- ---- where no logarithm is taken
-pub ln-nan : (x : Float) → x ≡ nan → x ≡ lnOf x
-unfolding lnOf
-ln-nan x e = e ∙ ap lnOf (sym e)
+pub ln_nan : (x : Float) → x ≡ nan → x ≡ ln_of x
+unfolding ln_of
+ln_nan x e = e ∙ ap ln_of (sym e)
 
-pub ln-plus-zero : inf true ≡ lnOf (of_bits binary64 0)
-unfolding lnOf of_bits
-ln-plus-zero = refl
+pub ln_plus_zero : inf true ≡ ln_of (of_bits binary64 0)
+unfolding ln_of of_bits
+ln_plus_zero = refl
 
-pub ln-minus-zero : inf true ≡ lnOf (of_bits binary64 (2 ^ 63))
-unfolding lnOf of_bits
-ln-minus-zero = refl
+pub ln_minus_zero : inf true ≡ ln_of (of_bits binary64 (2 ^ 63))
+unfolding ln_of of_bits
+ln_minus_zero = refl
 
-pub ln-infinity : of_bits binary64 (2047 * 2 ^ 52) ≡ lnOf (of_bits binary64 (2047 * 2 ^ 52))
-unfolding lnOf of_bits
-ln-infinity = refl
+pub ln_infinity : of_bits binary64 (2047 * 2 ^ 52) ≡ ln_of (of_bits binary64 (2047 * 2 ^ 52))
+unfolding ln_of of_bits
+ln_infinity = refl
 
-below-val : (v : Float) (w : ℕ) → HasValue v true w (2 ^ 1074) → 0 < w → lnOf v ≡ nan
-unfolding lnOf
-below-val nan w h W = absurd h
-below-val (inf s) w h W = absurd h
-below-val (fin s zero d) w h W = absurd (lt_irrefl 0 (subst (λ (x : ℕ). 0 < x) (sym h.1 ∙ ap (λ (x : ℕ). x * 2 ^ 1074) (zero-mul (up d))) (mul-pos W (down_pos d))))
-below-val (fin true (suc m) d) w h W = refl
-below-val (fin false (suc m) d) w h W = absurd (false≢true h.0)
+below_val : (v : Float) (w : ℕ) → HasValue v true w (2 ^ 1074) → 0 < w → ln_of v ≡ nan
+unfolding ln_of
+below_val nan w h W = absurd h
+below_val (inf s) w h W = absurd h
+below_val (fin s zero d) w h W = absurd (lt_irrefl 0 (subst (λ (x : ℕ). 0 < x) (sym h.1 ∙ ap (λ (x : ℕ). x * 2 ^ 1074) (zero-mul (up d))) (mul-pos W (down_pos d))))
+below_val (fin true (suc m) d) w h W = refl
+below_val (fin false (suc m) d) w h W = absurd (false≢true h.0)
 
-below_inf : lnOf (inf true) ≡ nan
-unfolding lnOf
+below_inf : ln_of (inf true) ≡ nan
+unfolding ln_of
 below_inf = refl
 
-pub ln-below-zero : (b : ℕ) → 0 < b → b ≤ 2047 * 2 ^ 52 → lnOf (of_bits binary64 (2 ^ 63 + b)) ≡ nan
-ln-below-zero b p h = ap lnOf (decode true b (omega arith)) ∙ go (eq-or-lt_of_le h) (eq-zero-or-pos (b / 2 ^ 52))
+pub ln_below_zero : (b : ℕ) → 0 < b → b ≤ 2047 * 2 ^ 52 → ln_of (of_bits binary64 (2 ^ 63 + b)) ≡ nan
+ln_below_zero b p h = ap ln_of (decode true b (omega arith)) ∙ go (eq-or-lt_of_le h) (eq-zero-or-pos (b / 2 ^ 52))
   where
-    go : (b ≡ 2047 * 2 ^ 52) ⊎ (b < 2047 * 2 ^ 52) → (b / 2 ^ 52 ≡ 0) ⊎ (0 < b / 2 ^ 52) → lnOf (of_fields binary64 true (b / 2 ^ 52) (b % 2 ^ 52)) ≡ nan
-    go (inl e) o = ap (λ (x : ℕ). lnOf (of_fields binary64 true (x / 2 ^ 52) (x % 2 ^ 52))) e ∙ ap lnOf (infinite true) ∙ below_inf
-    go (inr l) (inl e) = ap (λ (x : ℕ). lnOf (of_fields binary64 true x (b % 2 ^ 52))) e ∙ below-val (of_fields binary64 true 0 (b % 2 ^ 52)) (b % 2 ^ 52 * 2 ^ 0) (subnormal-val true (b % 2 ^ 52)) (omega arith)
-    go (inr l) (inr g) = below-val (of_fields binary64 true (b / 2 ^ 52) (b % 2 ^ 52)) ((b % 2 ^ 52 + 2 ^ 52) * 2 ^ (b / 2 ^ 52 - 1)) (field-val true (b / 2 ^ 52) (b % 2 ^ 52) g (omega arith)) (mul-pos (omega arith) (pow_pos (b / 2 ^ 52 - 1)))
+    go : (b ≡ 2047 * 2 ^ 52) ⊎ (b < 2047 * 2 ^ 52) → (b / 2 ^ 52 ≡ 0) ⊎ (0 < b / 2 ^ 52) → ln_of (of_fields binary64 true (b / 2 ^ 52) (b % 2 ^ 52)) ≡ nan
+    go (inl e) o = ap (λ (x : ℕ). ln_of (of_fields binary64 true (x / 2 ^ 52) (x % 2 ^ 52))) e ∙ ap ln_of (infinite true) ∙ below_inf
+    go (inr l) (inl e) = ap (λ (x : ℕ). ln_of (of_fields binary64 true x (b % 2 ^ 52))) e ∙ below_val (of_fields binary64 true 0 (b % 2 ^ 52)) (b % 2 ^ 52 * 2 ^ 0) (subnormal_val true (b % 2 ^ 52)) (omega arith)
+    go (inr l) (inr g) = below_val (of_fields binary64 true (b / 2 ^ 52) (b % 2 ^ 52)) ((b % 2 ^ 52 + 2 ^ 52) * 2 ^ (b / 2 ^ 52 - 1)) (field_val true (b / 2 ^ 52) (b % 2 ^ 52) g (omega arith)) (mul-pos (omega arith) (pow_pos (b / 2 ^ 52 - 1)))

@@ -4,7 +4,7 @@
 use Rattle.std.proofs.Common.{◌≡◌, ℕ, zero, suc, ◌<◌, List, [], ◌∷◌, map, length, get_or, drop, refl, ap, arith}
 use lib.Ieee.{Float, binary64, add, mul, round, of_bits}
 use Rattle.base.specs.Double.{fraction}
-use Rattle.base.specs.Elementary.{horner, factorial, up_from, alternating, sinTerms, cosTerms, atanTerms, expTerms, lnTerms}
+use Rattle.base.specs.Elementary.{horner, factorial, up_from, alternating, sin_terms, cos_terms, atan_terms, exp_terms, ln_terms}
 
 -- ---- the source's tables, as bit patterns
 abbrev SIN : List ℕ
@@ -25,45 +25,45 @@ LN = 0x3ff0000000000000 ∷ 0x3fd5555555555555 ∷ 0x3fc999999999999a ∷ 0x3fc2
 abbrev table : List ℕ → List Float
 table b = map (of_bits binary64) b
 
-pub tied : map table (SIN ∷ COS ∷ ATAN ∷ EXP ∷ LN ∷ []) ≡ sinTerms ∷ cosTerms ∷ atanTerms ∷ expTerms ∷ lnTerms ∷ []
-unfolding sinTerms cosTerms atanTerms expTerms lnTerms factorial up_from alternating fraction round of_bits
+pub tied : map table (SIN ∷ COS ∷ ATAN ∷ EXP ∷ LN ∷ []) ≡ sin_terms ∷ cos_terms ∷ atan_terms ∷ exp_terms ∷ ln_terms ∷ []
+unfolding sin_terms cos_terms atan_terms exp_terms ln_terms factorial up_from alternating fraction round of_bits
 tied = refl
 
 abbrev nth : ℕ → List (List Float) → List Float
 nth k l = get_or l k []
 
-pub sin-tied : table SIN ≡ sinTerms
-sin-tied = ap (nth 0) tied
+pub sin_tied : table SIN ≡ sin_terms
+sin_tied = ap (nth 0) tied
 
-pub cos-tied : table COS ≡ cosTerms
-cos-tied = ap (nth 1) tied
+pub cos_tied : table COS ≡ cos_terms
+cos_tied = ap (nth 1) tied
 
-pub atan-tied : table ATAN ≡ atanTerms
-atan-tied = ap (nth 2) tied
+pub atan_tied : table ATAN ≡ atan_terms
+atan_tied = ap (nth 2) tied
 
-pub exp-tied : table EXP ≡ expTerms
-exp-tied = ap (nth 3) tied
+pub exp_tied : table EXP ≡ exp_terms
+exp_tied = ap (nth 3) tied
 
-pub ln-tied : table LN ≡ lnTerms
-ln-tied = ap (nth 4) tied
+pub ln_tied : table LN ≡ ln_terms
+ln_tied = ap (nth 4) tied
 
 -- ---- from the highest term down
-pub horner-none : (t : List Float) (x : Float) → length t ≡ 0 → of_bits binary64 0 ≡ horner t x
+pub horner_none : (t : List Float) (x : Float) → length t ≡ 0 → of_bits binary64 0 ≡ horner t x
 unfolding horner of_bits
-horner-none [] x e = refl
-horner-none (c ∷ cs) x e = absurd (omega arith)
+horner_none [] x e = refl
+horner_none (c ∷ cs) x e = absurd (omega arith)
 
-pub horner-last : (t : List Float) (i : ℕ) (x d : Float) → length t ≡ suc i → get_or t i d ≡ horner (drop i t) x
+pub horner_last : (t : List Float) (i : ℕ) (x d : Float) → length t ≡ suc i → get_or t i d ≡ horner (drop i t) x
 unfolding horner
-horner-last [] i x d e = absurd (omega arith)
-horner-last (c ∷ []) zero x d e = refl
-horner-last (c ∷ []) (suc i) x d e = absurd (omega arith)
-horner-last (c ∷ (b ∷ cs)) zero x d e = absurd (omega arith)
-horner-last (c ∷ (b ∷ cs)) (suc i) x d e = horner-last (b ∷ cs) i x d (omega arith)
+horner_last [] i x d e = absurd (omega arith)
+horner_last (c ∷ []) zero x d e = refl
+horner_last (c ∷ []) (suc i) x d e = absurd (omega arith)
+horner_last (c ∷ (b ∷ cs)) zero x d e = absurd (omega arith)
+horner_last (c ∷ (b ∷ cs)) (suc i) x d e = horner_last (b ∷ cs) i x d (omega arith)
 
-pub horner-next : (t : List Float) (i : ℕ) (x d : Float) → suc i < length t → add binary64 (mul binary64 (horner (drop (suc i) t) x) x) (get_or t i d) ≡ horner (drop i t) x
+pub horner_next : (t : List Float) (i : ℕ) (x d : Float) → suc i < length t → add binary64 (mul binary64 (horner (drop (suc i) t) x) x) (get_or t i d) ≡ horner (drop i t) x
 unfolding horner
-horner-next [] i x d h = absurd (omega arith)
-horner-next (c ∷ []) i x d h = absurd (omega arith)
-horner-next (c ∷ (b ∷ cs)) zero x d h = refl
-horner-next (c ∷ (b ∷ cs)) (suc i) x d h = horner-next (b ∷ cs) i x d (omega arith)
+horner_next [] i x d h = absurd (omega arith)
+horner_next (c ∷ []) i x d h = absurd (omega arith)
+horner_next (c ∷ (b ∷ cs)) zero x d h = refl
+horner_next (c ∷ (b ∷ cs)) (suc i) x d h = horner_next (b ∷ cs) i x d (omega arith)

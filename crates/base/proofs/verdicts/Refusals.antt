@@ -6,23 +6,23 @@ use Rattle.base.specs.declared.refusal.Refusal.{Refusal}
 use Rattle.base.specs.declared.refusal.Refusal.TheVariants.{Month, Sunspot, Hour, Latitude, Longitude, Factor, Flag, Record, Ended, Marker, RecordWord, MonthWord, Index, Figures, Table, Desk, Drafted, NoDraft, Stale, NothingEarlier, Model, Year}
 use Rattle.base.specs.declared.refusal.Verdict.{Verdict}
 use Rattle.base.specs.declared.refusal.Verdict.TheVariants.{Accepted, Refused}
-use Rattle.base.specs.Refusal.{reportOf, verdictReport, isAccepted, refuseUnless, ◌then◌}
+use Rattle.base.specs.Refusal.{report_of, verdict_report, is_accepted, refuse_unless, ◌then◌}
 use Rattle.base.proofs.verdicts.Picks.{never'}
 
-pub refused-not-accepted : {A : Type 0} {why : Refusal} → Refused why ≡ Accepted → A
-refused-not-accepted e = never' (sym (ap isAccepted e))
+pub refused_not_accepted : {A : Type 0} {why : Refusal} → Refused why ≡ Accepted → A
+refused_not_accepted e = never' (sym (ap is_accepted e))
 
 -- both of two checks accept
-pub then-both : (a b : Verdict) → (a then b) ≡ Accepted → (a ≡ Accepted) × (b ≡ Accepted)
-then-both Accepted b e = (refl, e)
-then-both (Refused why) b e = refused-not-accepted e
+pub then_both : (a b : Verdict) → (a then b) ≡ Accepted → (a ≡ Accepted) × (b ≡ Accepted)
+then_both Accepted b e = (refl, e)
+then_both (Refused why) b e = refused_not_accepted e
 
 -- a test that is not refused succeeds
-pub passed : (b : Bool) (why : Refusal) → refuseUnless b why ≡ Accepted → b ≡ true
+pub passed : (b : Bool) (why : Refusal) → refuse_unless b why ≡ Accepted → b ≡ true
 passed true why e = refl
-passed false why e = refused-not-accepted e
+passed false why e = refused_not_accepted e
 
-numbered : (why : Refusal) → 1 ≤ (reportOf why).0
+numbered : (why : Refusal) → 1 ≤ (report_of why).0
 numbered Month = lit≤ tt
 numbered Sunspot = lit≤ tt
 numbered Hour = lit≤ tt
@@ -46,10 +46,10 @@ numbered NothingEarlier = lit≤ tt
 numbered Model = lit≤ tt
 numbered (Year pair) = lit≤ tt
 
-pub accepted-by-number : (v : Verdict) → (verdictReport v).0 ≡ 0 → v ≡ Accepted
-accepted-by-number Accepted e = refl
-accepted-by-number (Refused why) e = let h = numbered why in absurd (omega arith)
+pub accepted_by_number : (v : Verdict) → (verdict_report v).0 ≡ 0 → v ≡ Accepted
+accepted_by_number Accepted e = refl
+accepted_by_number (Refused why) e = let h = numbered why in absurd (omega arith)
 
 -- a verdict by a test that is another test
-pub by-test : {v : Verdict} {b b' : Bool} (why : Refusal) → v ≡ refuseUnless b why → b ≡ b' → v ≡ refuseUnless b' why
-by-test why p q = p ∙ ap (λ (z : Bool). refuseUnless z why) q
+pub by_test : {v : Verdict} {b b' : Bool} (why : Refusal) → v ≡ refuse_unless b why → b ≡ b' → v ≡ refuse_unless b' why
+by_test why p q = p ∙ ap (λ (z : Bool). refuse_unless z why) q

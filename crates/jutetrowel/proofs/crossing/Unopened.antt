@@ -5,22 +5,22 @@ use mathlib.Core.Path.{◌≡◌}
 use Prim.Native.Nat.{ℕ}
 use lib.ListN.{length}
 use lib.Ieee.{Float}
-use Rattle.base.specs.Refusal.{◌then◌, writtenOver}
+use Rattle.base.specs.Refusal.{◌then◌, written_over}
 use Rattle.base.specs.declared.refusal.Refusal.{Refusal}
 use Rattle.base.specs.declared.refusal.Verdict.{Verdict}
 use Rattle.base.specs.declared.refusal.Verdict.TheVariants.{Refused}
 use Rattle.maps.specs.declared.figures.Shown.TheVariants.{Refused as NotShown}
-use Rattle.maps.specs.Figures.{sheetPath, figuresOf, pointsOr}
-use Rattle.worksheet.specs.Desks.{freshSheet, openOf, sheetOpenedOf}
-use Rattle.worksheet.specs.Showing.{Source, inputsShown, askedCheck, judgedCheck, drawnCheck, showCheck, showOf, showBuffer}
+use Rattle.maps.specs.Figures.{sheet_path, figures_of, points_or}
+use Rattle.worksheet.specs.Desks.{fresh_sheet, open_of, sheet_opened_of}
+use Rattle.worksheet.specs.Showing.{Source, inputs_shown, asked_check, judged_check, drawn_check, show_check, show_of, show_buffer}
 use Rattle.worksheet.specs.Journal.{show, shown, step}
 
-pub sheet-refused : (source : Source) (s : List ℕ) (lent : List Float) (why : Refusal) →
-    (sheetOpenedOf s).answer ≡ Refused why → (step source (show 0 lent) (sheetOpenedOf s).sheet).answer ≡ shown (NotShown why) lent
-unfolding step sheetOpenedOf openOf freshSheet showOf showBuffer showCheck judgedCheck askedCheck inputsShown
-sheet-refused source s lent why h =
-    let i = (sheetOpenedOf s).sheet.inputs in
+pub sheet_refused : (source : Source) (s : List ℕ) (lent : List Float) (why : Refusal) →
+    (sheet_opened_of s).answer ≡ Refused why → (step source (show 0 lent) (sheet_opened_of s).sheet).answer ≡ shown (NotShown why) lent
+unfolding step sheet_opened_of open_of fresh_sheet show_of show_buffer show_check judged_check asked_check inputs_shown
+sheet_refused source s lent why h =
+    let i = (sheet_opened_of s).sheet.inputs in
     let files = source i in
-    let check : Verdict → Verdict = λ v. v then drawnCheck files (length lent) in
-    λ t. shown (pointsOr (check (h t)) (sheetPath i).count)
-    (writtenOver (check (h t)) (figuresOf files.f2 files.file i) lent)
+    let check : Verdict → Verdict = λ v. v then drawn_check files (length lent) in
+    λ t. shown (points_or (check (h t)) (sheet_path i).count)
+    (written_over (check (h t)) (figures_of files.f2 files.file i) lent)

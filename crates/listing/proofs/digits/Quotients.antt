@@ -5,29 +5,29 @@ use Prim.Native.Nat.{ℕ, suc, ◌+◌, ◌-◌, ◌*◌, ◌/◌, ◌%◌, ◌^
 use native.Mathlib.Nat.{pow-zero, pow-suc, pow-succ', div-one, div-div-eq-div-mul, add-div_right, mul-div-mul_left, mul-div-mul_right, mul_comm, mul_assoc, add-mul, mul-lt-mul_of_pos_right, lt_of_mul-lt-mul_right}
 use native.Mathlib.Omega.{arith}
 use lib.Pow.{pow_pos}
-use Rattle.listing.specs.Decimal.{nearestOf}
+use Rattle.listing.specs.Decimal.{nearest_of}
 
-pub by-none : (n b : ℕ) → n / b ^ 0 ≡ n
-by-none n b = ap (λ (x : ℕ). n / x) (pow-zero b) ∙ div-one n
+pub by_none : (n b : ℕ) → n / b ^ 0 ≡ n
+by_none n b = ap (λ (x : ℕ). n / x) (pow-zero b) ∙ div-one n
 
-pub by-one-more : (n b k : ℕ) → 0 < k → n / b / b ^ (k - 1) ≡ n / b ^ k
-by-one-more n b k h =
+pub by_one_more : (n b k : ℕ) → 0 < k → n / b / b ^ (k - 1) ≡ n / b ^ k
+by_one_more n b k h =
     let e : suc (k - 1) ≡ k = omega arith in
     div-div-eq-div-mul n b (b ^ (k - 1)) ∙ ap (λ (x : ℕ). n / x) (sym (pow-succ' b (k - 1))) ∙ ap (λ (i : ℕ). n / b ^ i) e
 
 -- ---- to the nearest
 
-pub nearest-none : (n : ℕ) → nearestOf n (2 ^ 0) ≡ n
-unfolding nearestOf
-nearest-none n = omega arith
+pub nearest_none : (n : ℕ) → nearest_of n (2 ^ 0) ≡ n
+unfolding nearest_of
+nearest_none n = omega arith
 
 -- half a number, to the nearest
 half : (h : ℕ) → h / 2 + h % 2 ≡ (h + 1) / 2
 half h = omega arith
 
-pub to-nearest : (n s : ℕ) → 0 < s → n / 2 ^ (s - 1) / 2 + n / 2 ^ (s - 1) % 2 ≡ nearestOf n (2 ^ s)
-unfolding nearestOf
-to-nearest n s h =
+pub to_nearest : (n s : ℕ) → 0 < s → n / 2 ^ (s - 1) / 2 + n / 2 ^ (s - 1) % 2 ≡ nearest_of n (2 ^ s)
+unfolding nearest_of
+to_nearest n s h =
     let p = 2 ^ (s - 1) in
     let e : suc (s - 1) ≡ s = omega arith in
     let q : p * 2 ≡ 2 ^ s = sym (pow-suc 2 (s - 1)) ∙ ap (λ (i : ℕ). 2 ^ i) e in
@@ -41,9 +41,9 @@ to-nearest n s h =
 
 -- ---- n / d and n' / d', the same fraction
 module _ (n d n' d' : ℕ) (h : 0 < d) (h' : 0 < d') (e : n * d' ≡ n' * d) where
-  pub same-nearest : nearestOf n d ≡ nearestOf n' d'
-  unfolding nearestOf
-  same-nearest =
+  pub same_nearest : nearest_of n d ≡ nearest_of n' d'
+  unfolding nearest_of
+  same_nearest =
       let a = add-mul (2 * n) d d' in
       let b = mul_assoc 2 n d' in
       let a' = add-mul (2 * n') d' d in
@@ -55,12 +55,12 @@ module _ (n d n' d' : ℕ) (h : 0 < d) (h' : 0 < d') (e : n * d' ≡ n' * d) whe
       let below : 2 * d * d' ≡ 2 * d' * d = omega arith in
       sym (mul-div-mul_right (2 * n + d) (2 * d) h') ∙ (λ i. above i / below i) ∙ mul-div-mul_right (2 * n' + d') (2 * d') h
 
-  pub same-quotient : n / d ≡ n' / d'
-  same-quotient = sym (mul-div-mul_right n d h') ∙ (λ i. e i / mul_comm d d' i) ∙ mul-div-mul_right n' d' h
+  pub same_quotient : n / d ≡ n' / d'
+  same_quotient = sym (mul-div-mul_right n d h') ∙ (λ i. e i / mul_comm d d' i) ∙ mul-div-mul_right n' d' h
 
   -- it is below k in both forms
-  pub same-below : (k : ℕ) → n < k * d → n' < k * d'
-  same-below k l =
+  pub same_below : (k : ℕ) → n < k * d → n' < k * d'
+  same_below k l =
       let a : n * d' < k * d * d' = mul-lt-mul_of_pos_right l h' in
       let b = mul_assoc k d d' in
       let b' = mul_assoc k d' d in

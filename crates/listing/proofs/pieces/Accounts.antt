@@ -9,48 +9,48 @@ use Rattle.listing.specs.declared.account.Became.{Became}
 use Rattle.listing.specs.declared.account.Became.TheVariants.{TakenBack, Cancelled, Never}
 use Rattle.listing.specs.declared.account.Balked.{Balked}
 use Rattle.listing.specs.declared.account.Balked.TheVariants.{No, At}
-use Rattle.listing.specs.Account.{atLine, cameWords, cameText, becameWords, balkedWords}
-use Rattle.listing.proofs.digits.Places.{at-most-20}
-use Rattle.listing.proofs.pieces.Named.{length-field}
+use Rattle.listing.specs.Account.{at_line, came_words, came_text, became_words, balked_words}
+use Rattle.listing.proofs.digits.Places.{at_most_20}
+use Rattle.listing.proofs.pieces.Named.{length_field}
 
-pub length-at-line : (line : ℕ) → length (atLine line) ≤ 29
-unfolding atLine
-length-at-line line =
-    let a = at-most-20 line in
-    simp length-append (omega arith)
-
-pub length-came : (came : Came) → length (cameWords came) ≤ 99
-unfolding cameWords
-length-came (Opened line) =
-    let a = length-at-line line in
-    simp length-append (omega arith)
-length-came (Set desk line settled) =
-    let a = at-most-20 desk in
-    let b = length-at-line line in
-    let d = length-at-line settled in
+pub length_at_line : (line : ℕ) → length (at_line line) ≤ 29
+unfolding at_line
+length_at_line line =
+    let a = at_most_20 line in
     simp length-append (omega arith)
 
-pub length-came-text : (i : Inputs) (k : ℕ) (came : Came) → 1 ≤ k → k ≤ 15 → length (cameText i k came) ≤ 181
-unfolding cameText
-length-came-text i k came p q =
-    let a = length-field i k p q in
-    let b = length-came came in
+pub length_came : (came : Came) → length (came_words came) ≤ 99
+unfolding came_words
+length_came (Opened line) =
+    let a = length_at_line line in
+    simp length-append (omega arith)
+length_came (Set desk line settled) =
+    let a = at_most_20 desk in
+    let b = length_at_line line in
+    let d = length_at_line settled in
     simp length-append (omega arith)
 
-pub length-became : (became : Became) → length (becameWords became) ≤ 79
-unfolding becameWords
-length-became (TakenBack committed back) =
-    let a = length-at-line committed in
-    let b = length-at-line back in
+pub length_came_text : (i : Inputs) (k : ℕ) (came : Came) → 1 ≤ k → k ≤ 15 → length (came_text i k came) ≤ 181
+unfolding came_text
+length_came_text i k came p q =
+    let a = length_field i k p q in
+    let b = length_came came in
     simp length-append (omega arith)
-length-became (Cancelled line) =
-    let a = length-at-line line in
-    simp length-append (omega arith)
-length-became Never = omega arith
 
-pub length-balked : (balked : Balked) → length (balkedWords balked) ≤ 38
-unfolding balkedWords
-length-balked No = omega arith
-length-balked (At line) =
-    let a = length-at-line line in
+pub length_became : (became : Became) → length (became_words became) ≤ 79
+unfolding became_words
+length_became (TakenBack committed back) =
+    let a = length_at_line committed in
+    let b = length_at_line back in
+    simp length-append (omega arith)
+length_became (Cancelled line) =
+    let a = length_at_line line in
+    simp length-append (omega arith)
+length_became Never = omega arith
+
+pub length_balked : (balked : Balked) → length (balked_words balked) ≤ 38
+unfolding balked_words
+length_balked No = omega arith
+length_balked (At line) =
+    let a = length_at_line line in
     simp length-append (omega arith)

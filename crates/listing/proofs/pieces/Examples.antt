@@ -9,25 +9,25 @@ use lib.Ieee.{Float, nan, fin, binary32, of_bits, round, size}
 use Rattle.base.specs.declared.angle.Degrees.{Degrees}
 use Rattle.base.specs.declared.refusal.Refusal.TheVariants.{Stale, Marker}
 use Rattle.base.specs.declared.refusal.Verdict.TheVariants.{Accepted, Refused}
-use Rattle.base.specs.Single.{decimal, minusDecimal}
+use Rattle.base.specs.Single.{decimal, minus_decimal}
 use Rattle.maps.specs.declared.figures.Shown.TheVariants.{Refused as NotShown}
 use Rattle.maps.specs.declared.inputs.Inputs.{Inputs}
-use Rattle.maps.specs.Geometry.{usesOf, useAt}
+use Rattle.maps.specs.Geometry.{uses_of, use_at}
 use Rattle.worksheet.specs.Journal.{told, shown}
 use Rattle.wording.specs.Token.{ascii}
-use Rattle.listing.specs.Text.{digitOf, hasDigit, digitAt, digitsBelow}
-use Rattle.listing.specs.Decimal.{nearestOf, signText, leadingOf, textOf, minusOf, scaledText, largeText, sizedText, decimalText}
-use Rattle.listing.specs.Uses.{useName}
-use Rattle.listing.specs.Page.{nameText, pageRow, pointHead}
-use Rattle.listing.specs.Reason.{refusedWords}
-use Rattle.listing.specs.Survey.{refusedLine}
-use Rattle.listing.specs.Fields.{atRight, in_turn, fieldName, fieldText}
-use Rattle.listing.specs.Columns.{abreast, cell, cellsText, sideRow, pointsHead}
-use Rattle.listing.specs.Spoken.{lineMark, verdictWords, shownWords, spokenText, spokenVerdict}
+use Rattle.listing.specs.Text.{digit_of, has_digit, digit_at, digits_below}
+use Rattle.listing.specs.Decimal.{nearest_of, sign_text, leading_of, text_of, minus_of, scaled_text, large_text, sized_text, decimal_text}
+use Rattle.listing.specs.Uses.{use_name}
+use Rattle.listing.specs.Page.{name_text, page_row, point_head}
+use Rattle.listing.specs.Reason.{refused_words}
+use Rattle.listing.specs.Survey.{refused_line}
+use Rattle.listing.specs.Fields.{at_right, in_turn, field_name, field_text}
+use Rattle.listing.specs.Columns.{abreast, cell, cells_text, side_row, points_head}
+use Rattle.listing.specs.Spoken.{line_mark, verdict_words, shown_words, spoken_text, spoken_verdict}
 use Rattle.listing.specs.declared.account.Came.TheVariants.{Opened, Set}
 use Rattle.listing.specs.declared.account.Became.TheVariants.{TakenBack, Cancelled, Never}
 use Rattle.listing.specs.declared.account.Balked.TheVariants.{No, At}
-use Rattle.listing.specs.Account.{atLine, cameWords, cameText, cameLine, becameWords, balkedWords, draftLine}
+use Rattle.listing.specs.Account.{at_line, came_words, came_text, came_line, became_words, balked_words, draft_line}
 
 -- ---- fields
 
@@ -40,90 +40,90 @@ some = record {
   month = 4294967295;
   ssn = decimal 925 1;
   gmt = decimal 18 0;
-  route = record { tlat = degrees (decimal 351 1); tlong = degrees (minusDecimal 101 0); rlat = degrees nan; rlong = degrees (decimal 0 1); long_path = 2 };
+  route = record { tlat = degrees (decimal 351 1); tlong = degrees (minus_decimal 101 0); rlat = degrees nan; rlong = degrees (decimal 0 1); long_path = 2 };
   psc = record { e = decimal 1 0; f1 = decimal 1 0; f2 = decimal 16777216 0; es = decimal 7 1 };
-  pole = record { lat = degrees (decimal 785 1); lon = degrees (minusDecimal 69 0) };
+  pole = record { lat = degrees (decimal 785 1); lon = degrees (minus_decimal 69 0) };
   model = 1;
 }
 
 fields :
-    (fieldText some 1 ≡ ascii "month                         4294967295")
-    × (fieldText some 2 ≡ ascii "sunspot number                 92.500000")
-    × (fieldText some 3 ≡ ascii "hour                           18.000000  hours GMT")
-    × (fieldText some 5 ≡ ascii "transmitter longitude        -101.000000  degrees")
-    × (fieldText some 6 ≡ ascii "receiver latitude                    nan  degrees")
-    × (fieldText some 8 ≡ ascii "long way round           neither 0 nor 1")
-    × (fieldText some 11 ≡ ascii "factor F2               8388608*2^1")
-    × (fieldText some 15 ≡ ascii "F2 model                            URSI")
-unfolding fieldText fieldName atRight decimal minusDecimal decimalText sizedText largeText scaledText minusOf textOf leadingOf signText nearestOf hasDigit digitOf digitsBelow digitAt of_bits round size
+    (field_text some 1 ≡ ascii "month                         4294967295")
+    × (field_text some 2 ≡ ascii "sunspot number                 92.500000")
+    × (field_text some 3 ≡ ascii "hour                           18.000000  hours GMT")
+    × (field_text some 5 ≡ ascii "transmitter longitude        -101.000000  degrees")
+    × (field_text some 6 ≡ ascii "receiver latitude                    nan  degrees")
+    × (field_text some 8 ≡ ascii "long way round           neither 0 nor 1")
+    × (field_text some 11 ≡ ascii "factor F2               8388608*2^1")
+    × (field_text some 15 ≡ ascii "F2 model                            URSI")
+unfolding field_text field_name at_right decimal minus_decimal decimal_text sized_text large_text scaled_text minus_of text_of leading_of sign_text nearest_of has_digit digit_of digits_below digit_at of_bits round size
 fields = (refl, refl, refl, refl, refl, refl, refl, refl)
 
 -- ---- points side by side
 
 -- of three points with the uses of three; of eight five are there
 heads :
-    (pointsHead (usesOf 3) (abreast 3)
+    (points_head (uses_of 3) (abreast 3)
     ≡ ascii "point                       1                2                3\nused for              E layer       all layers          E layer\n")
     × (abreast 8 ≡ 5)
-unfolding abreast pointsHead usesOf useAt useName cell in_turn atRight digitsBelow digitAt hasDigit digitOf
+unfolding abreast points_head uses_of use_at use_name cell in_turn at_right digits_below digit_at has_digit digit_of
 heads = (refl, refl)
 
 -- and over a point by itself
-alone : pointHead (usesOf 5) 3 ≡ ascii "point 4, used for: F layer\n"
-unfolding pointHead usesOf useAt useName digitsBelow digitAt hasDigit digitOf
+alone : point_head (uses_of 5) 3 ≡ ascii "point 4, used for: F layer\n"
+unfolding point_head uses_of use_at use_name digits_below digit_at has_digit digit_of
 alone = refl
 
 -- the row of the distance in km over a list of two numbers
-distance : sideRow (pageRow 13) (cellsText (nan ∷ decimal 25 1 ∷ []) 1 1) ≡ ascii "gcd_km               2.500000  km\n"
-unfolding sideRow cell atRight in_turn nameText decimal decimalText sizedText textOf leadingOf signText nearestOf hasDigit digitOf digitsBelow digitAt round
+distance : side_row (page_row 13) (cells_text (nan ∷ decimal 25 1 ∷ []) 1 1) ≡ ascii "gcd_km               2.500000  km\n"
+unfolding side_row cell at_right in_turn name_text decimal decimal_text sized_text text_of leading_of sign_text nearest_of has_digit digit_of digits_below digit_at round
 distance = refl
 
 -- of two points, the second number being one of 2 ^ 24 or more
-wide : sideRow (pageRow 25) (cellsText ((decimal 40684 6 ∷ replicate 28 nan) ++ (fin false 8998802 (pos 68) ∷ [])) 0 2) ≡ ascii "fi[0]                0.040684     8998802*2^68  MHz\n"
-unfolding sideRow cell atRight in_turn nameText decimal decimalText sizedText largeText scaledText minusOf textOf leadingOf signText nearestOf hasDigit digitOf digitsBelow digitAt round size
+wide : side_row (page_row 25) (cells_text ((decimal 40684 6 ∷ replicate 28 nan) ++ (fin false 8998802 (pos 68) ∷ [])) 0 2) ≡ ascii "fi[0]                0.040684     8998802*2^68  MHz\n"
+unfolding side_row cell at_right in_turn name_text decimal decimal_text sized_text large_text scaled_text minus_of text_of leading_of sign_text nearest_of has_digit digit_of digits_below digit_at round size
 wide = refl
 
 -- ---- answers
 
 module _ (i : Inputs) (figures : List Float) where
-  accepted : spokenText 12 i (told Accepted) ≡ ascii "line 12: accepted\n"
-  unfolding spokenText lineMark verdictWords digitsBelow digitAt hasDigit digitOf
+  accepted : spoken_text 12 i (told Accepted) ≡ ascii "line 12: accepted\n"
+  unfolding spoken_text line_mark verdict_words digits_below digit_at has_digit digit_of
   accepted = refl
 
-  refused : spokenText 12 i (told (Refused Stale)) ≡ ascii "line 12: refused 17 0: the worksheet has moved since the draft began\n"
-  unfolding spokenText lineMark verdictWords refusedLine refusedWords digitsBelow digitAt hasDigit digitOf
+  refused : spoken_text 12 i (told (Refused Stale)) ≡ ascii "line 12: refused 17 0: the worksheet has moved since the draft began\n"
+  unfolding spoken_text line_mark verdict_words refused_line refused_words digits_below digit_at has_digit digit_of
   refused = refl
 
-  not-shown : spokenText 3 i (shown (NotShown (Marker 38548)) figures) ≡ ascii "line 3: refused 10 38548: the month file has a wrong marker at this byte\n"
-  unfolding spokenText lineMark shownWords refusedLine refusedWords digitsBelow digitAt hasDigit digitOf
-  not-shown = refl
+  not_shown : spoken_text 3 i (shown (NotShown (Marker 38548)) figures) ≡ ascii "line 3: refused 10 38548: the month file has a wrong marker at this byte\n"
+  unfolding spoken_text line_mark shown_words refused_line refused_words digits_below digit_at has_digit digit_of
+  not_shown = refl
 
-opened : spokenVerdict 1 Accepted ≡ ascii "line 1: accepted\n"
-unfolding spokenVerdict lineMark verdictWords digitsBelow digitAt hasDigit digitOf
+opened : spoken_verdict 1 Accepted ≡ ascii "line 1: accepted\n"
+unfolding spoken_verdict line_mark verdict_words digits_below digit_at has_digit digit_of
 opened = refl
 
 -- ---- an audit
 
 -- where a field comes from: of an open, of a change, of a field with a unit
 origins :
-    (cameLine some 1 (Opened 1) ≡ ascii "month                         4294967295  opened at line 1\n")
-    × (cameLine some 2 (Set 1 3 8) ≡ ascii "sunspot number                 92.500000  set by desk 1 at line 3, settled at line 8\n")
-    × (cameLine some 3 (Opened 1) ≡ ascii "hour                           18.000000  hours GMT  opened at line 1\n")
-    × (cameLine some 15 (Set 4 18446744073709551615 8) ≡ ascii "F2 model                            URSI  set by desk 4 at line 18446744073709551615, settled at line 8\n")
-unfolding cameLine cameText cameWords atLine fieldText fieldName atRight decimal decimalText sizedText textOf leadingOf signText nearestOf hasDigit digitOf digitsBelow digitAt of_bits round size
+    (came_line some 1 (Opened 1) ≡ ascii "month                         4294967295  opened at line 1\n")
+    × (came_line some 2 (Set 1 3 8) ≡ ascii "sunspot number                 92.500000  set by desk 1 at line 3, settled at line 8\n")
+    × (came_line some 3 (Opened 1) ≡ ascii "hour                           18.000000  hours GMT  opened at line 1\n")
+    × (came_line some 15 (Set 4 18446744073709551615 8) ≡ ascii "F2 model                            URSI  set by desk 4 at line 18446744073709551615, settled at line 8\n")
+unfolding came_line came_text came_words at_line field_text field_name at_right decimal decimal_text sized_text text_of leading_of sign_text nearest_of has_digit digit_of digits_below digit_at of_bits round size
 origins = (refl, refl, refl, refl)
 
-no_origin : (cameLine some 0 (Opened 1) ≡ []) × (cameLine some 16 (Set 1 3 8) ≡ [])
-unfolding cameLine
+no_origin : (came_line some 0 (Opened 1) ≡ []) × (came_line some 16 (Set 1 3 8) ≡ [])
+unfolding came_line
 no_origin = (refl, refl)
 
 -- drafts that are not in the sheet: each ending, with a refused commit and without
 endings :
-    (draftLine 2 5 No (Cancelled 7) ≡ ascii "desk 2, begun at line 5: cancelled at line 7\n")
-    × (draftLine 1 5 No (TakenBack 7 9) ≡ ascii "desk 1, begun at line 5: committed at line 7, taken back at line 9\n")
-    × (draftLine 3 5 No Never ≡ ascii "desk 3, begun at line 5: not committed by then\n")
-    × (draftLine 2 5 (At 6) (Cancelled 7) ≡ ascii "desk 2, begun at line 5: refused at line 6, cancelled at line 7\n")
-    × (draftLine 1 5 (At 6) (TakenBack 7 9) ≡ ascii "desk 1, begun at line 5: refused at line 6, committed at line 7, taken back at line 9\n")
-    × (draftLine 3 5 (At 6) Never ≡ ascii "desk 3, begun at line 5: refused at line 6, not committed by then\n")
-unfolding draftLine balkedWords becameWords atLine digitsBelow digitAt hasDigit digitOf
+    (draft_line 2 5 No (Cancelled 7) ≡ ascii "desk 2, begun at line 5: cancelled at line 7\n")
+    × (draft_line 1 5 No (TakenBack 7 9) ≡ ascii "desk 1, begun at line 5: committed at line 7, taken back at line 9\n")
+    × (draft_line 3 5 No Never ≡ ascii "desk 3, begun at line 5: not committed by then\n")
+    × (draft_line 2 5 (At 6) (Cancelled 7) ≡ ascii "desk 2, begun at line 5: refused at line 6, cancelled at line 7\n")
+    × (draft_line 1 5 (At 6) (TakenBack 7 9) ≡ ascii "desk 1, begun at line 5: refused at line 6, committed at line 7, taken back at line 9\n")
+    × (draft_line 3 5 (At 6) Never ≡ ascii "desk 3, begun at line 5: refused at line 6, not committed by then\n")
+unfolding draft_line balked_words became_words at_line digits_below digit_at has_digit digit_of
 endings = (refl, refl, refl, refl, refl, refl)

@@ -8,7 +8,7 @@ use native.Mathlib.Omega.{arith}
 use native.Mathlib.Decide.{dec_lt}
 use borrow.Author.Tests.{lt-ltb, le-ltb}
 use lib.ListN.{length, get_or, take, replicate, length-take, length-map, get_or-map, get_or-append, get_or-eq_default}
-use Rattle.base.proofs.verdicts.Picks.{cond-true, cond-false}
+use Rattle.base.proofs.verdicts.Picks.{cond_true, cond_false}
 use mathlib.Core.Logic.{inl, inr}
 use denote.Enum.Declared.{tag_of}
 use types.Run.{OneOf}
@@ -16,8 +16,8 @@ use Rattle.wording.specs.contracts.line.Wanted.{the_type}
 use Rattle.wording.specs.declared.line.Wanted.{Wanted}
 use Rattle.wording.specs.declared.line.Wanted.TheVariants.{Start, Deed, Word, Number, Whole, Model, Nothing}
 use Rattle.wording.specs.Token.{ascii, names}
-use Rattle.listing.specs.Fault.{wordName, wantedText, sayings, sayingOf, nameRow}
-use Rattle.listing.proofs.pieces.Rows.{any-default}
+use Rattle.listing.specs.Fault.{word_name, wanted_text, sayings, saying_of, name_row}
+use Rattle.listing.proofs.pieces.Rows.{any_default}
 
 -- ---- a table of texts
 
@@ -36,7 +36,7 @@ module _ (width : ℕ) (rows : List String) (whole : map (cut width) rows ≡ ma
   row_at : get_or (map (padded width) rows) k [] ≡ padded width (get_or rows k "")
   row_at =
       let l = length-map rows (padded width) in
-      any-default (map (padded width) rows) k [] (padded width "") (omega arith) ∙ get_or-map (padded width) rows k ""
+      any_default (map (padded width) rows) k [] (padded width "") (omega arith) ∙ get_or-map (padded width) rows k ""
 
   -- the letters that the source puts are the text
   pub text_at : take (get_or (map letters rows) k 0) (get_or (map (padded width) rows) k []) ≡ ascii (get_or rows k "")
@@ -47,23 +47,23 @@ module _ (width : ℕ) (rows : List String) (whole : map (cut width) rows ≡ ma
       ∙ ap (λ (l : List (List ℕ)). get_or l k []) whole
       ∙ get_or-map ascii rows k ""
 
-  pub letters-at : get_or (map letters rows) k 0 ≡ length (take (get_or (map letters rows) k 0) (get_or (map (padded width) rows) k []))
-  letters-at = get_or-map letters rows k "" ∙ sym (ap length text_at)
+  pub letters_at : get_or (map letters rows) k 0 ≡ length (take (get_or (map letters rows) k 0) (get_or (map (padded width) rows) k []))
+  letters_at = get_or-map letters rows k "" ∙ sym (ap length text_at)
 
-  pub letters-fit : get_or (map letters rows) k 0 ≤ length (get_or (map (padded width) rows) k [])
-  letters-fit =
-      omega (arith, letters-at, length-take (get_or (map letters rows) k 0) (get_or (map (padded width) rows) k []))
+  pub letters_fit : get_or (map letters rows) k 0 ≤ length (get_or (map (padded width) rows) k [])
+  letters_fit =
+      omega (arith, letters_at, length-take (get_or (map letters rows) k 0) (get_or (map (padded width) rows) k []))
 
-  pub text-most : length (ascii (get_or rows k "")) ≤ width
-  text-most =
+  pub text_most : length (ascii (get_or rows k "")) ≤ width
+  text_most =
       let s = get_or rows k "" in
       let a : get_or (map letters rows) k 0 ≡ letters s = get_or-map letters rows k "" in
-      omega (arith, letters-fit, ap length row_at, length-take width (ascii s ++ replicate width 32))
+      omega (arith, letters_fit, ap length row_at, length-take width (ascii s ++ replicate width 32))
 
 -- ---- what is said
 
-pub same-sayings : map (cut 89) sayings ≡ map ascii sayings
-same-sayings = refl
+pub same_sayings : map (cut 89) sayings ≡ map ascii sayings
+same_sayings = refl
 
 -- the variants but `Word`, by their places
 abbrev others : List ℕ
@@ -78,8 +78,8 @@ no_other (inr (inr (inr (inr (inl e))))) = omega arith
 no_other (inr (inr (inr (inr (inr e))))) = omega arith
 
 -- it is all, unless a word is wanted
-pub said : (w : Wanted) → OneOf others (tag_of the_type w) → ascii (sayingOf w) ≡ wantedText w
-unfolding wantedText
+pub said : (w : Wanted) → OneOf others (tag_of the_type w) → ascii (saying_of w) ≡ wanted_text w
+unfolding wanted_text
 said Start o = refl
 said Deed o = refl
 said (Word k) o = absurd (no_other o)
@@ -90,20 +90,20 @@ said Nothing o = refl
 
 -- ---- the names
 
-abbrev pub nameRows : List String
-nameRows = names ++ ("another" ∷ [])
+abbrev pub name_rows : List String
+name_rows = names ++ ("another" ∷ [])
 
-pub same_names : map (cut 7) nameRows ≡ map ascii nameRows
+pub same_names : map (cut 7) name_rows ≡ map ascii name_rows
 same_names = refl
 
-pub name-at : (k : ℕ) → get_or nameRows (nameRow k) "" ≡ wordName k
-name-at k =
+pub name_at_law : (k : ℕ) → get_or name_rows (name_row k) "" ≡ word_name k
+name_at_law k =
     elim (dec_lt k 19) [
       | yes h ↦
-          ap (λ (j : ℕ). get_or nameRows j "") (cond-true k 19 (lt-ltb k 19 h))
+          ap (λ (j : ℕ). get_or name_rows j "") (cond_true k 19 (lt-ltb k 19 h))
           ∙ get_or-append names ("another" ∷ []) "" k h
-          ∙ any-default names k "" "another" h
+          ∙ any_default names k "" "another" h
       | no h ↦
-          ap (λ (j : ℕ). get_or nameRows j "") (cond-false k 19 (le-ltb k 19 (omega arith)))
+          ap (λ (j : ℕ). get_or name_rows j "") (cond_false k 19 (le-ltb k 19 (omega arith)))
           ∙ sym (get_or-eq_default names "another" {n = k} (omega arith))
     ]

@@ -11,28 +11,28 @@ use lib.ListN.{length}
 use Rattle.base.proofs.ladder.Ladders.{and_left, and_right}
 use Rattle.wording.specs.declared.number.Decimal.{Decimal}
 use Rattle.wording.specs.Number.{is_written}
-use Rattle.listing.specs.Text.{digitOf}
-use Rattle.listing.specs.Written.{placesText}
+use Rattle.listing.specs.Text.{digit_of}
+use Rattle.listing.specs.Written.{places_text}
 
-pub next-digit : (n k : ℕ) → 0 < k → placesText n k ≡ (digitOf n (k - 1) ∷ []) ++ placesText n (k - 1)
-unfolding placesText
-next-digit n k h =
+pub next_digit : (n k : ℕ) → 0 < k → places_text n k ≡ (digit_of n (k - 1) ∷ []) ++ places_text n (k - 1)
+unfolding places_text
+next_digit n k h =
     let e : k ≡ suc (k - 1) = omega arith in
-    ap (placesText n) e
+    ap (places_text n) e
 
-pub no-digits : (n k : ℕ) → k ≡ 0 → placesText n k ≡ []
-unfolding placesText
-no-digits n k e = ap (placesText n) e
+pub no_digits : (n k : ℕ) → k ≡ 0 → places_text n k ≡ []
+unfolding places_text
+no_digits n k e = ap (places_text n) e
 
-pub length-fraction : (n k : ℕ) → length (placesText n k) ≡ k
-unfolding placesText
-length-fraction n zero = refl
-length-fraction n (suc k) = ap suc (length-fraction n k)
+pub length_fraction : (n k : ℕ) → length (places_text n k) ≡ k
+unfolding places_text
+length_fraction n zero = refl
+length_fraction n (suc k) = ap suc (length_fraction n k)
 
 -- ---- bounds
 
-pub few-digits : (d : Decimal) → is_written d ≡ true → d.digits < 10 ^ 18
-few-digits d e = ltb-true _ _ (and_left (ltb d.digits (10 ^ 18)) (leb d.places 18) e)
+pub few_digits : (d : Decimal) → is_written d ≡ true → d.digits < 10 ^ 18
+few_digits d e = ltb-true _ _ (and_left (ltb d.digits (10 ^ 18)) (leb d.places 18) e)
 
-pub few-places : (d : Decimal) → is_written d ≡ true → d.places ≤ 18
-few-places d e = leb-true _ _ (and_right (ltb d.digits (10 ^ 18)) (leb d.places 18) e)
+pub few_places : (d : Decimal) → is_written d ≡ true → d.places ≤ 18
+few_places d e = leb-true _ _ (and_right (ltb d.digits (10 ^ 18)) (leb d.places 18) e)

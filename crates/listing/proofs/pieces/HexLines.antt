@@ -9,18 +9,18 @@ use lib.ListN.{length, get_or, drop, length-append, drop_of_length-le}
 use lib.Seq.{drop-cons}
 use lib.Ieee.{Float, nan}
 use Rattle.wording.specs.Token.{ascii}
-use Rattle.listing.specs.Answer.{glyphOf, hexOf, line_of, lines_of}
+use Rattle.listing.specs.Answer.{glyph_of, hex_of, line_of, lines_of}
 
-pub length-line : (x : Float) → length (line_of x) ≡ 9
-unfolding line_of hexOf
-length-line x = refl
+pub length_line : (x : Float) → length (line_of x) ≡ 9
+unfolding line_of hex_of
+length_line x = refl
 
-pub length-lines : (xs : List Float) → length (lines_of xs) ≡ 9 * length xs
+pub length_lines : (xs : List Float) → length (lines_of xs) ≡ 9 * length xs
 unfolding lines_of
-length-lines [] = refl
-length-lines (x ∷ xs) =
-    let a = length-line x in
-    let b = length-lines xs in
+length_lines [] = refl
+length_lines (x ∷ xs) =
+    let a = length_line x in
+    let b = length_lines xs in
     length-append (line_of x) (lines_of xs) ∙ omega arith
 
 -- the lines from the one of number k on
@@ -34,6 +34,6 @@ no_lines xs k h = ap lines_of (drop_of_length-le xs {i = k} h)
 
 -- ---- by computation
 
-sixteen-digits : map glyphOf (0 ∷ 1 ∷ 2 ∷ 3 ∷ 4 ∷ 5 ∷ 6 ∷ 7 ∷ 8 ∷ 9 ∷ 10 ∷ 11 ∷ 12 ∷ 13 ∷ 14 ∷ 15 ∷ []) ≡ ascii "0123456789abcdef"
-unfolding glyphOf
-sixteen-digits = refl
+sixteen_digits : map glyph_of (0 ∷ 1 ∷ 2 ∷ 3 ∷ 4 ∷ 5 ∷ 6 ∷ 7 ∷ 8 ∷ 9 ∷ 10 ∷ 11 ∷ 12 ∷ 13 ∷ 14 ∷ 15 ∷ []) ≡ ascii "0123456789abcdef"
+unfolding glyph_of
+sixteen_digits = refl

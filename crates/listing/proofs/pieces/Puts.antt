@@ -106,8 +106,8 @@ module _ (before : List ℕ) (at : ℕ) (piece : List ℕ) (h : at + length piec
       ∙ paste-suc before at piece i 0 (omega arith) (omega arith)
       ∙ ap (begun before at piece) (sym (add-one i))
 
-  pub length-begun : (i : ℕ) → i ≤ length piece → length (begun before at piece i) ≡ length before
-  length-begun i q = length-paste before at piece i (omega arith) q
+  pub length_begun : (i : ℕ) → i ≤ length piece → length (begun before at piece i) ≡ length before
+  length_begun i q = length-paste before at piece i (omega arith) q
 
   pub complete : {l : List ℕ} (i : ℕ) → i ≡ length piece → l ≡ begun before at piece i → Put before at piece l (at + i)
   complete i q e =
@@ -117,5 +117,5 @@ module _ (before : List ℕ) (at : ℕ) (piece : List ℕ) (h : at + length piec
             ∙ take-paste before at piece i (omega arith) (omega arith)
             ∙ ap (λ (l : List ℕ). take at before ++ l) (take_all i piece (omega arith));
         place = ap (λ (n : ℕ). at + n) q;
-        size = ap length e ∙ length-begun i (omega arith);
+        size = ap length e ∙ length_begun i (omega arith);
       }

@@ -14,13 +14,13 @@ use Rattle.base.specs.declared.refusal.Refusal.{Refusal}
 use Rattle.base.specs.declared.refusal.Refusal.TheVariants.{Month, Sunspot, Hour, Latitude, Longitude, Factor, Flag, Model, Record, Ended, Marker, RecordWord, MonthWord, Index, Figures, Table, Desk, Drafted, NoDraft, Stale, NothingEarlier, Year}
 use Rattle.base.specs.declared.refusal.Verdict.{Verdict}
 use Rattle.base.specs.declared.refusal.Verdict.TheVariants.{Accepted, Refused}
-use Rattle.base.specs.Refusal.{reportOf}
+use Rattle.base.specs.Refusal.{report_of}
 use Rattle.wording.specs.Token.{ascii}
-use Rattle.listing.specs.Text.{decimalOf}
-use Rattle.listing.specs.Reason.{reasonOf, reasons, reasonRow, refusedWords}
-use Rattle.listing.specs.Survey.{modelName, foundText}
-use Rattle.listing.proofs.digits.Places.{at-most-10, at-most-20}
-use Rattle.listing.proofs.pieces.Rows.{any-default}
+use Rattle.listing.specs.Text.{decimal_of}
+use Rattle.listing.specs.Reason.{reason_of, reasons, reason_row, refused_words}
+use Rattle.listing.specs.Survey.{model_name, found_text}
+use Rattle.listing.proofs.digits.Places.{at_most_10, at_most_20}
+use Rattle.listing.proofs.pieces.Rows.{any_default}
 
 -- ---- the table
 
@@ -34,14 +34,14 @@ letters s = length (ascii s)
 abbrev cut : String → List ℕ
 cut s = take (letters s) (padded s)
 
-same-letters : map cut reasons ≡ map ascii reasons
-same-letters = refl
+same_letters : map cut reasons ≡ map ascii reasons
+same_letters = refl
 
 -- of a refusal: its reason is the one of its row, and its row is below 22 and its number below 24
 record Rowed (why : Refusal) : Type 0 where
-  words : get_or reasons (reasonRow why) "" ≡ reasonOf why
-  row : reasonRow why < 22
-  number : (reportOf why).0 < 24
+  words : get_or reasons (reason_row why) "" ≡ reason_of why
+  row : reason_row why < 22
+  number : (report_of why).0 < 24
 
 rowed : (why : Refusal) → Rowed why
 rowed Month = record { words = refl; row = omega arith; number = omega arith }
@@ -68,65 +68,65 @@ rowed NothingEarlier = record { words = refl; row = omega arith; number = omega 
 rowed (Year pair) = record { words = refl; row = omega arith; number = omega arith }
 
 -- the letters that the source puts are the reason's
-pub reason-at :
-    (why : Refusal) {k : ℕ} → k ≡ reasonRow why → k < 22 →
-    take (get_or (map letters reasons) k 0) (get_or (map padded reasons) k []) ≡ ascii (reasonOf why)
-reason-at why {k} e h =
+pub reason_at :
+    (why : Refusal) {k : ℕ} → k ≡ reason_row why → k < 22 →
+    take (get_or (map letters reasons) k 0) (get_or (map padded reasons) k []) ≡ ascii (reason_of why)
+reason_at why {k} e h =
     ap (λ (n : ℕ). take n (get_or (map padded reasons) k [])) (get_or-map letters reasons k "")
-    ∙ ap (take (letters (get_or reasons k ""))) (any-default (map padded reasons) k [] (padded "") h ∙ get_or-map padded reasons k "")
+    ∙ ap (take (letters (get_or reasons k ""))) (any_default (map padded reasons) k [] (padded "") h ∙ get_or-map padded reasons k "")
     ∙ sym (get_or-map cut reasons k "")
-    ∙ ap (λ (l : List (List ℕ)). get_or l k []) same-letters
+    ∙ ap (λ (l : List (List ℕ)). get_or l k []) same_letters
     ∙ get_or-map ascii reasons k ""
     ∙ ap (λ (j : ℕ). ascii (get_or reasons j "")) e
     ∙ ap ascii (rowed why).words
 
-pub letters-at : (why : Refusal) {k : ℕ} → k ≡ reasonRow why → get_or (map letters reasons) k 0 ≡ length (ascii (reasonOf why))
-letters-at why {k} e =
+pub letters_at : (why : Refusal) {k : ℕ} → k ≡ reason_row why → get_or (map letters reasons) k 0 ≡ length (ascii (reason_of why))
+letters_at why {k} e =
     get_or-map letters reasons k ""
     ∙ ap (λ (j : ℕ). letters (get_or reasons j "")) e
     ∙ ap letters (rowed why).words
 
 -- ---- how long
 
-is-most : ℕ → ℕ → Bool
-is-most k n = leb n 49
+is_most : ℕ → ℕ → Bool
+is_most k n = leb n 49
 
-pub letters-most : (k : ℕ) → k < 22 → get_or (map letters reasons) k 0 ≤ 49
-unfolding is-most
-letters-most k h = leb→le (get_or (map letters reasons) k 0) 49 (entry is-most (map letters reasons) tt k h)
+pub letters_most : (k : ℕ) → k < 22 → get_or (map letters reasons) k 0 ≤ 49
+unfolding is_most
+letters_most k h = leb→le (get_or (map letters reasons) k 0) 49 (entry is_most (map letters reasons) tt k h)
 
 -- the row has them
-pub letters-fit : (k : ℕ) → k < 22 → get_or (map letters reasons) k 0 ≤ length (get_or (map padded reasons) k [])
-letters-fit k h =
+pub letters_fit : (k : ℕ) → k < 22 → get_or (map letters reasons) k 0 ≤ length (get_or (map padded reasons) k [])
+letters_fit k h =
     let s = get_or reasons k "" in
     let l = ascii s ++ replicate 49 32 in
     let a = length-append (ascii s) (replicate 49 32) in
-    let e = ap length (any-default (map padded reasons) k [] (padded "") h ∙ get_or-map padded reasons k "") in
-    omega (arith, e, length-take-le 49 l (omega arith), letters-most k h)
+    let e = ap length (any_default (map padded reasons) k [] (padded "") h ∙ get_or-map padded reasons k "") in
+    omega (arith, e, length-take-le 49 l (omega arith), letters_most k h)
 
-pub length-reason : (why : Refusal) → length (ascii (reasonOf why)) ≤ 49
-length-reason why =
-    let k = reasonRow why in
-    omega (arith, letters-at why {k = k} refl, letters-most k (rowed why).row)
+pub length_reason : (why : Refusal) → length (ascii (reason_of why)) ≤ 49
+length_reason why =
+    let k = reason_row why in
+    omega (arith, letters_at why {k = k} refl, letters_most k (rowed why).row)
 
 -- a number has at most ten digits, a place twenty
-pub length-refused : (why : Refusal) → length (refusedWords why) ≤ 94
-unfolding refusedWords
-length-refused why =
+pub length_refused : (why : Refusal) → length (refused_words why) ≤ 94
+unfolding refused_words
+length_refused why =
     let n = (rowed why).number in
-    let a = at-most-10 (reportOf why).0 (omega arith) in
-    let b = at-most-20 (reportOf why).1 in
-    let d = length-reason why in
+    let a = at_most_10 (report_of why).0 (omega arith) in
+    let b = at_most_20 (report_of why).1 in
+    let d = length_reason why in
     simp length-append (omega (arith, a, b, d))
 
-pub length_found : (v : Verdict) → length (foundText v) ≤ 94
+pub length_found : (v : Verdict) → length (found_text v) ≤ 94
 length_found Accepted = omega arith
-length_found (Refused why) = length-refused why
+length_found (Refused why) = length_refused why
 
-name-most : (ccir ursi : Bool) → length (ascii (cond ccir "CCIR" (cond ursi "URSI" "no model"))) ≤ 8
-name-most true ursi = omega arith
-name-most false true = omega arith
-name-most false false = omega arith
+name_most : (ccir ursi : Bool) → length (ascii (cond ccir "CCIR" (cond ursi "URSI" "no model"))) ≤ 8
+name_most true ursi = omega arith
+name_most false true = omega arith
+name_most false false = omega arith
 
-pub length-model : (model : ℕ) → length (ascii (modelName model)) ≤ 8
-length-model model = name-most (eqb model 0) (eqb model 1)
+pub length_model : (model : ℕ) → length (ascii (model_name model)) ≤ 8
+length_model model = name_most (eqb model 0) (eqb model 1)

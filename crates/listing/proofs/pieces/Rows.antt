@@ -12,48 +12,48 @@ use lib.ListN.{length, get_or, take, drop, replicate, length-append, drop_of_len
 use lib.Seq.{length-take-le, drop-cons}
 use lib.Ieee.{Float, nan, binary32, to_bits}
 use Rattle.base.proofs.lists.Entries.{at as entry}
-use Rattle.base.proofs.verdicts.Picks.{cond-true, cond-false}
+use Rattle.base.proofs.verdicts.Picks.{cond_true, cond_false}
 use Rattle.maps.specs.declared.inputs.Inputs.{Inputs}
-use Rattle.maps.specs.Inputs.{isLong}
+use Rattle.maps.specs.Inputs.{is_long}
 use Rattle.wording.specs.Token.{ascii}
 use Rattle.listing.specs.Text.{Put}
-use Rattle.listing.specs.Answer.{hexOf}
+use Rattle.listing.specs.Answer.{hex_of}
 use Rattle.maps.specs.declared.geometry.Uses.{Uses}
-use Rattle.maps.specs.Geometry.{useAt}
-use Rattle.listing.specs.Page.{Row, pageRows, pageRow, nameText, lettersIn, unitIn, unitText, valueText, rowText, rowsText, earlyFields, lateFields, longText, fieldsText, pointHead, pointText, thereText, firstPoints}
-use Rattle.listing.proofs.digits.Places.{at-most-20}
+use Rattle.maps.specs.Geometry.{use_at}
+use Rattle.listing.specs.Page.{Row, page_rows, page_row, name_text, letters_in, unit_in, unit_text, value_text, row_text, rows_text, early_fields, late_fields, long_text, fields_text, point_head, point_text, there_text, first_points}
+use Rattle.listing.proofs.digits.Places.{at_most_20}
 use Rattle.listing.proofs.pieces.Puts.{nothing}
-use Rattle.listing.proofs.digits.Values.{either, length-decimal}
-use Rattle.listing.proofs.pieces.UseWords.{length-use}
+use Rattle.listing.proofs.digits.Values.{either, length_decimal}
+use Rattle.listing.proofs.pieces.UseWords.{length_use}
 
 -- ---- the letters before a blank
 
 pub word_next :
-    (l : List ℕ) (k : ℕ) → k < length l → (get_or l k 0 ≡ 32 → ⊥) → lettersIn (drop k l) ≡ (get_or l k 0 ∷ []) ++ lettersIn (drop (k + 1) l)
-unfolding lettersIn
+    (l : List ℕ) (k : ℕ) → k < length l → (get_or l k 0 ≡ 32 → ⊥) → letters_in (drop k l) ≡ (get_or l k 0 ∷ []) ++ letters_in (drop (k + 1) l)
+unfolding letters_in
 word_next l k h n =
-    ap lettersIn (drop-cons l k 0 h)
-    ∙ cond-false _ _ (ne_eqb (get_or l k 0) 32 n)
-    ∙ ap (λ (j : ℕ). get_or l k 0 ∷ lettersIn (drop j l)) (sym (add-one k))
+    ap letters_in (drop-cons l k 0 h)
+    ∙ cond_false _ _ (ne_eqb (get_or l k 0) 32 n)
+    ∙ ap (λ (j : ℕ). get_or l k 0 ∷ letters_in (drop j l)) (sym (add-one k))
 
-pub word_end : (l : List ℕ) (k : ℕ) → k < length l → get_or l k 0 ≡ 32 → lettersIn (drop k l) ≡ []
-unfolding lettersIn
-word_end l k h e = ap lettersIn (drop-cons l k 0 h) ∙ cond-true _ _ (eq-eqb (get_or l k 0) 32 e)
+pub word_end : (l : List ℕ) (k : ℕ) → k < length l → get_or l k 0 ≡ 32 → letters_in (drop k l) ≡ []
+unfolding letters_in
+word_end l k h e = ap letters_in (drop-cons l k 0 h) ∙ cond_true _ _ (eq-eqb (get_or l k 0) 32 e)
 
-pub word_none : (l : List ℕ) (k : ℕ) → length l ≤ k → lettersIn (drop k l) ≡ []
-unfolding lettersIn
-word_none l k h = ap lettersIn (drop_of_length-le l {i = k} h)
+pub word_none : (l : List ℕ) (k : ℕ) → length l ≤ k → letters_in (drop k l) ≡ []
+unfolding letters_in
+word_none l k h = ap letters_in (drop_of_length-le l {i = k} h)
 
-pub length-word : (l : List ℕ) → length (lettersIn l) ≤ length l
-unfolding lettersIn
-length-word [] = omega arith
-length-word (x ∷ l) = either (eqb x 32) [] (x ∷ lettersIn l) (suc (length l)) (omega arith) (let a = length-word l in omega arith)
+pub length_word : (l : List ℕ) → length (letters_in l) ≤ length l
+unfolding letters_in
+length_word [] = omega arith
+length_word (x ∷ l) = either (eqb x 32) [] (x ∷ letters_in l) (suc (length l)) (omega arith) (let a = length_word l in omega arith)
 
-pub length-unit : (l : List ℕ) → length (unitIn l) ≤ 2 + length l
-unfolding unitIn
-length-unit l =
-    let a = length-word l in
-    either (eqb (get_or l 0 0) 32) [] (ascii "  " ++ lettersIn l) (2 + length l) (omega arith) (omega (arith, length-append (ascii "  ") (lettersIn l)))
+pub length_unit : (l : List ℕ) → length (unit_in l) ≤ 2 + length l
+unfolding unit_in
+length_unit l =
+    let a = length_word l in
+    either (eqb (get_or l 0 0) 32) [] (ascii "  " ++ letters_in l) (2 + length l) (omega arith) (omega (arith, length-append (ascii "  ") (letters_in l)))
 
 -- ---- the table as bytes
 
@@ -61,138 +61,138 @@ length-unit l =
 abbrev padded : Row → List ℕ
 padded w = take 7 (ascii w.unit ++ replicate 7 32)
 
-abbrev its-unit : Row → List ℕ
-its-unit w = unitText w.unit
+abbrev its_unit : Row → List ℕ
+its_unit w = unit_text w.unit
 
 abbrev nobody : Row
 nobody = record { name = ""; unit = "" }
 
-pub any-default : {A : Type 0} (l : List A) (k : ℕ) (d d' : A) → k < length l → get_or l k d ≡ get_or l k d'
-any-default [] k d d' h = absurd (omega arith)
-any-default (x ∷ l) zero d d' h = refl
-any-default (x ∷ l) (suc k) d d' h = any-default l k d d' (omega arith)
+pub any_default : {A : Type 0} (l : List A) (k : ℕ) (d d' : A) → k < length l → get_or l k d ≡ get_or l k d'
+any_default [] k d d' h = absurd (omega arith)
+any_default (x ∷ l) zero d d' h = refl
+any_default (x ∷ l) (suc k) d d' h = any_default l k d d' (omega arith)
 
-pub name-at : (k : ℕ) → k < 47 → get_or (map nameText pageRows) k [] ≡ nameText (pageRow k)
-name-at k h = any-default (map nameText pageRows) k [] (nameText nobody) h ∙ get_or-map nameText pageRows k nobody
+pub name_at_law : (k : ℕ) → k < 47 → get_or (map name_text page_rows) k [] ≡ name_text (page_row k)
+name_at_law k h = any_default (map name_text page_rows) k [] (name_text nobody) h ∙ get_or-map name_text page_rows k nobody
 
-same_units : map unitIn (map padded pageRows) ≡ map its-unit pageRows
-unfolding unitIn lettersIn
+same_units : map unit_in (map padded page_rows) ≡ map its_unit page_rows
+unfolding unit_in letters_in
 same_units = refl
 
-pub unit-at : (k : ℕ) → k < 47 → unitIn (get_or (map padded pageRows) k []) ≡ unitText (pageRow k).unit
-unit-at k h =
-    sym (get_or-map unitIn (map padded pageRows) k [])
-    ∙ ap (λ (l : List (List ℕ)). get_or l k (unitIn [])) same_units
-    ∙ any-default (map its-unit pageRows) k (unitIn []) (its-unit nobody) h
-    ∙ get_or-map its-unit pageRows k nobody
+pub unit_at : (k : ℕ) → k < 47 → unit_in (get_or (map padded page_rows) k []) ≡ unit_text (page_row k).unit
+unit_at k h =
+    sym (get_or-map unit_in (map padded page_rows) k [])
+    ∙ ap (λ (l : List (List ℕ)). get_or l k (unit_in [])) same_units
+    ∙ any_default (map its_unit page_rows) k (unit_in []) (its_unit nobody) h
+    ∙ get_or-map its_unit page_rows k nobody
 
 -- ---- a line
 
-pub length-name : (w : Row) → length (nameText w) ≡ 12
-unfolding nameText
-length-name w =
+pub length_name : (w : Row) → length (name_text w) ≡ 12
+unfolding name_text
+length_name w =
     let l = ascii w.name ++ replicate 12 32 in
     let a = length-append (ascii w.name) (replicate 12 32) in
     length-take-le 12 l (omega arith)
 
-is-most : ℕ → ℕ → Bool
-is-most k n = leb n 9
+is_most : ℕ → ℕ → Bool
+is_most k n = leb n 9
 
 unit_size : Row → ℕ
-unit_size w = length (unitText w.unit)
+unit_size w = length (unit_text w.unit)
 
-pub length-its-unit : (k : ℕ) → k < 47 → length (unitText (pageRow k).unit) ≤ 9
-unfolding is-most unit_size
-length-its-unit k h =
-    let a : get_or (map unit_size pageRows) k 0 ≡ unit_size (pageRow k) = get_or-map unit_size pageRows k nobody in
-    omega (arith, leb→le (get_or (map unit_size pageRows) k 0) 9 (entry is-most (map unit_size pageRows) tt k h))
+pub length_its_unit : (k : ℕ) → k < 47 → length (unit_text (page_row k).unit) ≤ 9
+unfolding is_most unit_size
+length_its_unit k h =
+    let a : get_or (map unit_size page_rows) k 0 ≡ unit_size (page_row k) = get_or-map unit_size page_rows k nobody in
+    omega (arith, leb→le (get_or (map unit_size page_rows) k 0) 9 (entry is_most (map unit_size page_rows) tt k h))
 
-length-hex : (n : ℕ) → length (hexOf n) ≡ 8
-unfolding hexOf
-length-hex n = refl
+length_hex : (n : ℕ) → length (hex_of n) ≡ 8
+unfolding hex_of
+length_hex n = refl
 
-pub length-value : (x : Float) → length (valueText x) ≤ 54
-unfolding valueText
-length-value x =
-    let b = length-decimal x in
-    let d = length-hex (to_bits binary32 x) in
+pub length_value : (x : Float) → length (value_text x) ≤ 54
+unfolding value_text
+length_value x =
+    let b = length_decimal x in
+    let d = length_hex (to_bits binary32 x) in
     simp length-append (omega arith)
 
-pub length-row : (k : ℕ) (x : Float) → k < 47 → length (rowText (pageRow k) x) ≤ 76
-unfolding rowText
-length-row k x h =
-    let a = length-name (pageRow k) in
-    let b = length-value x in
-    let d = length-its-unit k h in
+pub length_row : (k : ℕ) (x : Float) → k < 47 → length (row_text (page_row k) x) ≤ 76
+unfolding row_text
+length_row k x h =
+    let a = length_name (page_row k) in
+    let b = length_value x in
+    let d = length_its_unit k h in
     simp length-append (omega arith)
 
 -- ---- lines
 
 module _ (first : ℕ) (xs : List Float) (at : ℕ) where
-  pub no_rows : (l : List ℕ) (p : ℕ) → Put l p (rowsText first xs at 0) l p
-  unfolding rowsText
+  pub no_rows : (l : List ℕ) (p : ℕ) → Put l p (rows_text first xs at 0) l p
+  unfolding rows_text
   no_rows l p = nothing l p
 
-  pub next_row : (k : ℕ) → rowsText first xs at k ++ rowText (pageRow (first + k)) (get_or xs (at + k) nan) ≡ rowsText first xs at (k + 1)
-  unfolding rowsText
-  next_row k = sym (ap (rowsText first xs at) (add-one k))
+  pub next_row : (k : ℕ) → rows_text first xs at k ++ row_text (page_row (first + k)) (get_or xs (at + k) nan) ≡ rows_text first xs at (k + 1)
+  unfolding rows_text
+  next_row k = sym (ap (rows_text first xs at) (add-one k))
 
-  pub length-rows : (n : ℕ) → first + n ≤ 47 → length (rowsText first xs at n) ≤ 76 * n
-  unfolding rowsText
-  length-rows zero h = omega arith
-  length-rows (suc k) h =
-      let a = length-rows k (omega arith) in
-      let b = length-row (first + k) (get_or xs (at + k) nan) (omega arith) in
-      omega (arith, length-append (rowsText first xs at k) (rowText (pageRow (first + k)) (get_or xs (at + k) nan)))
+  pub length_rows : (n : ℕ) → first + n ≤ 47 → length (rows_text first xs at n) ≤ 76 * n
+  unfolding rows_text
+  length_rows zero h = omega arith
+  length_rows (suc k) h =
+      let a = length_rows k (omega arith) in
+      let b = length_row (first + k) (get_or xs (at + k) nan) (omega arith) in
+      omega (arith, length-append (rows_text first xs at k) (row_text (page_row (first + k)) (get_or xs (at + k) nan)))
 
 -- ---- points
 
-pub length-point-head : (u : Uses) (p : ℕ) → length (pointHead u p) ≤ 49
-unfolding pointHead
-length-point-head u p =
-    let a = at-most-20 (p + 1) in
-    let b = length-use (useAt u p) in
+pub length_point_head : (u : Uses) (p : ℕ) → length (point_head u p) ≤ 49
+unfolding point_head
+length_point_head u p =
+    let a = at_most_20 (p + 1) in
+    let b = length_use (use_at u p) in
     simp length-append (omega arith)
 
-pub length-point : (u : Uses) (xs : List Float) (p : ℕ) → length (pointText u xs p) ≤ 2253
-unfolding pointText
-length-point u xs p =
-    let a = length-point-head u p in
-    let b = length-rows 18 xs (6 + 29 * p) 29 (omega arith) in
+pub length_point : (u : Uses) (xs : List Float) (p : ℕ) → length (point_text u xs p) ≤ 2253
+unfolding point_text
+length_point u xs p =
+    let a = length_point_head u p in
+    let b = length_rows 18 xs (6 + 29 * p) 29 (omega arith) in
     simp length-append (omega arith)
 
-pub length-there : (count : ℕ) (u : Uses) (xs : List Float) (p : ℕ) → length (thereText count u xs p) ≤ 2253
-unfolding thereText
-length-there count u xs p = either (ltb p count) (pointText u xs p) [] 2253 (length-point u xs p) (omega arith)
+pub length_there : (count : ℕ) (u : Uses) (xs : List Float) (p : ℕ) → length (there_text count u xs p) ≤ 2253
+unfolding there_text
+length_there count u xs p = either (ltb p count) (point_text u xs p) [] 2253 (length_point u xs p) (omega arith)
 
 module _ (count : ℕ) (u : Uses) (xs : List Float) where
-  pub no-points : (l : List ℕ) (at : ℕ) → Put l at (firstPoints count u xs 0) l at
-  unfolding firstPoints
-  no-points l at = nothing l at
+  pub no_points : (l : List ℕ) (at : ℕ) → Put l at (first_points count u xs 0) l at
+  unfolding first_points
+  no_points l at = nothing l at
 
-  pub next-point : (p : ℕ) → firstPoints count u xs p ++ thereText count u xs p ≡ firstPoints count u xs (p + 1)
-  unfolding firstPoints
-  next-point p = sym (ap (firstPoints count u xs) (add-one p))
+  pub next_point : (p : ℕ) → first_points count u xs p ++ there_text count u xs p ≡ first_points count u xs (p + 1)
+  unfolding first_points
+  next_point p = sym (ap (first_points count u xs) (add-one p))
 
-  pub length-points : (n : ℕ) → length (firstPoints count u xs n) ≤ 2253 * n
-  unfolding firstPoints
-  length-points zero = omega arith
-  length-points (suc p) =
-      let a = length-points p in
-      let b = length-there count u xs p in
-      omega (arith, length-append (firstPoints count u xs p) (thereText count u xs p))
+  pub length_points : (n : ℕ) → length (first_points count u xs n) ≤ 2253 * n
+  unfolding first_points
+  length_points zero = omega arith
+  length_points (suc p) =
+      let a = length_points p in
+      let b = length_there count u xs p in
+      omega (arith, length-append (first_points count u xs p) (there_text count u xs p))
 
 -- ---- fields
 
-pub length-long : (long : Bool) → length (longText long) ≤ 19
-unfolding longText
-length-long long = either long (ascii "the long way round\n") [] 19 (omega arith) (omega arith)
+pub length_long : (long : Bool) → length (long_text long) ≤ 19
+unfolding long_text
+length_long long = either long (ascii "the long way round\n") [] 19 (omega arith) (omega arith)
 
-pub length_fields : (i : Inputs) → length (fieldsText i) ≤ 964
-unfolding fieldsText
+pub length_fields : (i : Inputs) → length (fields_text i) ≤ 964
+unfolding fields_text
 length_fields i =
-    let a = at-most-20 i.month in
-    let b = length-rows 0 (earlyFields i) 0 6 (omega arith) in
-    let d = length-long (isLong i.route.long_path) in
-    let e = length-rows 6 (lateFields i) 0 6 (omega arith) in
+    let a = at_most_20 i.month in
+    let b = length_rows 0 (early_fields i) 0 6 (omega arith) in
+    let d = length_long (is_long i.route.long_path) in
+    let e = length_rows 6 (late_fields i) 0 6 (omega arith) in
     simp length-append (omega arith)

@@ -21,64 +21,64 @@ use Rattle.worksheet.specs.declared.journal.Answer.TheVariants.{Told, Shown as S
 use Rattle.worksheet.specs.declared.journal.Call.{Call}
 use Rattle.worksheet.specs.declared.journal.Call.TheVariants.{Begin, Change, Commit, Cancel, TakeBack, Show}
 use Rattle.worksheet.specs.declared.journal.Next.{Next}
-use Rattle.worksheet.specs.Showing.{inputsShown}
+use Rattle.worksheet.specs.Showing.{inputs_shown}
 use Rattle.worksheet.specs.Journal.{Answer, told, shown, Step}
-use Rattle.worksheet.specs.Calls.{handed, bufferAfter, next_of}
+use Rattle.worksheet.specs.Calls.{handed, buffer_after, next_of}
 use Rattle.wording.specs.Token.{ascii}
-use Rattle.listing.specs.Survey.{refusedLine}
-use Rattle.listing.specs.Spoken.{lineMark, verdictWords, pointsNoun, pointsWords, shownWords, spokenText, inputsAsked, deskAsked, handedWords}
-use Rattle.listing.proofs.digits.Places.{at-most-20}
-use Rattle.listing.proofs.pieces.Abreast.{length-columns}
-use Rattle.listing.proofs.pieces.Reasons.{length-refused}
+use Rattle.listing.specs.Survey.{refused_line}
+use Rattle.listing.specs.Spoken.{line_mark, verdict_words, points_noun, points_words, shown_words, spoken_text, inputs_asked, desk_asked, handed_words}
+use Rattle.listing.proofs.digits.Places.{at_most_20}
+use Rattle.listing.proofs.pieces.Abreast.{length_columns}
+use Rattle.listing.proofs.pieces.Reasons.{length_refused}
 
 -- ---- how long
 
-pub length-mark : (line : ℕ) → length (lineMark line) ≤ 27
-unfolding lineMark
-length-mark line =
-    let a = at-most-20 line in
+pub length_mark : (line : ℕ) → length (line_mark line) ≤ 27
+unfolding line_mark
+length_mark line =
+    let a = at_most_20 line in
     simp length-append (omega arith)
 
-length-refused-line : (why : Refusal) → length (refusedLine why) ≤ 95
-unfolding refusedLine
-length-refused-line why =
-    let a = length-refused why in
+length_refused_line : (why : Refusal) → length (refused_line why) ≤ 95
+unfolding refused_line
+length_refused_line why =
+    let a = length_refused why in
     simp length-append (omega arith)
 
-pub length-verdict : (v : Verdict) → length (verdictWords v) ≤ 95
-unfolding verdictWords
-length-verdict Accepted = omega arith
-length-verdict (Refused why) = length-refused-line why
+pub length_verdict : (v : Verdict) → length (verdict_words v) ≤ 95
+unfolding verdict_words
+length_verdict Accepted = omega arith
+length_verdict (Refused why) = length_refused_line why
 
-noun-most : (one : Bool) → length (ascii (cond one " point\n" " points\n")) ≤ 8
-noun-most true = omega arith
-noun-most false = omega arith
+noun_most : (one : Bool) → length (ascii (cond one " point\n" " points\n")) ≤ 8
+noun_most true = omega arith
+noun_most false = omega arith
 
-pub length-noun : (count : ℕ) → length (ascii (pointsNoun count)) ≤ 8
-length-noun count = noun-most (eqb count 1)
+pub length_noun : (count : ℕ) → length (ascii (points_noun count)) ≤ 8
+length_noun count = noun_most (eqb count 1)
 
-length-points : (i : Inputs) (count : ℕ) (u : Uses) (xs : List Float) → length (pointsWords i count u xs) ≤ 10236
-unfolding pointsWords
-length-points i count u xs =
-    let a = at-most-20 count in
-    let b = length-noun count in
-    let d = length-columns i count u xs in
+length_points : (i : Inputs) (count : ℕ) (u : Uses) (xs : List Float) → length (points_words i count u xs) ≤ 10236
+unfolding points_words
+length_points i count u xs =
+    let a = at_most_20 count in
+    let b = length_noun count in
+    let d = length_columns i count u xs in
     simp length-append (omega arith)
 
-length-shown : (i : Inputs) (s : Shown) (xs : List Float) → length (shownWords i s xs) ≤ 10236
-unfolding shownWords
-length-shown i (Points count u) xs = length-points i count u xs
-length-shown i (NotShown why) xs = (let a = length-refused-line why in omega arith)
+length_shown : (i : Inputs) (s : Shown) (xs : List Float) → length (shown_words i s xs) ≤ 10236
+unfolding shown_words
+length_shown i (Points count u) xs = length_points i count u xs
+length_shown i (NotShown why) xs = (let a = length_refused_line why in omega arith)
 
-pub length-handed : (i : Inputs) (a : Handed) (xs : List Float) → length (handedWords i a xs) ≤ 10236
-unfolding handedWords
-length-handed i (Told v) xs = (let a = length-verdict v in omega arith)
-length-handed i (ShownTo s) xs = length-shown i s xs
+pub length_handed : (i : Inputs) (a : Handed) (xs : List Float) → length (handed_words i a xs) ≤ 10236
+unfolding handed_words
+length_handed i (Told v) xs = (let a = length_verdict v in omega arith)
+length_handed i (ShownTo s) xs = length_shown i s xs
 
 -- ---- the inputs shown
 
-pub asked : (call : Call) (w : Worksheet) → inputsShown (deskAsked call) w ≡ inputsAsked call w
-unfolding inputsAsked inputsShown
+pub asked : (call : Call) (w : Worksheet) → inputs_shown (desk_asked call) w ≡ inputs_asked call w
+unfolding inputs_asked inputs_shown
 asked (Show n) w = refl
 asked (Begin n) w = refl
 asked (Change n e) w = refl
@@ -88,17 +88,17 @@ asked TakeBack w = refl
 
 -- ---- as it is handed back
 
-same-words : (line : ℕ) (i : Inputs) (a : Answer) (lent : List Float) → lineMark line ++ handedWords i (handed a) (bufferAfter a lent) ≡ spokenText line i a
-unfolding handedWords spokenText
-same-words line i (told v) lent = refl
-same-words line i (shown s after) lent = refl
+same_words : (line : ℕ) (i : Inputs) (a : Answer) (lent : List Float) → line_mark line ++ handed_words i (handed a) (buffer_after a lent) ≡ spoken_text line i a
+unfolding handed_words spoken_text
+same_words line i (told v) lent = refl
+same_words line i (shown s after) lent = refl
 
-pub spoken-as :
+pub spoken_as :
     (line : ℕ) (s : Step) (lent : List Float) {i j : Inputs} {r : Next} {figures : List Float} {text : List ℕ} →
-    i ≡ j → r ≡ next_of s → figures ≡ bufferAfter s.answer lent → text ≡ lineMark line ++ handedWords i r.answer figures →
-    (r.sheet ≡ s.sheet) × (text ≡ spokenText line j s.answer)
+    i ≡ j → r ≡ next_of s → figures ≡ buffer_after s.answer lent → text ≡ line_mark line ++ handed_words i r.answer figures →
+    (r.sheet ≡ s.sheet) × (text ≡ spoken_text line j s.answer)
 unfolding next_of
-spoken-as line s lent {j} e p q t = (
+spoken_as line s lent {j} e p q t = (
   ap (λ (n : Next). n.sheet) p,
-  t ∙ (λ x. lineMark line ++ handedWords (e x) (p x).answer (q x)) ∙ same-words line j s.answer lent,
+  t ∙ (λ x. line_mark line ++ handed_words (e x) (p x).answer (q x)) ∙ same_words line j s.answer lent,
 )

@@ -8,7 +8,7 @@ use native.Mathlib.Numerals.{add-one}
 use native.Mathlib.Omega.{arith}
 use lib.ListN.{length, take, replicate, length-append, length-replicate}
 use Rattle.listing.specs.Text.{Put}
-use Rattle.listing.specs.Fields.{atRight, in_turn}
+use Rattle.listing.specs.Fields.{at_right, in_turn}
 use Rattle.listing.proofs.pieces.Puts.{nothing}
 
 -- ---- one after the other
@@ -22,11 +22,11 @@ module _ (f : ℕ → List ℕ) where
   unfolding in_turn
   one_more k = sym (ap (in_turn f) (add-one k))
 
-  pub length-turns : (most n : ℕ) → ((k : ℕ) → k < n → length (f k) ≤ most) → length (in_turn f n) ≤ most * n
+  pub length_turns : (most n : ℕ) → ((k : ℕ) → k < n → length (f k) ≤ most) → length (in_turn f n) ≤ most * n
   unfolding in_turn
-  length-turns most zero h = omega arith
-  length-turns most (suc k) h =
-      let a = length-turns most k (λ j l. h j (omega arith)) in
+  length_turns most zero h = omega arith
+  length_turns most (suc k) h =
+      let a = length_turns most k (λ j l. h j (omega arith)) in
       let b = h k (omega arith) in
       let d = mul-suc most k in
       omega (arith, length-append (in_turn f k) (f k))
@@ -38,6 +38,6 @@ blanks m zero h = refl
 blanks zero (suc n) h = absurd (omega arith)
 blanks (suc m) (suc n) h = ap (λ (l : List ℕ). 32 ∷ l) (blanks m n (omega arith))
 
-pub length-right : (l : List ℕ) → length l ≤ 20 → length (atRight l) ≤ 20
-unfolding atRight
-length-right l h = omega (arith, length-append (replicate (16 - length l) 32) l, length-replicate {A = ℕ} (16 - length l) 32)
+pub length_right : (l : List ℕ) → length l ≤ 20 → length (at_right l) ≤ 20
+unfolding at_right
+length_right l h = omega (arith, length-append (replicate (16 - length l) 32) l, length-replicate {A = ℕ} (16 - length l) 32)

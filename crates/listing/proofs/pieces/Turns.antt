@@ -9,24 +9,24 @@ use Rattle.worksheet.specs.declared.journal.Next.{Next}
 use Rattle.worksheet.specs.declared.desks.Worksheet.{Worksheet}
 use Rattle.worksheet.specs.Showing.{Source}
 use Rattle.worksheet.specs.Journal.{Call, Answer, told, shown, Step, step, run}
-use Rattle.worksheet.specs.Calls.{handed, bufferAfter, next_of}
-use Rattle.listing.specs.Turn.{answerText, handedText}
+use Rattle.worksheet.specs.Calls.{handed, buffer_after, next_of}
+use Rattle.listing.specs.Turn.{answer_text, handed_text}
 
-same_text : (a : Answer) (lent : List Float) → handedText (handed a) (bufferAfter a lent) ≡ answerText a
-unfolding handedText answerText
+same_text : (a : Answer) (lent : List Float) → handed_text (handed a) (buffer_after a lent) ≡ answer_text a
+unfolding handed_text answer_text
 same_text (told v) lent = refl
 same_text (shown s after) lent = refl
 
-pub turn-as : (s : Step) (lent : List Float) {r : Next} {figures : List Float} {text : List ℕ} → r ≡ next_of s → figures ≡ bufferAfter s.answer lent
-    → text ≡ handedText r.answer figures → (r.sheet ≡ s.sheet) × (text ≡ answerText s.answer)
+pub turn_as : (s : Step) (lent : List Float) {r : Next} {figures : List Float} {text : List ℕ} → r ≡ next_of s → figures ≡ buffer_after s.answer lent
+    → text ≡ handed_text r.answer figures → (r.sheet ≡ s.sheet) × (text ≡ answer_text s.answer)
 unfolding next_of
-turn-as s lent p q t = (
+turn_as s lent p q t = (
   ap (λ (n : Next). n.sheet) p,
-  t ∙ ap₂ (λ (n : Next) (l : List Float). handedText n.answer l) p q ∙ same_text s.answer lent,
+  t ∙ ap₂ (λ (n : Next) (l : List Float). handed_text n.answer l) p q ∙ same_text s.answer lent,
 )
 
 -- one call more: the worksheet that a run leaves is what the last call leaves of the one before it
-pub run-last : (source : Source) (cs : List Call) (c : Call) (w : Worksheet) → (run source (cs ++ (c ∷ [])) w).sheet ≡ (step source c (run source cs w).sheet).sheet
+pub run_last : (source : Source) (cs : List Call) (c : Call) (w : Worksheet) → (run source (cs ++ (c ∷ [])) w).sheet ≡ (step source c (run source cs w).sheet).sheet
 unfolding run
-run-last source [] c w = refl
-run-last source (x ∷ cs) c w = run-last source cs c (step source x w).sheet
+run_last source [] c w = refl
+run_last source (x ∷ cs) c w = run_last source cs c (step source x w).sheet

@@ -9,101 +9,101 @@ use native.Mathlib.Omega.{arith}
 use borrow.Author.Tests.{le-leb, ltb-false}
 use lib.Dec.{eqb, ltb}
 use lib.ListN.{length, length-append}
-use Rattle.base.proofs.ladder.Ladders.{and-true, and_left, and_right}
+use Rattle.base.proofs.ladder.Ladders.{and_true, and_left, and_right}
 use Rattle.base.proofs.verdicts.Picks.{never'}
-use Rattle.wording.specs.Number.{isDigit, allDigits, valueFrom}
-use Rattle.listing.specs.Text.{digitOf, hasDigit, digitAt, digitsBelow, decimalOf}
-use Rattle.listing.specs.Written.{placesText}
-use Rattle.listing.proofs.digits.Quotients.{by-none}
+use Rattle.wording.specs.Number.{is_digit, all_digits, value_from}
+use Rattle.listing.specs.Text.{digit_of, has_digit, digit_at, digits_below, decimal_of}
+use Rattle.listing.specs.Written.{places_text}
+use Rattle.listing.proofs.digits.Quotients.{by_none}
 
 -- ---- all are digits
 
-a-digit : (n k : ℕ) → isDigit (digitOf n k) ≡ true
-unfolding digitOf
-a-digit n k = and-true (le-leb 48 (48 + n / 10 ^ k % 10) (omega arith)) (le-leb (48 + n / 10 ^ k % 10) 57 (omega arith))
+a_digit : (n k : ℕ) → is_digit (digit_of n k) ≡ true
+unfolding digit_of
+a_digit n k = and_true (le-leb 48 (48 + n / 10 ^ k % 10) (omega arith)) (le-leb (48 + n / 10 ^ k % 10) 57 (omega arith))
 
-pub digits_append : (l m : List ℕ) → allDigits l ≡ true → allDigits m ≡ true → allDigits (l ++ m) ≡ true
-unfolding allDigits
+pub digits_append : (l m : List ℕ) → all_digits l ≡ true → all_digits m ≡ true → all_digits (l ++ m) ≡ true
+unfolding all_digits
 digits_append [] m p q = q
 digits_append (c ∷ l) m p q =
-    and-true (and_left (isDigit c) (allDigits l) p) (digits_append l m (and_right (isDigit c) (allDigits l) p) q)
+    and_true (and_left (is_digit c) (all_digits l) p) (digits_append l m (and_right (is_digit c) (all_digits l) p) q)
 
-one-digit : (b : Bool) (d : ℕ) → isDigit d ≡ true → allDigits (cond b (d ∷ []) []) ≡ true
-unfolding allDigits
-one-digit true d h = and-true h refl
-one-digit false d h = refl
+one_digit : (b : Bool) (d : ℕ) → is_digit d ≡ true → all_digits (cond b (d ∷ []) []) ≡ true
+unfolding all_digits
+one_digit true d h = and_true h refl
+one_digit false d h = refl
 
-below-digits : (n k : ℕ) → allDigits (digitsBelow n k) ≡ true
-unfolding digitsBelow digitAt allDigits
-below-digits n zero = refl
-below-digits n (suc k) =
-    digits_append (digitAt n k) (digitsBelow n k) (one-digit (hasDigit n k) (digitOf n k) (a-digit n k)) (below-digits n k)
+below_digits : (n k : ℕ) → all_digits (digits_below n k) ≡ true
+unfolding digits_below digit_at all_digits
+below_digits n zero = refl
+below_digits n (suc k) =
+    digits_append (digit_at n k) (digits_below n k) (one_digit (has_digit n k) (digit_of n k) (a_digit n k)) (below_digits n k)
 
-pub decimal-digits : (n : ℕ) → allDigits (decimalOf n) ≡ true
-decimal-digits n = below-digits n 20
+pub decimal_digits : (n : ℕ) → all_digits (decimal_of n) ≡ true
+decimal_digits n = below_digits n 20
 
-pub places-digits : (n k : ℕ) → allDigits (placesText n k) ≡ true
-unfolding placesText allDigits
-places-digits n zero = refl
-places-digits n (suc k) = and-true (a-digit n k) (places-digits n k)
+pub places_digits : (n k : ℕ) → all_digits (places_text n k) ≡ true
+unfolding places_text all_digits
+places_digits n zero = refl
+places_digits n (suc k) = and_true (a_digit n k) (places_digits n k)
 
 -- ---- one is there
 
-below-some : (n k : ℕ) → 0 < length (digitsBelow n (suc k))
-unfolding digitsBelow digitAt hasDigit
-below-some n zero = omega arith
-below-some n (suc k) =
-    let a = below-some n k in
-    omega (arith, length-append (digitAt n (suc k)) (digitsBelow n (suc k)))
+below_some : (n k : ℕ) → 0 < length (digits_below n (suc k))
+unfolding digits_below digit_at has_digit
+below_some n zero = omega arith
+below_some n (suc k) =
+    let a = below_some n k in
+    omega (arith, length-append (digit_at n (suc k)) (digits_below n (suc k)))
 
-pub decimal-some : (n : ℕ) → 0 < length (decimalOf n)
-decimal-some n = below-some n 19
+pub decimal_some : (n : ℕ) → 0 < length (decimal_of n)
+decimal_some n = below_some n 19
 
 -- ---- their value
 
-pub value-append : (n : ℕ) (l m : List ℕ) → valueFrom n (l ++ m) ≡ valueFrom (valueFrom n l) m
-unfolding valueFrom
-value-append n [] m = refl
-value-append n (c ∷ l) m = value-append (10 * n + (c - 48)) l m
+pub value_append : (n : ℕ) (l m : List ℕ) → value_from n (l ++ m) ≡ value_from (value_from n l) m
+unfolding value_from
+value_append n [] m = refl
+value_append n (c ∷ l) m = value_append (10 * n + (c - 48)) l m
 
 fewer : (n k : ℕ) → n / 10 ^ suc k ≡ n / 10 ^ k / 10
 fewer n k = ap (λ (x : ℕ). n / x) (pow-suc 10 k) ∙ sym (div-div-eq-div-mul n (10 ^ k) 10)
 
 -- one place more
-next-value : (n k : ℕ) {m : ℕ} → m ≡ n / 10 ^ suc k → 10 * m + (digitOf n k - 48) ≡ n / 10 ^ k
-unfolding digitOf
-next-value n k {m} e =
+next_value : (n k : ℕ) {m : ℕ} → m ≡ n / 10 ^ suc k → 10 * m + (digit_of n k - 48) ≡ n / 10 ^ k
+unfolding digit_of
+next_value n k {m} e =
     let f = fewer n k in
     let q = n / 10 ^ k in
     let g : m ≡ q / 10 = e ∙ f in
     omega arith
 
-pub value-places : (n k m : ℕ) → m ≡ n / 10 ^ k → valueFrom m (placesText n k) ≡ n
-unfolding valueFrom placesText
-value-places n zero m e = e ∙ by-none n 10
-value-places n (suc k) m e = value-places n k (10 * m + (digitOf n k - 48)) (next-value n k e)
+pub value_places : (n k m : ℕ) → m ≡ n / 10 ^ k → value_from m (places_text n k) ≡ n
+unfolding value_from places_text
+value_places n zero m e = e ∙ by_none n 10
+value_places n (suc k) m e = value_places n k (10 * m + (digit_of n k - 48)) (next_value n k e)
 
-no-higher : (lowest there : Bool) → cond lowest true there ≡ false → there ≡ false
-no-higher true there e = never' e
-no-higher false there e = e
+no_higher : (lowest there : Bool) → cond lowest true there ≡ false → there ≡ false
+no_higher true there e = never' e
+no_higher false there e = e
 
 -- by whether n has a digit for the place; where not, nothing stands above it either
-with-place :
-    (n k m : ℕ) (b : Bool) → hasDigit n k ≡ b → m ≡ n / 10 ^ suc k →
-    ((m' : ℕ) → m' ≡ n / 10 ^ k → valueFrom m' (digitsBelow n k) ≡ n) →
-    valueFrom m (cond b (digitOf n k ∷ []) [] ++ digitsBelow n k) ≡ n
-unfolding valueFrom hasDigit
-with-place n k m true h e rest = rest (10 * m + (digitOf n k - 48)) (next-value n k e)
-with-place n k m false h e rest =
+with_place :
+    (n k m : ℕ) (b : Bool) → has_digit n k ≡ b → m ≡ n / 10 ^ suc k →
+    ((m' : ℕ) → m' ≡ n / 10 ^ k → value_from m' (digits_below n k) ≡ n) →
+    value_from m (cond b (digit_of n k ∷ []) [] ++ digits_below n k) ≡ n
+unfolding value_from has_digit
+with_place n k m true h e rest = rest (10 * m + (digit_of n k - 48)) (next_value n k e)
+with_place n k m false h e rest =
     let q = n / 10 ^ k in
-    let z = ltb-false 0 q (no-higher (eqb k 0) (ltb 0 q) h) in
+    let z = ltb-false 0 q (no_higher (eqb k 0) (ltb 0 q) h) in
     let f : m ≡ q / 10 = e ∙ fewer n k in
     rest m (omega arith)
 
-value-below : (n k m : ℕ) → m ≡ n / 10 ^ k → valueFrom m (digitsBelow n k) ≡ n
-unfolding valueFrom digitsBelow digitAt
-value-below n zero m e = e ∙ by-none n 10
-value-below n (suc k) m e = with-place n k m (hasDigit n k) refl e (value-below n k)
+value_below : (n k m : ℕ) → m ≡ n / 10 ^ k → value_from m (digits_below n k) ≡ n
+unfolding value_from digits_below digit_at
+value_below n zero m e = e ∙ by_none n 10
+value_below n (suc k) m e = with_place n k m (has_digit n k) refl e (value_below n k)
 
-pub value-decimal : (n : ℕ) → n < 10 ^ 20 → valueFrom 0 (decimalOf n) ≡ n
-value-decimal n h = value-below n 20 0 (sym (div-eq_of_lt h))
+pub value_decimal : (n : ℕ) → n < 10 ^ 20 → value_from 0 (decimal_of n) ≡ n
+value_decimal n h = value_below n 20 0 (sym (div-eq_of_lt h))

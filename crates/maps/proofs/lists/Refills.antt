@@ -4,28 +4,28 @@ use Rattle.std.proofs.Common.{◌≡◌, ℕ, ◌+◌, ◌<◌, ◌≤◌, List,
 use native.Mathlib.Decide.{dec_lt}
 use lib.Ieee.{Float, nan}
 use Rattle.base.specs.Fill.{fill}
-use Rattle.base.proofs.lists.Fills.{length-fill, fill-at, fill-other, fill-first}
+use Rattle.base.proofs.lists.Fills.{length_fill, fill_at, fill_other, fill_first}
 use Rattle.maps.specs.Noisy.{each}
 
 module _ {A : Type 0} (f : ℕ → A) (l : List A) (n : ℕ) (d : A) where
   pub filled : (j : ℕ) → j < n → n ≤ length l → get_or (fill f 0 l n) j d ≡ f j
-  filled j h b = ap (λ (i : ℕ). get_or (fill f 0 l n) i d) (sym (zero-add j)) ∙ fill-at f 0 l n j d h (omega arith)
+  filled j h b = ap (λ (i : ℕ). get_or (fill f 0 l n) i d) (sym (zero-add j)) ∙ fill_at f 0 l n j d h (omega arith)
 
   pub unfilled : (j : ℕ) → n ≤ j → get_or (fill f 0 l n) j d ≡ get_or l j d
-  unfilled j h = fill-other f 0 l n j d (inr (omega arith))
+  unfilled j h = fill_other f 0 l n j d (inr (omega arith))
 
-  pub is-fill :
+  pub is_fill :
       (m : List A) → n ≤ length l → length m ≡ length l → ((j : ℕ) → j < n → get_or m j d ≡ f j) →
       ((j : ℕ) → n ≤ j → get_or m j d ≡ get_or l j d) → m ≡ fill f 0 l n
-  is-fill m b e in-front past =
-      ext_get_or d m (fill f 0 l n) (e ∙ sym (length-fill f 0 l n))
+  is_fill m b e in-front past =
+      ext_get_or d m (fill f 0 l n) (e ∙ sym (length_fill f 0 l n))
       (λ j h. elim (dec_lt j n) [ yes q ↦ in-front j q ∙ sym (filled j q b) | no q ↦ past j (omega arith) ∙ sym (unfilled j (omega arith)) ])
 
 -- a loop that fills one element after the other
-pub fill-turn :
+pub fill_turn :
     {A : Type 0} (f : ℕ → A) (l : List A) (j : ℕ) {y : List A} {v : A} → y ≡ fill f 0 l j → v ≡ f j → set y j v ≡ fill f 0 l (j + 1)
-fill-turn {A} f l j {y} {v} p q =
-    ap (λ (x : List A). set x j v) p ∙ ap (λ (x : A). set (fill f 0 l j) j x) q ∙ sym (fill-first f l j)
+fill_turn {A} f l j {y} {v} p q =
+    ap (λ (x : List A). set x j v) p ∙ ap (λ (x : A). set (fill f 0 l j) j x) q ∙ sym (fill_first f l j)
 
 module _ (f : ℕ → Float → Float) where
   -- a loop that changes one element after the other
@@ -33,15 +33,15 @@ module _ (f : ℕ → Float → Float) where
   unfolding each
   each_turn l j p =
       let changed : ℕ → Float = λ i. f i (get_or l i nan) in
-      fill-turn changed l j p (ap (λ (x : List Float). f j (get_or x j nan)) p ∙ ap (f j) (unfilled changed l j nan j (omega arith)))
+      fill_turn changed l j p (ap (λ (x : List Float). f j (get_or x j nan)) p ∙ ap (f j) (unfilled changed l j nan j (omega arith)))
 
   -- the elements of a fill, changed
-  pub each-fill : (g : ℕ → Float) (l : List Float) (n : ℕ) → n ≤ length l → each f (fill g 0 l n) n ≡ fill (λ j. f j (g j)) 0 l n
+  pub each_fill : (g : ℕ → Float) (l : List Float) (n : ℕ) → n ≤ length l → each f (fill g 0 l n) n ≡ fill (λ j. f j (g j)) 0 l n
   unfolding each
-  each-fill g l n b =
+  each_fill g l n b =
       let m = fill g 0 l n in
-      let e : length m ≡ length l = length-fill g 0 l n in
+      let e : length m ≡ length l = length_fill g 0 l n in
       let changed : ℕ → Float = λ j. f j (get_or m j nan) in
-      is-fill (λ j. f j (g j)) l n nan (each f m n) b (length-fill changed 0 m n ∙ e)
+      is_fill (λ j. f j (g j)) l n nan (each f m n) b (length_fill changed 0 m n ∙ e)
       (λ j h. filled changed m n nan j h (omega arith) ∙ ap (f j) (filled g l n nan j h b))
       (λ j h. unfilled changed m n nan j h ∙ unfilled g l n nan j h)

@@ -7,19 +7,19 @@ use Rattle.base.proofs.lists.Entries.{up_to, at_each}
 use Rattle.maps.specs.Virtim.{StartsRule}
 
 -- the entry of the row j of the map k is where its series starts
-abbrev starts-at : List ℕ → ℕ → ℕ → Bool
-starts-at starts k j = eqb (get_or starts (get_or IC k 0 - 1 + j) 0) (get_or IA k 0 - 1 + j * get_or IB k 0)
+abbrev starts_at : List ℕ → ℕ → ℕ → Bool
+starts_at starts k j = eqb (get_or starts (get_or IC k 0 - 1 + j) 0) (get_or IA k 0 - 1 + j * get_or IB k 0)
 
 -- of every row of a map
-abbrev map-ruled : List ℕ → ℕ → Bool
-map-ruled starts k = up_to (starts-at starts k) (get_or rows k 0 - 1)
+abbrev map_ruled : List ℕ → ℕ → Bool
+map_ruled starts k = up_to (starts_at starts k) (get_or rows k 0 - 1)
 
 -- of every map
 abbrev pub ruled : List ℕ → Bool
-ruled starts = up_to (map-ruled starts) 5
+ruled starts = up_to (map_ruled starts) 5
 
 pub carried : (starts : List ℕ) → T (ruled starts) → StartsRule starts
 carried starts t =
     record {
-      at = λ k j h l. eqb→eq _ _ (at_each (starts-at starts k) (get_or rows k 0 - 1) (at_each (map-ruled starts) 5 t k (omega arith)) j (omega arith));
+      at = λ k j h l. eqb→eq _ _ (at_each (starts_at starts k) (get_or rows k 0 - 1) (at_each (map_ruled starts) 5 t k (omega arith)) j (omega arith));
     }

@@ -5,15 +5,15 @@ use Rattle.std.proofs.Common.{◌≡◌, ℕ, ◌^◌, ◌<◌, not, T, ◌⊎�
 use lib.Ieee.{Float, binary32, is_nan, of_bits, to_bits}
 use lib.Ieee.Bits.{of_bits-to_bits, of_bits-fits, to_bits-of_bits}
 use Rattle.maps.specs.declared.inputs.Inputs.{Inputs}
-use Rattle.maps.specs.Inputs.{routeFrom, factorsFrom, poleFrom, inputsFrom, words_to, fieldWords, Single, Singles}
+use Rattle.maps.specs.Inputs.{route_from, factors_from, pole_from, inputs_from, words_to, field_words, Single, Singles}
 
 -- ---- fields, words, fields
 
 back : (x : Float) → Single x → of_bits binary32 (to_bits binary32 x) ≡ x
 back x h = of_bits-to_bits binary32 x h
 
-pub fields_back : (i : Inputs) → Singles i → inputsFrom (λ (k : ℕ). get_or (fieldWords i) k 0) ≡ i
-unfolding inputsFrom routeFrom factorsFrom poleFrom fieldWords
+pub fields_back : (i : Inputs) → Singles i → inputs_from (λ (k : ℕ). get_or (field_words i) k 0) ≡ i
+unfolding inputs_from route_from factors_from pole_from field_words
 fields_back i h =
     let ssn = back i.ssn h.ssn in
     let gmt = back i.gmt h.gmt in
@@ -45,9 +45,9 @@ fields_back i h =
     }
 
 module _ (f : ℕ → ℕ) where
-  pub from-single : Singles (inputsFrom f)
-  unfolding inputsFrom routeFrom factorsFrom poleFrom
-  from-single =
+  pub from_single : Singles (inputs_from f)
+  unfolding inputs_from route_from factors_from pole_from
+  from_single =
       record {
         ssn = of_bits-fits binary32 _;
         gmt = of_bits-fits binary32 _;
@@ -89,8 +89,8 @@ module _ (f : ℕ → ℕ) where
     pub lat : Written 12
     pub lon : Written 13
 
-  pub words_back : AllWritten → fieldWords (inputsFrom f) ≡ words_to f
-  unfolding inputsFrom routeFrom factorsFrom poleFrom fieldWords words_to
+  pub words_back : AllWritten → field_words (inputs_from f) ≡ words_to f
+  unfolding inputs_from route_from factors_from pole_from field_words words_to
   words_back h =
       let ssn = again 1 h.ssn in
       let gmt = again 2 h.gmt in

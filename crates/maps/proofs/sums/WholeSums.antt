@@ -5,13 +5,13 @@ use lib.Signed.{mag}
 use lib.Ieee.{Float, binary32, binary64, of_int, round, to_signed}
 use lib.Ieee.Back.{round_whole}
 use mir.Facts.{sfits_widen}
-use Rattle.base.specs.Number.{narrowOf}
-use Rattle.base.proofs.rounding.Narrowing.{narrow-val}
-use Rattle.base.proofs.rounding.Signs.{signed-fits}
+use Rattle.base.specs.Number.{narrow_of}
+use Rattle.base.proofs.rounding.Narrowing.{narrow_val}
+use Rattle.base.proofs.rounding.Signs.{signed_fits}
 
 -- x without its fraction, through a word
 pub signed_word : (x : Float) (z : ℤ) → z ≡ to_signed 31 x → to_z w32 (of_z w32 z) ≡ to_signed 31 x
-signed_word x z e = ap (λ (n : ℤ). to_z w32 (of_z w32 n)) e ∙ to_z-of_z (signed-fits x)
+signed_word x z e = ap (λ (n : ℤ). to_z w32 (of_z w32 n)) e ∙ to_z-of_z (signed_fits x)
 
 pub wide : (z : ℤ) → SFits w32 z → SFits w64 (to_z w32 (of_z w32 z))
 wide z p = subst (SFits w64) (sym (to_z-of_z p)) (sfits_widen tt p)
@@ -33,10 +33,10 @@ mag_sum (negsuc a) (pos b) = go (ltb b (suc a))
     go true = omega arith
     go false = omega arith
 
-narrow-whole : (z : ℤ) → mag z < 2 ^ 52 → narrowOf (of_int binary64 z) ≡ of_int binary32 z
+narrow_whole : (z : ℤ) → mag z < 2 ^ 52 → narrow_of (of_int binary64 z) ≡ of_int binary32 z
 unfolding of_int
-narrow-whole (pos n) h = narrow-val (round binary64 false n 1) false n 1 (lit< tt) (round_whole binary64 false n (omega arith))
-narrow-whole (negsuc n) h = narrow-val (round binary64 true (suc n) 1) true (suc n) 1 (lit< tt) (round_whole binary64 true (suc n) (omega arith))
+narrow_whole (pos n) h = narrow_val (round binary64 false n 1) false n 1 (lit< tt) (round_whole binary64 false n (omega arith))
+narrow_whole (negsuc n) h = narrow_val (round binary64 true (suc n) 1) true (suc n) 1 (lit< tt) (round_whole binary64 true (suc n) (omega arith))
 
 module _ (a b : ℤ) (p : SFits w32 a) (q : SFits w32 b) where
   both : to_z w64 (of_z w64 (to_z w32 (of_z w32 a))) +ℤ to_z w64 (of_z w64 (to_z w32 (of_z w32 b))) ≡ a +ℤ b
@@ -51,8 +51,8 @@ module _ (a b : ℤ) (p : SFits w32 a) (q : SFits w32 b) where
   pub sum_fits : SFits w64 (to_z w64 (of_z w64 (to_z w32 (of_z w32 a))) +ℤ to_z w64 (of_z w64 (to_z w32 (of_z w32 b))))
   sum_fits = subst (SFits w64) (sym both) fits
 
-  pub sum-narrow : narrowOf (of_int binary64 (to_z w64 (of_z w64 (to_z w64 (of_z w64 (to_z w32 (of_z w32 a))) +ℤ to_z w64 (of_z w64 (to_z w32 (of_z w32 b))))))) ≡ of_int binary32 (a +ℤ b)
-  sum-narrow =
-      ap (λ (n : ℤ). narrowOf (of_int binary64 (to_z w64 (of_z w64 n)))) both
-      ∙ ap (λ (n : ℤ). narrowOf (of_int binary64 n)) (to_z-of_z fits)
-      ∙ narrow-whole (a +ℤ b) (let h = small in omega arith)
+  pub sum_narrow : narrow_of (of_int binary64 (to_z w64 (of_z w64 (to_z w64 (of_z w64 (to_z w32 (of_z w32 a))) +ℤ to_z w64 (of_z w64 (to_z w32 (of_z w32 b))))))) ≡ of_int binary32 (a +ℤ b)
+  sum_narrow =
+      ap (λ (n : ℤ). narrow_of (of_int binary64 (to_z w64 (of_z w64 n)))) both
+      ∙ ap (λ (n : ℤ). narrow_of (of_int binary64 n)) (to_z-of_z fits)
+      ∙ narrow_whole (a +ℤ b) (let h = small in omega arith)

@@ -3,11 +3,11 @@
 ghost use Rattle.std.specs.Prelude.{◌≡◌, ◌+ℤ◌};
 ghost use Rattle.std.specs.Float.{binary32};
 ghost use Rattle.std.specs.Float.Ieee.{of_int};
-ghost use Rattle.base.specs.Refusal.{unlessRefused};
+ghost use Rattle.base.specs.Refusal.{unless_refused};
 ghost use Rattle.maps.specs.declared.ionosphere.clocks.Moved.TheVariants.{To, Refused as NotMoved};
 ghost use Rattle.maps.specs.declared.ionosphere.clocks.Times.TheVariants.{Hours, Refused as NoTimes};
 ghost use Rattle.maps.specs.declared.ionosphere.clocks.LocalTime.TheVariants.{At, Refused as NoLocalTime};
-ghost use Rattle.maps.specs.Clocks.{fiswOf, thetaOf, whole_of, afterShift, cngdayOf, forLoop, wraps, cngtimOf, timeAt, geotimOf, timeCheck, hoursCheck, movedOf, timesOf, localTimeOf};
+ghost use Rattle.maps.specs.Clocks.{fisw_of, theta_of, whole_of, after_shift, cngday_of, for_loop, wraps, cngtim_of, time_at, geotim_of, time_check, hours_check, moved_of, times_of, local_time_of};
 
 use base::angle::{Degrees, Radians};
 use base::number::{from_i32, narrow, to_i32};
@@ -58,7 +58,7 @@ pub enum LocalTime {
 }
 
 fn fisw_of(direction: Direction) -> f32
-    ensures { result ≡ fiswOf direction }
+    ensures { result ≡ fisw_of direction }
 {
     match direction {
         Direction::ToLocal => 1.0,
@@ -68,7 +68,7 @@ fn fisw_of(direction: Direction) -> f32
 
 // A longitude below 0 from the other side.
 fn theta_of(xtheta: Degrees) -> f32
-    ensures { result ≡ thetaOf xtheta }
+    ensures { result ≡ theta_of xtheta }
 {
     let x = xtheta.0;
     if x < 0.0 { 360.0 + x } else { x }
@@ -90,7 +90,7 @@ fn sum_of(a: i32, b: i32) -> f32
 
 // The time after the shift, before it is brought back into the day.
 fn after_shift(time: f32, theta: f32, direction: Direction) -> f32
-    ensures { result ≡ afterShift time theta direction }
+    ensures { result ≡ after_shift time theta direction }
 {
     let fint1 = whole_of(theta / 180.0);
     let fint2 = whole_of(theta / 360.0);
@@ -99,7 +99,7 @@ fn after_shift(time: f32, theta: f32, direction: Direction) -> f32
 
 // The change of day, by the time after the shift.
 fn cngday_of(time: f32) -> f32
-    ensures { result ≡ cngdayOf time }
+    ensures { result ≡ cngday_of time }
 {
     let int1 = to_i32((time - 23.99999999) / 24.0);
     let int2 = to_i32(time / 24.0);
@@ -108,7 +108,7 @@ fn cngday_of(time: f32) -> f32
 
 // What the Rust's loop starts from.
 fn for_loop(time: f32, theta: f32) -> f32
-    ensures { result ≡ forLoop time theta }
+    ensures { result ≡ for_loop time theta }
 {
     let fint2 = whole_of(theta / 360.0);
     let raised = if time < 0.0 { time + 24.0 } else { time };
@@ -130,7 +130,7 @@ fn wrapped(time: f32) -> f32
 
 // CNGTIM of any time and longitude, refusing nothing.
 fn cngtim_of(time: f32, xtheta: Degrees, direction: Direction) -> Shifted
-    ensures { result ≡ cngtimOf time xtheta direction }
+    ensures { result ≡ cngtim_of time xtheta direction }
 {
     if xtheta.0 == 0.0 {
         return Shifted { time, day: 0.0 };
@@ -145,14 +145,14 @@ fn cngtim_of(time: f32, xtheta: Degrees, direction: Direction) -> Shifted
 
 // CNGTIM's time at a longitude that was made radians. Degrees that were 180 may be past it by now.
 fn time_at(time: f32, lon: Radians, direction: Direction) -> f32
-    ensures { result ≡ timeAt time lon direction }
+    ensures { result ≡ time_at time lon direction }
 {
     cngtim_of(time, lon.to_degrees(), direction).time
 }
 
 // GEOTIM of any hour and longitudes, refusing nothing.
 fn geotim_of(jt: u32, local: bool, tlong: Radians, rlong: Radians) -> HourTimes
-    ensures { result ≡ geotimOf jt local tlong rlong }
+    ensures { result ≡ geotim_of jt local tlong rlong }
 {
     let ckc = std::num::nearest_u32_to_f32(jt);
     if local {
@@ -172,14 +172,14 @@ fn geotim_of(jt: u32, local: bool, tlong: Radians, rlong: Radians) -> HourTimes
 
 // A time of the day and a longitude as typed.
 fn time_check(time: f32, lon: Degrees) -> Verdict
-    ensures { result ≡ timeCheck time lon }
+    ensures { result ≡ time_check time lon }
 {
     then(hour_check(time), longitude_check(5, lon))
 }
 
 // A whole hour and both longitudes as typed.
 fn hours_check(hour: u32, tlong: Degrees, rlong: Degrees) -> Verdict
-    ensures { result ≡ hoursCheck hour tlong rlong }
+    ensures { result ≡ hours_check hour tlong rlong }
 {
     let first = refuse_unless(hour <= 24, Refusal::Hour);
     let longitudes = then(longitude_check(5, tlong), longitude_check(7, rlong));
@@ -187,7 +187,7 @@ fn hours_check(hour: u32, tlong: Degrees, rlong: Degrees) -> Verdict
 }
 
 fn moved_if(verdict: Verdict, shifted: Shifted) -> Moved
-    ensures { result ≡ unlessRefused verdict (To shifted) NotMoved }
+    ensures { result ≡ unless_refused verdict (To shifted) NotMoved }
 {
     match verdict {
         Verdict::Accepted => Moved::To(shifted),
@@ -196,7 +196,7 @@ fn moved_if(verdict: Verdict, shifted: Shifted) -> Moved
 }
 
 fn times_if(verdict: Verdict, hours: HourTimes) -> Times
-    ensures { result ≡ unlessRefused verdict (Hours hours) NoTimes }
+    ensures { result ≡ unless_refused verdict (Hours hours) NoTimes }
 {
     match verdict {
         Verdict::Accepted => Times::Hours(hours),
@@ -205,7 +205,7 @@ fn times_if(verdict: Verdict, hours: HourTimes) -> Times
 }
 
 fn local_if(verdict: Verdict, time: f32) -> LocalTime
-    ensures { result ≡ unlessRefused verdict (At time) NoLocalTime }
+    ensures { result ≡ unless_refused verdict (At time) NoLocalTime }
 {
     match verdict {
         Verdict::Accepted => LocalTime::At(time),
@@ -216,7 +216,7 @@ fn local_if(verdict: Verdict, time: f32) -> LocalTime
 // A time of the day, hours, moved by a longitude in degrees, with the change of day. Refuses a time
 // outside 0 to 24, then a longitude outside -180 to 180.
 pub fn cngtim(time: f32, lon: Degrees, direction: Direction) -> Moved
-    ensures { result ≡ movedOf time lon direction }
+    ensures { result ≡ moved_of time lon direction }
 {
     moved_if(time_check(time, lon), cngtim_of(time, lon, direction))
 }
@@ -224,7 +224,7 @@ pub fn cngtim(time: f32, lon: Degrees, direction: Direction) -> Moved
 // Universal time and both ends' local times at a whole hour, universal or the transmitter's.
 // Refuses an hour above 24, then a longitude outside -180 to 180 degrees, the transmitter's first.
 pub fn geotim(hour: u32, local: bool, tlong: Degrees, rlong: Degrees) -> Times
-    ensures { result ≡ timesOf hour local tlong rlong }
+    ensures { result ≡ times_of hour local tlong rlong }
 {
     let hours = geotim_of(hour, local, tlong.to_radians(), rlong.to_radians());
     times_if(hours_check(hour, tlong, rlong), hours)
@@ -232,7 +232,7 @@ pub fn geotim(hour: u32, local: bool, tlong: Degrees, rlong: Degrees) -> Times
 
 // The local time, in hours, at one place for a universal time. Refuses as `cngtim` does.
 pub fn geotim_clck(gmt: f32, lon: Degrees) -> LocalTime
-    ensures { result ≡ localTimeOf gmt lon }
+    ensures { result ≡ local_time_of gmt lon }
 {
     local_if(
         time_check(gmt, lon),

@@ -5,7 +5,7 @@ ghost use Rattle.std.specs.Float.Ieee.Scale.{finite};
 ghost use Rattle.base.specs.Single.{◌⊕◌, ◌⊗◌};
 ghost use Rattle.base.specs.Words.{float_at};
 ghost use Rattle.base.specs.Finite.{FiniteMonth};
-ghost use Rattle.maps.specs.Layers.{sunOf, monthlyOf, clockOf, sspOf, sslOf, zenithOf, timvarOf, gamma6Of, eLayer, f1Layer, ef1Of, ratOf, abiyOf, retardOf, atLeastXf1, halfOver, twilightOf, mergedOf, eRetardation, belowF2, retardedOf, layersOf, esindOf, groundAt, groundOf};
+ghost use Rattle.maps.specs.Layers.{sun_of, monthly_of, clock_of, ssp_of, ssl_of, zenith_of, timvar_of, gamma6_of, e_layer, f1_layer, ef1_of, rat_of, abiy_of, retard_of, at_least_xf1, half_over, twilight_of, merged_of, e_retardation, below_f2, retarded_of, layers_of, esind_of, ground_at, ground_of};
 
 use crate::geometry::ControlPoint;
 use crate::inputs::Factors;
@@ -135,7 +135,7 @@ pub struct Ground(pub f32, pub f32);
 
 // The month's sun. A month that is none has no sun: both latitudes are no number.
 fn sun_of(month: u32) -> Sun
-    ensures { result ≡ sunOf month }
+    ensures { result ≡ sun_of month }
 {
     let none = Sun(Degrees(0.0 / 0.0), Degrees(0.0 / 0.0));
     if month < 1 {
@@ -173,7 +173,7 @@ fn term(file: &[u8], a: usize, b: usize, ssn: f32) -> f32
 // at a sunspot number, with the month's row of the sun's table.
 pub(crate) fn monthly_of(file: &[u8], month: u32, ssn: f32) -> Monthly
     requires { FiniteMonth file.now }
-    ensures { result ≡ monthlyOf file.now month ssn }
+    ensures { result ≡ monthly_of file.now month ssn }
 {
     Monthly {
         sun: sun_of(month),
@@ -192,7 +192,7 @@ pub(crate) fn monthly_of(file: &[u8], month: u32, ssn: f32) -> Monthly
 // TIMVAR's local clock, in hours, of a universal hour and a longitude. It is corrected once: 24
 // stays, 0 becomes 24.
 pub fn timvar_clck(gmt: f32, lon: Radians) -> f32
-    ensures { result ≡ clockOf gmt lon }
+    ensures { result ≡ clock_of gmt lon }
 {
     let clock = gmt + lon.0 / 0.261799387;
     if 24.0 - clock < 0.0 {
@@ -206,7 +206,7 @@ pub fn timvar_clck(gmt: f32, lon: Radians) -> f32
 
 // The subsolar point's latitude: of the month's two the one that is farther away.
 fn ssp_of(sun: Sun, cenlat: Radians) -> f32
-    ensures { result ≡ sspOf sun cenlat }
+    ensures { result ≡ ssp_of sun cenlat }
 {
     let sun0 = sun.0;
     let sun1 = sun.1;
@@ -219,14 +219,14 @@ fn ssp_of(sun: Sun, cenlat: Radians) -> f32
 
 // Where the sun is due south or north.
 fn ssl_of(gmt: f32) -> Radians
-    ensures { result ≡ sslOf gmt }
+    ensures { result ≡ ssl_of gmt }
 {
     Degrees(180.0 - 15.0 * gmt).to_radians()
 }
 
 // The sun's zenith angle.
 fn zenith(cenlat: Radians, cenlg: Radians, ssp: f32, ssl: Radians) -> f32
-    ensures { result ≡ zenithOf cenlat cenlg ssp ssl }
+    ensures { result ≡ zenith_of cenlat cenlg ssp ssl }
 {
     let z = cenlg.0 - ssl.0;
     acos32(sin32(cenlat.0) * sin32(ssp) + cos32(cenlat.0) * cos32(ssp) * cos32(z))
@@ -234,7 +234,7 @@ fn zenith(cenlat: Radians, cenlg: Radians, ssp: f32, ssl: Radians) -> f32
 
 // TIMVAR as far as EF1VAR: the local mean time and the sun's zenith angle.
 fn timvar_of(sun: Sun, gmt: f32, cenlat: Radians, cenlg: Radians) -> Timvar
-    ensures { result ≡ timvarOf sun gmt cenlat cenlg }
+    ensures { result ≡ timvar_of sun gmt cenlat cenlg }
 {
     let ssp = ssp_of(sun, cenlat);
     let clock = timvar_clck(gmt, cenlg);
@@ -244,7 +244,7 @@ fn timvar_of(sun: Sun, gmt: f32, cenlat: Radians, cenlg: Radians) -> Timvar
 
 // The map's value, or where that is bad the midnight one.
 fn gamma6_of(gamma6: f32, ssn: f32) -> f32
-    ensures { result ≡ gamma6Of gamma6 ssn }
+    ensures { result ≡ gamma6_of gamma6 ssn }
 {
     if gamma6 - 0.36 < 0.0 {
         0.36 * sqrt32(1.0 + 0.0098 * ssn)
@@ -255,7 +255,7 @@ fn gamma6_of(gamma6: f32, ssn: f32) -> f32
 
 // The E layer, whose height is fixed.
 fn e_layer(gamma6: f32, ssn: f32, psc0: f32) -> Layer
-    ensures { result ≡ eLayer gamma6 ssn psc0 }
+    ensures { result ≡ e_layer gamma6 ssn psc0 }
 {
     let hi = 110.0;
     Layer {
@@ -267,7 +267,7 @@ fn e_layer(gamma6: f32, ssn: f32, psc0: f32) -> Layer
 
 // There is an F1 layer where the zenith angle is at most `zenmax`; elsewhere it is all zero.
 fn f1_layer(m: Monthly, psc1: f32, zdeg: f32, zenmax: f32, cosz: f32) -> Layer
-    ensures { result ≡ f1Layer m psc1 zdeg zenmax cosz }
+    ensures { result ≡ f1_layer m psc1 zdeg zenmax cosz }
 {
     if zdeg <= zenmax {
         let f1 = m.new0 + m.new1 * cosz + m.new2 * cosz * cosz;
@@ -288,7 +288,7 @@ fn f1_layer(m: Monthly, psc1: f32, zdeg: f32, zenmax: f32, cosz: f32) -> Layer
 
 // EF1VAR: the E and F1 layers, from the size of the zenith angle.
 fn ef1_of(m: Monthly, ssn: f32, psc: Factors, gmdip: Radians, cycen: f32, gamma6: f32) -> Ef1
-    ensures { result ≡ ef1Of m ssn psc gmdip cycen gamma6 }
+    ensures { result ≡ ef1_of m ssn psc gmdip cycen gamma6 }
 {
     let cycen = abs32(cycen);
     let zdeg = Radians(cycen).to_degrees();
@@ -306,7 +306,7 @@ fn ef1_of(m: Monthly, ssn: f32, psc: Factors, gmdip: Radians, cycen: f32, gamma6
 // TIMVAR continued: the F2 height of maximum over its semithickness, from its map, but at least 2.
 // The map's second coordinate is the zenith angle, which counts as negative before noon.
 fn rat_of(m: Monthly, hmym: &HeightMap, gmlat: Radians, zdeg: Degrees, clock: f32) -> f32
-    ensures { result ≡ ratOf m hmym.now gmlat zdeg clock }
+    ensures { result ≡ rat_of m hmym.now gmlat zdeg clock }
 {
     let gm = Radians(abs32(gmlat.0)).to_degrees().0 - 45.0;
     let mut zn = zdeg.0;
@@ -320,28 +320,28 @@ fn rat_of(m: Monthly, hmym: &HeightMap, gmlat: Radians, zdeg: Degrees, clock: f3
 
 // The absorption index.
 fn abiy_of(fi0: f32) -> f32
-    ensures { result ≡ abiyOf fi0 }
+    ensures { result ≡ abiy_of fi0 }
 {
     -0.04 + exp32(-2.937 + 0.8445 * fi0)
 }
 
 // The retardation at the frequency ratio f.
 fn retard(f: f32) -> f32
-    ensures { result ≡ retardOf f }
+    ensures { result ≡ retard_of f }
 {
     f * ln32((f + 1.0) / (f - 1.0))
 }
 
 // `fcec` or `ffec`: the ratio of `fc` to a layer's critical frequency.
 fn at_least_xf1(fc: f32, f: f32) -> f32
-    ensures { result ≡ atLeastXf1 fc f }
+    ensures { result ≡ at_least_xf1 fc f }
 {
     max(fc / f, XF1)
 }
 
 // The F1 layer's retardation, from its semithickness and that of its frequency ratio.
 fn half_over(y: f32, rf: f32) -> f32
-    ensures { result ≡ halfOver y rf }
+    ensures { result ≡ half_over y rf }
 {
     0.5 * y * (rf - 2.0)
 }
@@ -349,7 +349,7 @@ fn half_over(y: f32, rf: f32) -> f32
 // Over the last two degrees before zenmax F1 rises into F2 and its retardation goes to zero. `hm`
 // is the height F2 would have alone, and `f1.fi` is what the Rust has as `fc1`.
 fn twilight(f1: Layer, ffec: f32, zmax: f32, z: f32, hm: f32, rat: f32, fc: f32, fi2: f32) -> Merged
-    ensures { result ≡ twilightOf f1 ffec zmax z hm rat fc fi2 }
+    ensures { result ≡ twilight_of f1 ffec zmax z hm rat fc fi2 }
 {
     let zn = zmax - DELZ;
     let hn = 165.0 + 0.6428 * zn;
@@ -389,7 +389,7 @@ fn twilight(f1: Layer, ffec: f32, zmax: f32, z: f32, hm: f32, rat: f32, fc: f32,
 
 // What an F1 layer adds to the retardation, and what becomes of it.
 fn merged_of(f1: Layer, zmax: f32, z: f32, hm: f32, rat: f32, fc: f32, fi2: f32) -> Merged
-    ensures { result ≡ mergedOf f1 zmax z hm rat fc fi2 }
+    ensures { result ≡ merged_of f1 zmax z hm rat fc fi2 }
 {
     let ffec = at_least_xf1(fc, f1.fi);
     if zmax - DELZ - z >= 0.0 {
@@ -406,7 +406,7 @@ fn merged_of(f1: Layer, zmax: f32, z: f32, hm: f32, rat: f32, fc: f32, fi2: f32)
 
 // What the E layer adds to the virtual height.
 fn e_retardation(e: Layer, fc: f32) -> f32
-    ensures { result ≡ eRetardation e fc }
+    ensures { result ≡ e_retardation e fc }
 {
     let fcec = at_least_xf1(fc, e.fi);
     (retard(fcec) - 2.0) * e.yi
@@ -414,7 +414,7 @@ fn e_retardation(e: Layer, fc: f32) -> f32
 
 // F1 with its frequency kept under that of F2.
 fn below_f2(f1: Layer, fi2: f32) -> Layer
-    ensures { result ≡ belowF2 f1 fi2 }
+    ensures { result ≡ below_f2 f1 fi2 }
 {
     Layer {
         fi: min(f1.fi, fi2 - 0.2),
@@ -434,7 +434,7 @@ fn retarded(
     fc: f32,
     fi2: f32,
 ) -> Merged
-    ensures { result ≡ retardedOf f1 ret zmax z hpf2 rat fc fi2 }
+    ensures { result ≡ retarded_of f1 ret zmax z hpf2 rat fc fi2 }
 {
     if f1.fi > 0.0 {
         let m = merged_of(f1, zmax, z, hpf2 - ret, rat, fc, fi2);
@@ -463,7 +463,7 @@ pub fn layer_parameters(
     mag: MagneticVars,
     g: Gammas,
 ) -> LayerParams
-    ensures { result ≡ layersOf m ssn gmt psc hmym.now pt mag g }
+    ensures { result ≡ layers_of m ssn gmt psc hmym.now pt mag g }
 {
     let t = timvar_of(m.sun, gmt, pt.lat, pt.lon);
     let v = ef1_of(m, ssn, psc, mag.gmdip, t.cycen, g.g6);
@@ -496,7 +496,7 @@ pub fn layer_parameters(
 // Sporadic E: the frequencies of maps 3, 2 and 1, in this order, times the factor, and the height,
 // 110 km.
 pub fn esind(g: Gammas, psc3: f32) -> EsParams
-    ensures { result ≡ esindOf g psc3 }
+    ensures { result ≡ esind_of g psc3 }
 {
     EsParams {
         fs: [g.g3 * psc3, g.g2 * psc3, g.g1 * psc3],
@@ -506,7 +506,7 @@ pub fn esind(g: Gammas, psc3: f32) -> EsParams
 
 // Land, or where the map is below 0 or no number, sea.
 fn ground_at(wld: f32) -> Ground
-    ensures { result ≡ groundAt wld }
+    ensures { result ≡ ground_at wld }
 {
     if wld >= 0.0 {
         Ground(0.001, 4.0)
@@ -518,7 +518,7 @@ fn ground_at(wld: f32) -> Ground
 // The ground's conductivity and permittivity at a place, from the land-mass map; the longitude is
 // the one that `magvar` gives.
 pub fn ground_constants(m: Monthly, fakmap: &LandMap, lat: Radians, east_lon: Radians) -> Ground
-    ensures { result ≡ groundOf m fakmap.now lat east_lon }
+    ensures { result ≡ ground_of m fakmap.now lat east_lon }
 {
     let rfltd = lat.to_degrees();
     let mut clgd = east_lon.to_degrees().0;

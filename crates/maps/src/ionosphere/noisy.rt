@@ -2,8 +2,8 @@
 ghost use Rattle.std.specs.Prelude.{◌≡◌, ◌<◌, ◌≤◌, slice_index_or};
 ghost use Rattle.std.specs.Float.{nan};
 ghost use Rattle.base.specs.Single.{◌⊕◌, ◌⊗◌};
-ghost use Rattle.base.specs.Elementary.{sin32Of, cos32Of};
-ghost use Rattle.maps.specs.Noisy.{inPlane, turn_of, sxOf, each, columnsOf, zzOf, latitudeSum, noisyOf};
+ghost use Rattle.base.specs.Elementary.{sin32_of, cos32_of};
+ghost use Rattle.maps.specs.Noisy.{in_plane, turn_of, sx_of, each, columns_of, zz_of, latitude_sum, noisy_of};
 
 use base::blend::PLANE;
 use base::elementary::{cos32, sin32};
@@ -15,7 +15,7 @@ pub type Plane = [f32; PLANE];
 // cosine of the angle.
 fn sines(s1: f32, c1: f32, n: usize) -> [f32; 15]
     requires { n ≤ 15 }
-    ensures { result ≡ sxOf s1 c1 n }
+    ensures { result ≡ sx_of s1 c1 n }
 {
     let mut sx = [0.0f32; 15];
     let mut s = s1;
@@ -32,7 +32,7 @@ fn sines(s1: f32, c1: f32, n: usize) -> [f32; 15]
 // The row k of the plane times x, added to the first lm columns.
 fn add_row(zz: &mut [f32; 29], plane: &Plane, k: usize, x: f32, lm: usize)
     requires { (k < 16) × (lm ≤ 29) }
-    ensures { zz.new ≡ each (λ j z. z ⊕ x ⊗ inPlane plane.now k j) zz.old lm }
+    ensures { zz.new ≡ each (λ j z. z ⊕ x ⊗ in_plane plane.now k j) zz.old lm }
 {
     let at = k * 29;
     for j in 0..lm {
@@ -43,7 +43,7 @@ fn add_row(zz: &mut [f32; 29], plane: &Plane, k: usize, x: f32, lm: usize)
 // Row 15, which no sine multiplies, added to the first lm columns.
 fn add_last(zz: &mut [f32; 29], plane: &Plane, lm: usize)
     requires { lm ≤ 29 }
-    ensures { zz.new ≡ each (λ j z. z ⊕ inPlane plane.now 15 j) zz.old lm }
+    ensures { zz.new ≡ each (λ j z. z ⊕ in_plane plane.now 15 j) zz.old lm }
 {
     for j in 0..lm {
         zz[j] = zz[j] + plane[435 + j];
@@ -55,7 +55,7 @@ fn add_last(zz: &mut [f32; 29], plane: &Plane, lm: usize)
 // column adds, and in which order, is the same.
 fn columns<'a>(sx: &'a [f32; 15], plane: &'a Plane, ln: usize, lm: usize) -> [f32; 29]
     requires { (ln ≤ 15) × (lm ≤ 29) }
-    ensures { result ≡ columnsOf sx.now plane.now ln lm }
+    ensures { result ≡ columns_of sx.now plane.now ln lm }
 {
     let mut zz = [0.0f32; 29];
     for k in 0..ln {
@@ -68,7 +68,7 @@ fn columns<'a>(sx: &'a [f32; 15], plane: &'a Plane, ln: usize, lm: usize) -> [f3
 // The first n columns, each times the sine of its multiple of an angle, summed.
 fn latitude_sum(zz: &[f32; 29], s1: f32, c1: f32, n: usize) -> f32
     requires { n ≤ 29 }
-    ensures { result ≡ latitudeSum (λ k. (turn_of s1 c1 k).sine) (λ k. slice_index_or zz.now k nan) n }
+    ensures { result ≡ latitude_sum (λ k. (turn_of s1 c1 k).sine) (λ k. slice_index_or zz.now k nan) n }
 {
     let mut sum = 0.0f32;
     let mut s = s1;
@@ -90,8 +90,8 @@ struct Wave {
 }
 
 fn wave_of(x: f32) -> Wave
-    ensures sine { result.sine ≡ sin32Of x }
-    ensures cosine { result.cosine ≡ cos32Of x }
+    ensures sine { result.sine ≡ sin32_of x }
+    ensures cosine { result.cosine ≡ cos32_of x }
 {
     Wave {
         sine: sin32(x),
@@ -113,8 +113,8 @@ fn noisy_sum(
     angle: Wave,
 ) -> f32
     requires { (lm ≤ 29) × (ln ≤ 15) }
-    ensures { let zz = zzOf (λ k. (turn_of half.sine half.cosine k).sine) plane.now ln in
-        result ≡ latitudeSum (λ k. (turn_of angle.sine angle.cosine k).sine) zz lm ⊕ alf ⊕ bet ⊗ p }
+    ensures { let zz = zz_of (λ k. (turn_of half.sine half.cosine k).sine) plane.now ln in
+        result ≡ latitude_sum (λ k. (turn_of angle.sine angle.cosine k).sine) zz lm ⊕ alf ⊕ bet ⊗ p }
 {
     let sx = sines(half.sine, half.cosine, ln);
     let zz = columns(&sx, plane, ln, lm);
@@ -124,7 +124,7 @@ fn noisy_sum(
 // The value of a Fourier map at `xla` and `ceg`, in degrees; `alf` and `bet` are what the file has
 // for the map, `ratio_map` says that it is the shorter one, of the height ratio.
 pub fn noisy(plane: &Plane, alf: f32, bet: f32, ratio_map: bool, xla: f32, ceg: f32) -> f32
-    ensures { result ≡ noisyOf plane.now alf bet ratio_map xla ceg }
+    ensures { result ≡ noisy_of plane.now alf bet ratio_map xla ceg }
 {
     let half = wave_of(0.0087266466 * ceg);
     let p = 0.01745329252 * (xla + 90.0);

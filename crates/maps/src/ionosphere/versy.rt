@@ -1,9 +1,9 @@
 // VERSY: the six maps at a place.
 ghost use Rattle.std.specs.Prelude.{◌≡◌, ◌+◌, ◌-◌, ◌%◌, ◌<◌, ◌≤◌, Float};
 ghost use Rattle.base.specs.Fill.{fill, tabulate};
-ghost use Rattle.base.specs.Index.{mapWord};
+ghost use Rattle.base.specs.Index.{map_word};
 ghost use Rattle.maps.specs.Virtim.{GoodTable};
-ghost use Rattle.maps.specs.Versy.{sxPower, geographicOf, wavesOf, rungOf, zeros, elements, gammaOf, sum_of, sumsOf, threeOf, threeAt, gammasOf};
+ghost use Rattle.maps.specs.Versy.{sx_power, geographic_of, waves_of, rung_of, zeros, elements, gamma_of, sum_of, sums_of, three_of, three_at, gammas_of};
 
 use crate::ionosphere::virtim::{TimeMaps, first_row, word};
 use base::elementary::{cos64, sin64};
@@ -16,7 +16,7 @@ type Basis = [f64; 76];
 // The cosine and the sine of 1 to 8 times the longitude, each times that power of the latitude's
 // cosine. All six maps share them.
 fn waves(gob: f32, clg: f32) -> [f64; 16]
-    ensures { result ≡ wavesOf gob clg }
+    ensures { result ≡ waves_of gob clg }
 {
     let wide = widen(gob);
     let mut out = [0.0f64; 16];
@@ -38,7 +38,7 @@ fn waves(gob: f32, clg: f32) -> [f64; 16]
 // The powers 0 to k of sx.
 fn powers(g: &mut Basis, sx: f64, k: usize)
     requires { (1 ≤ k) × (k ≤ 75) }
-    ensures { g.new ≡ fill (sxPower sx) 0 g.old (k + 1) }
+    ensures { g.new ≡ fill (sx_power sx) 0 g.old (k + 1) }
 {
     g[0] = 1.0;
     let mut power = sx;
@@ -54,7 +54,7 @@ fn powers(g: &mut Basis, sx: f64, k: usize)
 // times sx, both times sx once more, and so on.
 fn rung(g: &mut Basis, sx: f64, c: f64, s: f64, below: usize, end: usize)
     requires { (below + 2 ≤ end) × (end ≤ 75) × ((end - below) % 2 ≡ 0) }
-    ensures { g.new ≡ fill (rungOf sx c s) (below + 1) g.old (end - below) }
+    ensures { g.new ≡ fill (rung_of sx c s) (below + 1) g.old (end - below) }
 {
     let mut cosine = c;
     let mut sine = s;
@@ -73,8 +73,8 @@ fn rung(g: &mut Basis, sx: f64, c: f64, s: f64, below: usize, end: usize)
 fn basis(index: &IndexTable, k: usize, sx: f64, waves: &[f64; 16], g: &mut Basis)
     requires { GoodTable index.now × (k < 6) × (g.old ≡ zeros) }
     ensures { (gob clg : Float) →
-        waves.now ≡ wavesOf gob clg →
-        g.new ≡ tabulate (geographicOf (mapWord index.now k) sx gob clg) 76 }
+        waves.now ≡ waves_of gob clg →
+        g.new ≡ tabulate (geographic_of (map_word index.now k) sx gob clg) 76 }
 {
     let mut below = word(index, k, 0);
     powers(g, sx, below);
@@ -114,7 +114,7 @@ fn together(
     ensures { let x = elements ga.now in
         let y = elements gb.now in
         let z = elements gc.now in
-        result ≡ sumsOf ab.now i x j y l z n }
+        result ≡ sums_of ab.now i x j y l z n }
 {
     let mut a = ga[0] * widen(ab[i]);
     let mut b = gb[0] * widen(ab[j]);
@@ -172,7 +172,7 @@ fn two_further(
 // A series to its last term, from the sum of its terms 0 to n.
 fn finished(ab: &TimeMaps, at: usize, g: &Basis, sum: f64, n: usize, last: usize) -> f32
     requires { (sum ≡ sum_of ab.now at (elements g.now) n) × (n ≤ last) × (last ≤ 75) × (at + last < 318) }
-    ensures { result ≡ gammaOf ab.now at (elements g.now) last }
+    ensures { result ≡ gamma_of ab.now at (elements g.now) last }
 {
     let mut gamma = sum;
     let mut k = n;
@@ -212,7 +212,7 @@ fn three_series(
     ensures { let x = elements ga.now in
         let y = elements gb.now in
         let z = elements gc.now in
-        result ≡ threeOf ab.now index.now k x y z }
+        result ≡ three_of ab.now index.now k x y z }
 {
     let i = first_row(k);
     let j = first_row(k + 1);
@@ -235,8 +235,8 @@ fn three_series(
 fn three(ab: &TimeMaps, index: &IndexTable, k: usize, sx: f64, sz: f64, waves: &[f64; 16]) -> Triple
     requires { GoodTable index.now × (k ≤ 3) }
     ensures { (gob clg : Float) →
-        waves.now ≡ wavesOf gob clg →
-        result ≡ threeAt ab.now index.now k sx sz gob clg }
+        waves.now ≡ waves_of gob clg →
+        result ≡ three_at ab.now index.now k sx sz gob clg }
 {
     let mut ga = [0.0f64; 76];
     basis(index, k, sx, waves, &mut ga);
@@ -268,7 +268,7 @@ pub(crate) fn versy(
     gob: f32,
 ) -> Gammas
     requires { GoodTable index.now }
-    ensures { result ≡ gammasOf ab.now index.now dip lat clg gob }
+    ensures { result ≡ gammas_of ab.now index.now dip lat clg gob }
 {
     let w = waves(gob, clg);
     let sx = sin64(widen(dip));

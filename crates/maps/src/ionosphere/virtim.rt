@@ -1,8 +1,8 @@
 // VIRTIM: the maps' coefficients at an hour.
 ghost use Rattle.std.specs.Prelude.{◌≡◌, ◌+◌, ◌-◌, ◌*◌, ◌<◌, ◌≤◌, slice_index};
-ghost use Rattle.base.specs.Index.{mapWord};
+ghost use Rattle.base.specs.Index.{map_word};
 ghost use Rattle.base.specs.Blend.{IC};
-ghost use Rattle.maps.specs.Virtim.{GoodTable, StartsRule, hourWaves, waveIn, value_of, timeMapOf, virtimOf};
+ghost use Rattle.maps.specs.Virtim.{GoodTable, StartsRule, hour_waves, wave_in, value_of, time_map_of, virtim_of};
 
 use crate::ionosphere::starts::{AB_ROWS, SERIES_STARTS, SeriesStarts};
 use base::angle::Degrees;
@@ -41,7 +41,7 @@ fn wide_start(x: u16) -> usize
 // The word j of the map k.
 pub(crate) fn word(index: &IndexTable, k: usize, j: usize) -> usize
     requires { (k < 6) × (j < 10) }
-    ensures { result ≡ mapWord index.now k j }
+    ensures { result ≡ map_word index.now k j }
 {
     wide(index[k * 10 + j])
 }
@@ -55,7 +55,7 @@ struct Waves {
 
 // Each follows from the one before it, by the rule for the sum of two angles.
 fn hour_waves(gmt: f32) -> Waves
-    ensures { result ≡ hourWaves gmt }
+    ensures { result ≡ hour_waves gmt }
 {
     let time = Degrees(15.0 * gmt - 180.0).to_radians();
     let c0 = cos32(time.0);
@@ -87,8 +87,8 @@ struct TwoValues {
 // a time, so that each wave is read once for both.
 fn two_values(cof: &SixMaps, a: usize, b: usize, n: usize, c: &[f32; 8], s: &[f32; 8]) -> TwoValues
     requires { (n ≤ 8) × (a + 2 * n < 2604) × (b + 2 * n < 2604) }
-    ensures first { result.first ≡ value_of (waveIn c.now s.now) cof.now a n }
-    ensures second { result.second ≡ value_of (waveIn c.now s.now) cof.now b n }
+    ensures first { result.first ≡ value_of (wave_in c.now s.now) cof.now a n }
+    ensures second { result.second ≡ value_of (wave_in c.now s.now) cof.now b n }
 {
     let mut first = cof[a];
     let mut second = cof[b];
@@ -114,8 +114,8 @@ fn time_map(
     ab: &mut TimeMaps,
 )
     requires { GoodTable index.now × StartsRule starts.now × (k < 6) }
-    ensures { let wave = waveIn c.now s.now in
-        ab.new ≡ timeMapOf wave cof.now index.now k ab.old }
+    ensures { let wave = wave_in c.now s.now in
+        ab.new ≡ time_map_of wave cof.now index.now k ab.old }
 {
     let mut row = first_row(k);
     let last = row + word(index, k, 8);
@@ -139,7 +139,7 @@ fn time_map(
 // Every map's daily series, worked out at one hour of Greenwich mean time.
 pub(crate) fn virtim(cof: &SixMaps, index: &IndexTable, gmt: f32) -> TimeMaps
     requires { GoodTable index.now }
-    ensures { result ≡ virtimOf cof.now index.now gmt }
+    ensures { result ≡ virtim_of cof.now index.now gmt }
 {
     let w = hour_waves(gmt);
     let c = w.c;

@@ -7,31 +7,31 @@ use Prim.Native.Nat.{ℕ, ◌+◌, ◌*◌, ◌≤◌, ◌-◌}
 use native.Mathlib.Omega.{arith}
 use lib.ListN.{length, get_or, drop}
 use Rattle.base.specs.Fill.{fill}
-use Rattle.packing.specs.Pack.{start_in, pairsOf, sealedFile}
-use Rattle.packing.proofs.pairs.Starts.{start-more, start-rises}
-use Rattle.packing.proofs.pairs.Written.{begun, byte_of, begun-next}
-use Rattle.packing.proofs.pairs.Sealed.{sealed-file, sealed-none}
+use Rattle.packing.specs.Pack.{start_in, pairs_of, sealed_file}
+use Rattle.packing.proofs.pairs.Starts.{start_more, start_rises}
+use Rattle.packing.proofs.pairs.Written.{begun, byte_of, begun_next}
+use Rattle.packing.proofs.pairs.Sealed.{sealed_file_law, sealed_none}
 use Rattle.packing.proofs.seal.Statement.{statement}
 use Rattle.packing.proofs.seal.Tie as tie
 
-abbrev invariant-loop : tie.invariant-loop
-invariant-loop year₀ sizes n words at₀ k₀ year at k = (k ≤ 14) × (at ≡ start_in 112 sizes k) × (year ≡ begun sizes year₀ k)
+abbrev invariant_loop : tie.invariant_loop
+invariant_loop year₀ sizes n words at₀ k₀ year at k = (k ≤ 14) × (at ≡ start_in 112 sizes k) × (year ≡ begun sizes year₀ k)
 
-abbrev decreases-loop : tie.decreases-loop
-decreases-loop year₀ sizes n words at₀ k₀ year at k = 14 - k
+abbrev decreases_loop : tie.decreases_loop
+decreases_loop year₀ sizes n words at₀ k₀ year at k = 14 - k
 
-returns : tie.Need-returns invariant-loop decreases-loop
+returns : tie.Need-returns invariant_loop decreases_loop
 returns c =
     let a = c.before.before.before.before.before.args in
     let e = c.before.before.before.before.size-of-year.ensures in
-    let none = sym (sealed-none a.sizes.now a.year.now (omega arith)) in
+    let none = sym (sealed_none a.sizes.now a.year.now (omega arith)) in
     (ap (λ (x : List ℕ). x ++ a.year.now) none, (ap length none, omega arith))
 
-loop-holds : tie.Need-loop-init invariant-loop decreases-loop
-unfolding start_in pairsOf
-loop-holds c = (search rules, refl, refl)
+loop_holds : tie.Need-loop-init invariant_loop decreases_loop
+unfolding start_in pairs_of
+loop_holds c = (search rules, refl, refl)
 
-add_at : tie.Need-overflow-add-at invariant-loop decreases-loop
+add_at : tie.Need-overflow-add-at invariant_loop decreases_loop
 add_at c =
     let p = c.before.before.before.before.before.before.before in
     let s = p.before.before.before.before.before in
@@ -39,11 +39,11 @@ add_at c =
     let l = p.loop in
     let e = s.size-of-year.ensures in
     let i = l.invariant.1 in
-    let n = start-more 112 ns l.k (omega arith) in
-    omega (arith, start-rises 112 ns (l.k + 1) 14 (omega arith))
+    let n = start_more 112 ns l.k (omega arith) in
+    omega (arith, start_rises 112 ns (l.k + 1) 14 (omega arith))
 
-loop-again : tie.Need-loop-preserved invariant-loop decreases-loop
-loop-again c =
+loop_again : tie.Need-loop-preserved invariant_loop decreases_loop
+loop_again c =
     let p = c.before.before.before.before.before.before.before in
     let a = p.before.before.before.before.before.before.args in
     let l = p.loop in
@@ -51,15 +51,15 @@ loop-again c =
     let k = l.k in
     let h = l.invariant in (
       search rules,
-      ap (λ (n : ℕ). n + get_or ns k 0) h.1 ∙ start-more 112 ns k (omega arith),
+      ap (λ (n : ℕ). n + get_or ns k 0) h.1 ∙ start_more 112 ns k (omega arith),
       c.before.put-word2.ensures
           ∙ ap (λ (x : List ℕ). fill (byte_of (get_or ns k 0)) (8 * k + 4) x 4)
           (c.before.before.before.before.put_word.ensures ∙ (λ i. fill (byte_of (h.1 i)) (8 * k) (h.2 i) 4))
-          ∙ begun-next ns a.year.now k (omega arith) (omega arith),
+          ∙ begun_next ns a.year.now k (omega arith) (omega arith),
     )
 
-returns-2 : tie.Need-returns-2 invariant-loop decreases-loop
-returns-2 c =
+returns_2 : tie.Need-returns-2 invariant_loop decreases_loop
+returns_2 c =
     let s = c.before.before.before.before.before.before in
     let a = s.before.args in
     let l = c.before.loop in
@@ -67,22 +67,22 @@ returns-2 c =
     let z = s.size-of-year.ensures in
     let y : l.year ≡ begun a.sizes.now a.year.now 14 =
     l.invariant.2 ∙ ap (begun a.sizes.now a.year.now) e in
-    let f = sealed-file a.sizes.now a.year.now (omega arith) (omega arith) (omega arith) in
+    let f = sealed_file_law a.sizes.now a.year.now (omega arith) (omega arith) (omega arith) in
     let l = a.year.now in (
-      y ∙ f.0 ∙ ap (λ (n : ℕ). sealedFile a.sizes.now l ++ drop n l) (sym z),
+      y ∙ f.0 ∙ ap (λ (n : ℕ). sealed_file a.sizes.now l ++ drop n l) (sym z),
       (z ∙ f.1, omega arith),
     )
 
-pub seal-spec : {M : Type 1} → statement M
-seal-spec =
+pub seal_spec : {M : Type 1} → statement M
+seal_spec =
     tie.close
     (tie.spec
-    invariant-loop
-    decreases-loop
+    invariant_loop
+    decreases_loop
     (λ c κs. search rules)
     returns
     (λ c. search rules)
-    loop-holds
+    loop_holds
     (λ c. search rules)
     (λ c κs. search rules)
     (λ c. search rules)
@@ -95,5 +95,5 @@ seal-spec =
     add_at
     (λ c. search rules)
     (λ c. search rules)
-    loop-again
-    returns-2)
+    loop_again
+    returns_2)

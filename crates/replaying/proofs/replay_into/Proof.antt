@@ -13,25 +13,25 @@ use Rattle.replaying.proofs.replay_into.Tie as tie
 longer : (n : ℕ) (l m : List ℕ) → n ≤ length l → n ≤ length (l ++ m)
 longer n l m h = omega (arith, length-append l m)
 
-slice-aggregate-read-full-2 : tie.Need-slice-aggregate-read-full-2
-slice-aggregate-read-full-2 c = sym (length-take-le c.before.before.year-size.result c.before.before.before.before.before.before.before.before.before.args.year.now (omega arith))
+slice_aggregate_read_full_2 : tie.Need-slice-aggregate-read-full-2
+slice_aggregate_read_full_2 c = sym (length-take-le c.before.before.year-size.result c.before.before.before.before.before.before.before.before.before.args.year.now (omega arith))
 
-slice-reshare-prefix-answer-all : tie.Need-slice-reshare-prefix-answer-all
-slice-reshare-prefix-answer-all c =
+slice_reshare_prefix_answer_all : tie.Need-slice-reshare-prefix-answer-all
+slice_reshare_prefix_answer_all c =
     let r = c.before.before.before in
     let y = r.before.before.before in
     let h = longer r.read-full2.result r.read-full2.new.1.0 (drop y.year-size.result y.before.before.before.before.before.before.before.args.year.now) r.read-full2.ensures.0 in
     h
 
-slice-aggregate-answer-all : tie.Need-slice-aggregate-answer-all
-slice-aggregate-answer-all c =
+slice_aggregate_answer_all : tie.Need-slice-aggregate-answer-all
+slice_aggregate_answer_all c =
     let r = c.before.before.before.before in
     let y = r.before.before.before in
     let h = longer r.read-full2.result r.read-full2.new.1.0 (drop y.year-size.result y.before.before.before.before.before.before.before.args.year.now) r.read-full2.ensures.0 in
     sym (length-take-le _ _ h)
 
-pub replay-into-spec : {M : Type 1} → statement M
-replay-into-spec =
+pub replay_into_spec : {M : Type 1} → statement M
+replay_into_spec =
     tie.close
     (tie.spec
     (λ c. search rules)
@@ -41,12 +41,12 @@ replay-into-spec =
     (λ c κs. search rules)
     (λ c. search rules)
     (λ c. search rules)
-    slice-aggregate-read-full-2
+    slice_aggregate_read_full_2
     (λ c κs. search rules)
     (λ c. search rules)
     (λ c. search rules)
-    slice-reshare-prefix-answer-all
-    slice-aggregate-answer-all
+    slice_reshare_prefix_answer_all
+    slice_aggregate_answer_all
     (λ c. search rules)
     (λ c. search rules)
     (λ c. search rules)

@@ -17,18 +17,18 @@ use lib.Ieee.Scale.{finite}
 use lib.Ieee.Positive.{den, den_pos}
 use Rattle.base.specs.declared.angle.Degrees.{Degrees}
 use Rattle.base.specs.declared.angle.Radians.{Radians}
-use Rattle.base.specs.Single.{◌⊕◌, ◌⊖◌, ◌⊘◌, decimal, minusDecimal}
+use Rattle.base.specs.Single.{◌⊕◌, ◌⊖◌, ◌⊘◌, decimal, minus_decimal}
 use Rattle.base.specs.Constants.{D2R, PI, PI2}
-use Rattle.base.specs.Angle.{radiansOf}
-use Rattle.base.proofs.order.Order.{plus, less, nought, le→cross, cross→le, le_right, no-nan-finite, refl-le, trans_le, not-lt→le, Between, between-finite}
-use Rattle.base.proofs.order.Monotone.{rounds-mono, sub-rounds, sub-mono, div-right}
-use Rattle.base.proofs.order.Intervals.{exactly, add-in, sub_in, mul-about}
+use Rattle.base.specs.Angle.{radians_of}
+use Rattle.base.proofs.order.Order.{plus, less, nought, le→cross, cross→le, le_right, no_nan_finite, refl_le, trans_le, not-lt→le, Between, between_finite}
+use Rattle.base.proofs.order.Monotone.{rounds_mono, sub_rounds, sub_mono, div_right}
+use Rattle.base.proofs.order.Intervals.{exactly, add_in, sub_in, mul_about}
 use Rattle.maps.specs.declared.geometry.ControlPoint.{ControlPoint}
 use Rattle.maps.specs.declared.magnetic.MagneticVars.{MagneticVars}
 use Rattle.maps.specs.declared.inputs.Factors.{Factors}
 use Rattle.maps.specs.declared.ionosphere.versy.Gammas.{Gammas}
 use Rattle.maps.specs.declared.ionosphere.layers.Monthly.{Monthly}
-use Rattle.maps.specs.Layers.{clockOf, timvarOf, layersOf}
+use Rattle.maps.specs.Layers.{clock_of, timvar_of, layers_of}
 pub use Rattle.results.specs.AsInTheRust.{OnClock}
 
 -- ---- strict order
@@ -55,7 +55,7 @@ not-le→lt x y p q n = go (lt x y) refl
 
 -- what is at least a number above zero is above zero
 pub above_zero : (k x : Float) → (T (le k nought) → ⊥) → T (le k x) → T (lt nought x)
-above_zero k x n h = not-le→lt nought x (no-nan-finite nought tt) (le_right k x h) (λ u. n (trans_le k x nought h u))
+above_zero k x n h = not-le→lt nought x (no_nan_finite nought tt) (le_right k x h) (λ u. n (trans_le k x nought h u))
 
 -- ---- an f32 above 24
 abbrev day : Float
@@ -64,13 +64,13 @@ day = fin false 3 (pos 3)
 abbrev least : Float
 least = fin false 1 (negsuc 148)
 
-least-is : (round binary32 false 1 (2 ^ 149) ≡ least) × (round binary32 true 1 (2 ^ 149) ≡ neg least)
+least_is : (round binary32 false 1 (2 ^ 149) ≡ least) × (round binary32 true 1 (2 ^ 149) ≡ neg least)
 unfolding round neg
-least-is = (refl, refl)
+least_is = (refl, refl)
 
-least-signs : (T (le least nought) → ⊥) × (T (le nought (neg least)) → ⊥)
+least_signs : (T (le least nought) → ⊥) × (T (le nought (neg least)) → ⊥)
 unfolding le neg
-least-signs = (λ h. h, λ h. h)
+least_signs = (λ h. h, λ h. h)
 
 -- an f32 is no finer than 2 ^ -149
 fine : (x : Float) → T (fits binary32 x) → den x ≤ 2 ^ 149
@@ -91,8 +91,8 @@ apart a b d N h k = let u = mul-le-mul_right N h in omega (arith, u, add-mul a 1
 over_by : (d l P N : ℕ) → 24 * d + l < P → d ≤ N → 1 * (d * 1) + (l * 1 + 24 * d) * N ≤ (P * 1 + 0 * d) * N + 0 * (d * 1)
 over_by d l P N h k = let u = apart (l * 1 + 24 * d) (P * 1 + 0 * d) d N (omega arith) k in omega arith
 
-under-by : (d l P N : ℕ) → 24 * d + l < P → d ≤ N → (24 * d + l * 1) * N + 1 * (1 * d) ≤ 0 * (1 * d) + (0 * d + P * 1) * N
-under-by d l P N h k = let u = apart (24 * d + l * 1) (0 * d + P * 1) d N (omega arith) k in omega arith
+under_by : (d l P N : ℕ) → 24 * d + l < P → d ≤ N → (24 * d + l * 1) * N + 1 * (1 * d) ≤ 0 * (1 * d) + (0 * d + P * 1) * N
+under_by d l P N h k = let u = apart (24 * d + l * 1) (0 * d + P * 1) d N (omega arith) k in omega arith
 
 module _ (x : Float) (p : T (finite x)) (f : T (fits binary32 x)) (h : T (le x day) → ⊥) where
   gap : 24 * den x + less x < plus x
@@ -100,15 +100,15 @@ module _ (x : Float) (p : T (finite x)) (f : T (fits binary32 x)) (h : T (le x d
 
   over : T (le least (x ⊖ day))
   over =
-      rounds-mono binary32 least (x ⊖ day) 1 0 (2 ^ 149) (plus x * 1 + 0 * den x) (less x * 1 + 24 * den x) (den x * 1) (lit< tt) (omega (arith, den_pos x))
-      (record { sign = false; size = 1; is = sym least-is.0; value = refl }) (sub-rounds binary32 x day p tt)
+      rounds_mono binary32 least (x ⊖ day) 1 0 (2 ^ 149) (plus x * 1 + 0 * den x) (less x * 1 + 24 * den x) (den x * 1) (lit< tt) (omega (arith, den_pos x))
+      (record { sign = false; size = 1; is = sym least_is.0; value = refl }) (sub_rounds binary32 x day p tt)
       (over_by (den x) (less x) (plus x) (2 ^ 149) gap (fine x f))
 
   under : T (le (day ⊖ x) (neg least))
   under =
-      rounds-mono binary32 (day ⊖ x) (neg least) (24 * den x + less x * 1) (0 * den x + plus x * 1) (1 * den x) 0 1 (2 ^ 149) (omega (arith, den_pos x)) (lit< tt)
-      (sub-rounds binary32 day x tt p) (record { sign = true; size = 1; is = sym least-is.1; value = refl })
-      (under-by (den x) (less x) (plus x) (2 ^ 149) gap (fine x f))
+      rounds_mono binary32 (day ⊖ x) (neg least) (24 * den x + less x * 1) (0 * den x + plus x * 1) (1 * den x) 0 1 (2 ^ 149) (omega (arith, den_pos x)) (lit< tt)
+      (sub_rounds binary32 day x tt p) (record { sign = true; size = 1; is = sym least_is.1; value = refl })
+      (under_by (den x) (less x) (plus x) (2 ^ 149) gap (fine x f))
 
 -- ---- the correction
 abbrev low : Float
@@ -120,13 +120,13 @@ high = fin false 37 (pos 0)
 abbrev corrected : Float → Float
 corrected x = cond (lt (day ⊖ x) nought) (x ⊖ day) (cond (le x nought) (x ⊕ day) x)
 
-on-clock : (c : Float) → T (lt nought c) → T (le c day) → OnClock c
+on_clock : (c : Float) → T (lt nought c) → T (le c day) → OnClock c
 unfolding decimal round
-on-clock c h k = record { above = h; most = k }
+on_clock c h k = record { above = h; most = k }
 
 module _ (x : Float) (f : T (fits binary32 x)) (b : Between low high x) where
   own : T (finite x)
-  own = between-finite tt tt b
+  own = between_finite tt tt b
 
   -- day ⊖ x
   rest_in : Between (fin true 13 (pos 0)) (fin false 37 (pos 0)) (day ⊖ x)
@@ -136,35 +136,35 @@ module _ (x : Float) (f : T (fits binary32 x)) (b : Between low high x) where
   -- up to 24 nothing is taken off
   up_to : T (le x day) → T (le nought (day ⊖ x))
   unfolding le add sub neg
-  up_to h = sub-mono binary32 day day day x tt tt tt own (refl-le day (no-nan-finite day tt)) h
+  up_to h = sub_mono binary32 day day day x tt tt tt own (refl_le day (no_nan_finite day tt)) h
 
   past : T (lt (day ⊖ x) nought) → T (le x day) → ⊥
-  past t h = lt_not_le (day ⊖ x) nought (between-finite tt tt rest_in) tt t (up_to h)
+  past t h = lt_not_le (day ⊖ x) nought (between_finite tt tt rest_in) tt t (up_to h)
 
   taken : T (lt (day ⊖ x) nought) → OnClock (x ⊖ day)
   unfolding le add sub neg
   taken t =
-      on-clock (x ⊖ day) (above_zero least (x ⊖ day) least-signs.0 (over x own f (past t)))
+      on_clock (x ⊖ day) (above_zero least (x ⊖ day) least_signs.0 (over x own f (past t)))
       (sub_in binary32 (fin true 37 (pos 0)) day tt b (exactly day tt)).high
 
   added : T (le x nought) → OnClock (x ⊕ day)
   unfolding le add
   added t =
       let c : Between low nought x = record { low = b.low; high = t } in
-      let s : Between (fin false 11 (pos 0)) day (x ⊕ day) = add-in binary32 (fin false 11 (pos 0)) day tt c (exactly day tt) in
-      on-clock (x ⊕ day) (above_zero (fin false 11 (pos 0)) (x ⊕ day) (λ h. h) s.low) s.high
+      let s : Between (fin false 11 (pos 0)) day (x ⊕ day) = add_in binary32 (fin false 11 (pos 0)) day tt c (exactly day tt) in
+      on_clock (x ⊕ day) (above_zero (fin false 11 (pos 0)) (x ⊕ day) (λ h. h) s.low) s.high
 
   stays : lt (day ⊖ x) nought ≡ false → le x nought ≡ false → OnClock x
   stays t u =
-      let r = not-lt→le (day ⊖ x) nought (no-nan-finite (day ⊖ x) (between-finite tt tt rest_in)) (no-nan-finite nought tt) t in
-      on-clock x (not-le→lt nought x (no-nan-finite nought tt) (no-nan-finite x own) (λ h. subst T u h)) (go (le x day) refl r)
+      let r = not-lt→le (day ⊖ x) nought (no_nan_finite (day ⊖ x) (between_finite tt tt rest_in)) (no_nan_finite nought tt) t in
+      on_clock x (not-le→lt nought x (no_nan_finite nought tt) (no_nan_finite x own) (λ h. subst T u h)) (go (le x day) refl r)
     where
       go : (a : Bool) → le x day ≡ a → T (le nought (day ⊖ x)) → T a
       go true e r = tt
-      go false e r = absurd (least-signs.1 (trans_le nought (day ⊖ x) (neg least) r (under x own f (λ h. subst T e h))))
+      go false e r = absurd (least_signs.1 (trans_le nought (day ⊖ x) (neg least) r (under x own f (λ h. subst T e h))))
 
-  corrected-in : OnClock (corrected x)
-  corrected-in = go (lt (day ⊖ x) nought) (le x nought) refl refl
+  corrected_in : OnClock (corrected x)
+  corrected_in = go (lt (day ⊖ x) nought) (le x nought) refl refl
     where
       go : (t u : Bool) → lt (day ⊖ x) nought ≡ t → le x nought ≡ u → OnClock (cond t (x ⊖ day) (cond u (x ⊕ day) x))
       go true u p q = taken (subst T (sym p) tt)
@@ -187,34 +187,34 @@ Longitude lon = Between (neg farthest) farthest lon
 abbrev hours : Float → Float
 hours lon = lon ⊘ decimal 261799387 9
 
-hours-in : (lon : Float) → Longitude lon → Between (fin true 13 (pos 0)) (fin false 13 (pos 0)) (hours lon)
+hours_in : (lon : Float) → Longitude lon → Between (fin true 13 (pos 0)) (fin false 13 (pos 0)) (hours lon)
 unfolding farthest PI PI2 decimal round neg add sub div le
-hours-in lon b =
+hours_in lon b =
     let k = decimal 261799387 9 in
-    let p : T (finite lon) = between-finite {lo = neg farthest} {hi = farthest} tt tt b in
+    let p : T (finite lon) = between_finite {lo = neg farthest} {hi = farthest} tt tt b in
     record {
-      low = trans_le (fin true 13 (pos 0)) (neg farthest ⊘ k) (lon ⊘ k) tt (div-right binary32 (neg farthest) lon k tt p tt b.low);
-      high = trans_le (lon ⊘ k) (farthest ⊘ k) (fin false 13 (pos 0)) (div-right binary32 lon farthest k p tt tt b.high) tt;
+      low = trans_le (fin true 13 (pos 0)) (neg farthest ⊘ k) (lon ⊘ k) tt (div_right binary32 (neg farthest) lon k tt p tt b.low);
+      high = trans_le (lon ⊘ k) (farthest ⊘ k) (fin false 13 (pos 0)) (div_right binary32 lon farthest k p tt tt b.high) tt;
     }
 
-sum-in : (gmt lon : Float) → Hour gmt → Longitude lon → Between low high (gmt ⊕ hours lon)
+sum_in_law : (gmt lon : Float) → Hour gmt → Longitude lon → Between low high (gmt ⊕ hours lon)
 unfolding decimal round add le
-sum-in gmt lon h b = add-in binary32 {a = nought} {b = day} {c = fin true 13 (pos 0)} {d = fin false 13 (pos 0)} low high tt h (hours-in lon b)
+sum_in_law gmt lon h b = add_in binary32 {a = nought} {b = day} {c = fin true 13 (pos 0)} {d = fin false 13 (pos 0)} low high tt h (hours_in lon b)
 
-clock-is : (gmt : Float) (lon : Radians) → clockOf gmt lon ≡ corrected (gmt ⊕ hours lon.0)
-unfolding clockOf decimal round
-clock-is gmt lon = refl
+clock_is : (gmt : Float) (lon : Radians) → clock_of gmt lon ≡ corrected (gmt ⊕ hours lon.0)
+unfolding clock_of decimal round
+clock_is gmt lon = refl
 
-pub clock-range : (gmt : Float) (lon : Radians) → Hour gmt → Longitude lon.0 → OnClock (clockOf gmt lon)
-clock-range gmt lon h b =
-    subst OnClock (sym (clock-is gmt lon)) (corrected-in (gmt ⊕ hours lon.0) (add-fits binary32 gmt (hours lon.0)) (sum-in gmt lon.0 h b))
+pub clock_range : (gmt : Float) (lon : Radians) → Hour gmt → Longitude lon.0 → OnClock (clock_of gmt lon)
+clock_range gmt lon h b =
+    subst OnClock (sym (clock_is gmt lon)) (corrected_in (gmt ⊕ hours lon.0) (add-fits binary32 gmt (hours lon.0)) (sum_in_law gmt lon.0 h b))
 
 -- ---- a longitude as typed
-pub typed-longitude : (d : Degrees) → Between (minusDecimal 1800 1) (decimal 1800 1) d.0 → Longitude (radiansOf d).0
-unfolding farthest PI PI2 radiansOf D2R decimal minusDecimal round neg add sub mul le
-typed-longitude d b = mul-about binary32 (neg farthest) farthest tt b (exactly D2R tt)
+pub typed_longitude : (d : Degrees) → Between (minus_decimal 1800 1) (decimal 1800 1) d.0 → Longitude (radians_of d).0
+unfolding farthest PI PI2 radians_of D2R decimal minus_decimal round neg add sub mul le
+typed_longitude d b = mul_about binary32 (neg farthest) farthest tt b (exactly D2R tt)
 
 -- ---- it is the layers' local mean time
-pub layer-clock : (m : Monthly) (ssn gmt : Float) (psc : Factors) (hmym : List Float) (pt : ControlPoint) (mag : MagneticVars) (g : Gammas) → (layersOf m ssn gmt psc hmym pt mag g).clck ≡ clockOf gmt pt.lon
-unfolding layersOf timvarOf
-layer-clock m ssn gmt psc hmym pt mag g = refl
+pub layer_clock : (m : Monthly) (ssn gmt : Float) (psc : Factors) (hmym : List Float) (pt : ControlPoint) (mag : MagneticVars) (g : Gammas) → (layers_of m ssn gmt psc hmym pt mag g).clck ≡ clock_of gmt pt.lon
+unfolding layers_of timvar_of
+layer_clock m ssn gmt psc hmym pt mag g = refl

@@ -15,14 +15,14 @@ use lib.Ieee.Fits.{and_l, and_r, add-fits, down_pos}
 use lib.Ieee.Scale.{finite}
 use lib.Ieee.Positive.{den}
 use Rattle.base.specs.declared.angle.Degrees.{Degrees}
-use Rattle.base.specs.Single.{◌⊕◌, ◌⊖◌, ◌⊗◌, ◌⊘◌, decimal, minusDecimal}
-use Rattle.base.specs.Number.{absOf, negative}
-use Rattle.base.proofs.order.Order.{plus, less, nought, le→cross, cross→le, no-nan-finite, trans_le, total-le, lt→le, not-lt→le, less_zero, le→abs, Between, wider, between-finite, size-between}
-use Rattle.base.proofs.order.Monotone.{div-right, mul-size}
-use Rattle.base.proofs.order.Intervals.{exactly, add-in, sub_in, div-in}
+use Rattle.base.specs.Single.{◌⊕◌, ◌⊖◌, ◌⊗◌, ◌⊘◌, decimal, minus_decimal}
+use Rattle.base.specs.Number.{abs_of, negative}
+use Rattle.base.proofs.order.Order.{plus, less, nought, le→cross, cross→le, no_nan_finite, trans_le, total_le, lt→le, not-lt→le, less_zero, le→abs, Between, wider, between_finite, size_between}
+use Rattle.base.proofs.order.Monotone.{div_right, mul_size}
+use Rattle.base.proofs.order.Intervals.{exactly, add_in, sub_in, div_in}
 use Rattle.maps.specs.declared.ionosphere.clocks.Direction.{Direction}
 use Rattle.maps.specs.declared.ionosphere.clocks.Direction.TheVariants.{ToLocal, ToUniversal}
-use Rattle.maps.specs.Clocks.{fiswOf, thetaOf, whole_of, afterShift}
+use Rattle.maps.specs.Clocks.{fisw_of, theta_of, whole_of, after_shift}
 use Rattle.results.proofs.clock.WholeParts.{whole_below, gap}
 
 -- 24, 15, 180 and 360
@@ -70,14 +70,14 @@ coarse (fin false (suc m) (negsuc k)) f h p =
     let v = ltb→lt (suc m) (2 ^ 24) (and_r a b (and_l (a && b) c (and_l (a && b && c) d f))) in
     omega arith
 
-below-full : (y : Float) → T (fits binary32 y) → T (finite y) → T (le nought y) → T (le full y) ⊎ T (le y under)
+below_full : (y : Float) → T (fits binary32 y) → T (finite y) → T (le nought y) → T (le full y) ⊎ T (le y under)
 unfolding le
-below-full y f p i = go (le full y) (le (fin false 1 (pos 8)) y) refl refl
+below_full y f p i = go (le full y) (le (fin false 1 (pos 8)) y) refl refl
   where
     go : (a b : Bool) → le full y ≡ a → le (fin false 1 (pos 8)) y ≡ b → T (le full y) ⊎ T (le y under)
     go true b e h = inl (subst T (sym e) tt)
     go false false e h =
-        elim (total-le y (fin false 1 (pos 8)) (no-nan-finite y p) (no-nan-finite (fin false 1 (pos 8)) tt)) [ inl u ↦ inr (trans_le y (fin false 1 (pos 8)) under u tt) | inr u ↦ absurd (subst T h u) ]
+        elim (total_le y (fin false 1 (pos 8)) (no_nan_finite y p) (no_nan_finite (fin false 1 (pos 8)) tt)) [ inl u ↦ inr (trans_le y (fin false 1 (pos 8)) under u tt) | inr u ↦ absurd (subst T h u) ]
     go false true e h =
         let D = coarse y f (subst T (sym h) tt) p in
         let z = less_zero y p i in
@@ -93,27 +93,27 @@ pub record Turn (theta : Float) : Type 0 where
   pub range : Between nought full theta
   pub side : T (le full theta) ⊎ T (le theta under)
 
-abbrev pub thetaAt : Float → Float
-thetaAt x = cond (lt x nought) (full ⊕ x) x
+abbrev pub theta_at : Float → Float
+theta_at x = cond (lt x nought) (full ⊕ x) x
 
-pub theta-is : (x : Degrees) → thetaOf x ≡ thetaAt x.0
-unfolding thetaOf decimal round
-theta-is x = refl
+pub theta_is : (x : Degrees) → theta_of x ≡ theta_at x.0
+unfolding theta_of decimal round
+theta_is x = refl
 
-pub theta-turn : (x : Float) → Between (neg far) far x → Turn (thetaAt x)
+pub theta_turn : (x : Float) → Between (neg far) far x → Turn (theta_at x)
 unfolding le neg add
-theta-turn x b = go (lt x nought) refl
+theta_turn x b = go (lt x nought) refl
   where
     p : T (finite x)
-    p = between-finite {lo = neg far} {hi = far} tt tt b
+    p = between_finite {lo = neg far} {hi = far} tt tt b
 
     go : (t : Bool) → lt x nought ≡ t → Turn (cond t (full ⊕ x) x)
     go true e =
         let c : Between (neg far) nought x = record { low = b.low; high = lt→le x nought (subst T (sym e) tt) } in
-        let r : Between nought full (full ⊕ x) = add-in binary32 nought full tt (exactly full tt) c in
-        record { range = r; side = below-full (full ⊕ x) (add-fits binary32 full x) (between-finite tt tt r) r.low }
+        let r : Between nought full (full ⊕ x) = add_in binary32 nought full tt (exactly full tt) c in
+        record { range = r; side = below_full (full ⊕ x) (add-fits binary32 full x) (between_finite tt tt r) r.low }
     go false e =
-        let l = not-lt→le x nought (no-nan-finite x p) (no-nan-finite nought tt) e in
+        let l = not-lt→le x nought (no_nan_finite x p) (no_nan_finite nought tt) e in
         record { range = record { low = l; high = trans_le x far full b.high tt }; side = inr (trans_le x far under b.high tt) }
 
 -- ---- the offset, in hours
@@ -142,82 +142,82 @@ by_parts theta j k a b s =
     }
 
 -- below 180 degrees
-first-half : (theta : Float) → Between nought half theta → (T (le one (theta ⊘ half)) → ⊥) → Small theta
+first_half : (theta : Float) → Between nought half theta → (T (le one (theta ⊘ half)) → ⊥) → Small theta
 unfolding le neg add sub mul div of_int round
-first-half theta b n =
-    let q : Between nought one (theta ⊘ half) = div-in binary32 nought one tt b (exactly half tt) in
-    let r : Between nought (fin false 1 (negsuc 0)) (theta ⊘ full) = div-in binary32 nought (fin false 1 (negsuc 0)) tt b (exactly full tt) in
-    let h : Between nought (fin false 12 (pos 0)) (theta ⊘ hour) = div-in binary32 nought (fin false 12 (pos 0)) tt b (exactly hour tt) in
+first_half theta b n =
+    let q : Between nought one (theta ⊘ half) = div_in binary32 nought one tt b (exactly half tt) in
+    let r : Between nought (fin false 1 (negsuc 0)) (theta ⊘ full) = div_in binary32 nought (fin false 1 (negsuc 0)) tt b (exactly full tt) in
+    let h : Between nought (fin false 12 (pos 0)) (theta ⊘ hour) = div_in binary32 nought (fin false 12 (pos 0)) tt b (exactly hour tt) in
     let i : Between nought (fin false 12 (pos 0)) (theta ⊘ hour ⊖ nought) = sub_in binary32 nought (fin false 12 (pos 0)) tt h (exactly nought tt) in
     by_parts theta 0 0
     (whole_below 0 (theta ⊘ half) (lit< tt) (wider nought (fin false 1000 (pos 0)) tt tt q) n q.low)
     (whole_below 0 (theta ⊘ full) (lit< tt) (wider nought (fin false 1000 (pos 0)) tt tt r) (λ u. trans_le one (theta ⊘ full) (fin false 1 (negsuc 0)) u r.high) r.low)
-    (add-in binary32 (neg thirteen) thirteen tt i (exactly nought tt), record { low = tt; high = tt })
+    (add_in binary32 (neg thirteen) thirteen tt i (exactly nought tt), record { low = tt; high = tt })
 
 -- from 180 to below 360, of which the quotient tells 179
-second-half : (theta : Float) → Between (fin false 179 (pos 0)) under theta → T (le one (theta ⊘ half)) → Small theta
+second_half : (theta : Float) → Between (fin false 179 (pos 0)) under theta → T (le one (theta ⊘ half)) → Small theta
 unfolding le neg add sub mul div of_int round
-second-half theta b l =
-    let q : Between nought (fin false 16777215 (negsuc 22)) (theta ⊘ half) = div-in binary32 nought (fin false 16777215 (negsuc 22)) tt b (exactly half tt) in
-    let r : Between nought (fin false 16777215 (negsuc 23)) (theta ⊘ full) = div-in binary32 nought (fin false 16777215 (negsuc 23)) tt b (exactly full tt) in
-    let h : Between (fin false 11 (pos 0)) day (theta ⊘ hour) = div-in binary32 (fin false 11 (pos 0)) day tt b (exactly hour tt) in
+second_half theta b l =
+    let q : Between nought (fin false 16777215 (negsuc 22)) (theta ⊘ half) = div_in binary32 nought (fin false 16777215 (negsuc 22)) tt b (exactly half tt) in
+    let r : Between nought (fin false 16777215 (negsuc 23)) (theta ⊘ full) = div_in binary32 nought (fin false 16777215 (negsuc 23)) tt b (exactly full tt) in
+    let h : Between (fin false 11 (pos 0)) day (theta ⊘ hour) = div_in binary32 (fin false 11 (pos 0)) day tt b (exactly hour tt) in
     let i : Between (neg thirteen) nought (theta ⊘ hour ⊖ day) = sub_in binary32 (neg thirteen) nought tt h (exactly day tt) in
     by_parts theta 1 0
     (whole_below 1 (theta ⊘ half) (lit< tt) (record { low = l; high = trans_le (theta ⊘ half) (fin false 16777215 (negsuc 22)) (fin false 1000 (pos 0)) q.high tt }) (λ u. trans_le (fin false 2 (pos 0)) (theta ⊘ half) (fin false 16777215 (negsuc 22)) u q.high) q.low)
     (whole_below 0 (theta ⊘ full) (lit< tt) (wider nought (fin false 1000 (pos 0)) tt tt r) (λ u. trans_le one (theta ⊘ full) (fin false 16777215 (negsuc 23)) u r.high) r.low)
-    (add-in binary32 (neg thirteen) thirteen tt i (exactly nought tt), record { low = tt; high = tt })
+    (add_in binary32 (neg thirteen) thirteen tt i (exactly nought tt), record { low = tt; high = tt })
 
 -- 360, which a longitude just below 0 is rounded to
-whole-turn : (theta : Float) → Between full full theta → Small theta
+whole_turn : (theta : Float) → Between full full theta → Small theta
 unfolding le neg add sub mul div of_int round
-whole-turn theta b =
+whole_turn theta b =
     let two = fin false 1 (pos 1) in
-    let q : Between two two (theta ⊘ half) = div-in binary32 two two tt b (exactly half tt) in
-    let r : Between one one (theta ⊘ full) = div-in binary32 one one tt b (exactly full tt) in
-    let h : Between day day (theta ⊘ hour) = div-in binary32 day day tt b (exactly hour tt) in
+    let q : Between two two (theta ⊘ half) = div_in binary32 two two tt b (exactly half tt) in
+    let r : Between one one (theta ⊘ full) = div_in binary32 one one tt b (exactly full tt) in
+    let h : Between day day (theta ⊘ hour) = div_in binary32 day day tt b (exactly hour tt) in
     let i : Between (neg day) (neg day) (theta ⊘ hour ⊖ fin false 3 (pos 4)) = sub_in binary32 (neg day) (neg day) tt h (exactly (fin false 3 (pos 4)) tt) in
     by_parts theta 2 1
     (whole_below 2 (theta ⊘ half) (lit< tt) (wider (fin false 2 (pos 0)) (fin false 1000 (pos 0)) tt tt q) (λ u. trans_le (fin false 3 (pos 0)) (theta ⊘ half) two u q.high) (trans_le nought two (theta ⊘ half) tt q.low))
     (whole_below 1 (theta ⊘ full) (lit< tt) (wider one (fin false 1000 (pos 0)) tt tt r) (λ u. trans_le (fin false 2 (pos 0)) (theta ⊘ full) one u r.high) (trans_le nought one (theta ⊘ full) tt r.low))
-    (add-in binary32 (neg thirteen) thirteen tt i (exactly day tt), record { low = tt; high = tt })
+    (add_in binary32 (neg thirteen) thirteen tt i (exactly day tt), record { low = tt; high = tt })
 
-pub small-offset : (theta : Float) → Turn theta → Small theta
+pub small_offset : (theta : Float) → Turn theta → Small theta
 unfolding le div
-small-offset theta t = go (le one (theta ⊘ half)) refl t.side
+small_offset theta t = go (le one (theta ⊘ half)) refl t.side
   where
     p : T (finite theta)
-    p = between-finite {lo = nought} {hi = full} tt tt t.range
+    p = between_finite {lo = nought} {hi = full} tt tt t.range
 
     other : (k : Float) → T (finite k) → (T (le k theta) → ⊥) → T (le theta k)
-    other k f n = elim (total-le theta k (no-nan-finite theta p) (no-nan-finite k f)) [ inl u ↦ u | inr u ↦ absurd (n u) ]
+    other k f n = elim (total_le theta k (no_nan_finite theta p) (no_nan_finite k f)) [ inl u ↦ u | inr u ↦ absurd (n u) ]
 
     -- a quotient of 1 and more is of 179 and more
     from : T (le one (theta ⊘ half)) → T (le (fin false 179 (pos 0)) theta)
-    from l = elim (total-le (fin false 179 (pos 0)) theta (no-nan-finite (fin false 179 (pos 0)) tt) (no-nan-finite theta p)) [
+    from l = elim (total_le (fin false 179 (pos 0)) theta (no_nan_finite (fin false 179 (pos 0)) tt) (no_nan_finite theta p)) [
       | inl u ↦ u
-      | inr u ↦ absurd (trans_le one (theta ⊘ half) (fin false 179 (pos 0) ⊘ half) l (div-right binary32 theta (fin false 179 (pos 0)) half p tt tt u))
+      | inr u ↦ absurd (trans_le one (theta ⊘ half) (fin false 179 (pos 0) ⊘ half) l (div_right binary32 theta (fin false 179 (pos 0)) half p tt tt u))
     ]
 
     go : (a : Bool) → le one (theta ⊘ half) ≡ a → T (le full theta) ⊎ T (le theta under) → Small theta
     go false e s =
-        first-half theta
-        (record { low = t.range.low; high = other half tt (λ u. subst T e (div-right binary32 half theta half tt p tt u)) })
+        first_half theta
+        (record { low = t.range.low; high = other half tt (λ u. subst T e (div_right binary32 half theta half tt p tt u)) })
         (λ u. subst T e u)
-    go true e (inl u) = whole-turn theta (record { low = u; high = t.range.high })
-    go true e (inr u) = let l = subst T (sym e) tt in second-half theta (record { low = from l; high = u }) l
+    go true e (inl u) = whole_turn theta (record { low = u; high = t.range.high })
+    go true e (inr u) = let l = subst T (sym e) tt in second_half theta (record { low = from l; high = u }) l
 
 -- ---- the time after the shift
 abbrev pub after : Float → Float → Direction → Float
-after time theta isw = time ⊕ fiswOf isw ⊗ offset theta (whole_of (theta ⊘ half)) (whole_of (theta ⊘ full))
+after time theta isw = time ⊕ fisw_of isw ⊗ offset theta (whole_of (theta ⊘ half)) (whole_of (theta ⊘ full))
 
-pub after_is : (time theta : Float) (isw : Direction) → afterShift time theta isw ≡ after time theta isw
-unfolding afterShift decimal round
+pub after_is : (time theta : Float) (isw : Direction) → after_shift time theta isw ≡ after time theta isw
+unfolding after_shift decimal round
 after_is time theta isw = refl
 
-sign-size : (isw : Direction) → T (le (absOf (fiswOf isw)) one)
-unfolding fiswOf decimal minusDecimal round absOf negative neg le
-sign-size ToLocal = tt
-sign-size ToUniversal = tt
+sign_size : (isw : Direction) → T (le (abs_of (fisw_of isw)) one)
+unfolding fisw_of decimal minus_decimal round abs_of negative neg le
+sign_size ToLocal = tt
+sign_size ToUniversal = tt
 
 -- where the time after the shift lies
 abbrev pub Later : Float → Type 0
@@ -227,5 +227,5 @@ pub later : (time theta : Float) (isw : Direction) → Between nought day time �
 unfolding le neg add mul
 later time theta isw h s =
     let o = offset theta (whole_of (theta ⊘ half)) (whole_of (theta ⊘ full)) in
-    let z : T (le (absOf (fiswOf isw ⊗ o)) thirteen) = mul-size binary32 (fiswOf isw) o one thirteen tt tt (sign-size isw) (le→abs o thirteen s.hours.low s.hours.high) in
-    add-in binary32 (neg thirteen) (fin false 37 (pos 0)) tt h (size-between z)
+    let z : T (le (abs_of (fisw_of isw ⊗ o)) thirteen) = mul_size binary32 (fisw_of isw) o one thirteen tt tt (sign_size isw) (le→abs o thirteen s.hours.low s.hours.high) in
+    add_in binary32 (neg thirteen) (fin false 37 (pos 0)) tt h (size_between z)

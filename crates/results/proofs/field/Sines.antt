@@ -22,12 +22,12 @@ use lib.Ieee.Positive.{den}
 use Rattle.base.specs.Single.{decimal}
 use Rattle.base.specs.Double.{◌⊕◌, ◌⊖◌, ◌⊗◌, fraction}
 use Rattle.base.specs.Constants.{PI2}
-use Rattle.base.specs.Number.{negative, absOf, narrowOf}
-use Rattle.base.specs.Elementary.{nearOf, quarterOf, turnsOf, reducedOf, halfPi, horner, factorial, up_from, alternating, sinTerms, cosTerms, sinSeries, cosSeries, sinAt, sinOf, sin32Of}
-use Rattle.base.proofs.verdicts.Picks.{cond-true, cond-false}
-use Rattle.base.proofs.order.Order.{nought, le→cross, le_right, no-nan-finite, trans_le, total-le, neg-le, neg-neg, le→abs, abs→le, le-abs, abs_neg, abs-fin, Between, wider, between-finite}
-use Rattle.base.proofs.order.Monotone.{rounds-mono, sub-rounds, add-mono, sub-mono, mul_right, mul_mono, abs-mul, abs-narrow, narrow-mono, square-not-below, mul-size}
-use Rattle.base.proofs.order.Intervals.{every, all, exactly, add-in, sub_in, mul_in, mul-about, low_of, high_of, calm, horner-in}
+use Rattle.base.specs.Number.{negative, abs_of, narrow_of}
+use Rattle.base.specs.Elementary.{near_of, quarter_of, turns_of, reduced_of, half_pi, horner, factorial, up_from, alternating, sin_terms, cos_terms, sin_series, cos_series, sin_at, sin_of, sin32_of}
+use Rattle.base.proofs.verdicts.Picks.{cond_true, cond_false}
+use Rattle.base.proofs.order.Order.{nought, le→cross, le_right, no_nan_finite, trans_le, total_le, neg_le, neg_neg, le→abs, abs→le, le_abs, abs_neg, abs_fin, Between, wider, between_finite}
+use Rattle.base.proofs.order.Monotone.{rounds_mono, sub_rounds, add_mono, sub_mono, mul_right, mul_mono, abs_mul, abs_narrow, narrow_mono, square_not_below, mul_size}
+use Rattle.base.proofs.order.Intervals.{every, all, exactly, add_in, sub_in, mul_in, mul_about, low_of, high_of, calm, horner_in_law}
 use Rattle.base.proofs.steps.Reduction.{factor, big}
 
 -- ---- quarter turns are a whole number: a float from 3 × 2^51 to 3 × 2^51 + 4 is one
@@ -39,9 +39,9 @@ pub record Whole (n : Float) : Type 0 where
 abbrev pub top : Float
 top = fin false 1688849860263937 (pos 2)
 
-less-big : (m k : ℕ) → 3 * 2 ^ 51 ≤ m * 2 ^ k → fin false m (pos k) ⊖ big ≡ round binary64 false (m * 2 ^ k * 1 - 3 * 2 ^ 51 * 1) 1
+less_big : (m k : ℕ) → 3 * 2 ^ 51 ≤ m * 2 ^ k → fin false m (pos k) ⊖ big ≡ round binary64 false (m * 2 ^ k * 1 - 3 * 2 ^ 51 * 1) 1
 unfolding neg add sub sum
-less-big m k h = cond-false _ _ (le-ltb (m * 2 ^ k * 1) (3 * 2 ^ 51 * 1) (omega arith))
+less_big m k h = cond_false _ _ (le-ltb (m * 2 ^ k * 1) (3 * 2 ^ 51 * 1) (omega arith))
 
 pub held : (f : Format) (s : Bool) (m : ℕ) (e : ℤ) → T (fits f (fin s (suc m) e)) → suc m < 2 ^ prec f
 unfolding fits
@@ -59,56 +59,56 @@ whole (fin false zero e) h p l m = absurd (omega (arith, le→cross big (fin fal
 whole (fin false (suc n) (pos k)) h p l m =
     let u = le→cross big (fin false (suc n) (pos k)) tt tt l in
     let w = le→cross (fin false (suc n) (pos k)) top tt tt m in
-    record { count = suc n * 2 ^ k * 1 - 3 * 2 ^ 51 * 1; most = omega arith; is = less-big (suc n) k (omega arith) }
+    record { count = suc n * 2 ^ k * 1 - 3 * 2 ^ 51 * 1; most = omega arith; is = less_big (suc n) k (omega arith) }
 whole (fin false (suc n) (negsuc k)) h p l m = absurd (omega (arith, le→cross big (fin false (suc n) (negsuc k)) tt tt l, held binary64 false n (negsuc k) h, pow_pos k, pow-succ' 2 k))
 
 -- ---- and keep order
-pub turns-is : (v : Float) → turnsOf v ≡ v ⊗ factor ⊕ big ⊖ big
-unfolding turnsOf nearOf fraction round
-turns-is v = refl
+pub turns_is : (v : Float) → turns_of v ≡ v ⊗ factor ⊕ big ⊖ big
+unfolding turns_of near_of fraction round
+turns_is v = refl
 
 abbrev seven : Float
 seven = fin false 7 (pos 0)
 
-abbrev minusSeven : Float
-minusSeven = fin true 7 (pos 0)
+abbrev minus_seven : Float
+minus_seven = fin true 7 (pos 0)
 
 abbrev pub Turn : Float → Type 0
-Turn v = Between minusSeven seven v
+Turn v = Between minus_seven seven v
 
-product-in : (v : Float) → Turn v → Between (fin true 5 (pos 0)) (fin false 5 (pos 0)) (v ⊗ factor)
+product_in : (v : Float) → Turn v → Between (fin true 5 (pos 0)) (fin false 5 (pos 0)) (v ⊗ factor)
 unfolding le mul
-product-in v b = mul-about binary64 (fin true 5 (pos 0)) (fin false 5 (pos 0)) tt b (exactly factor tt)
+product_in v b = mul_about binary64 (fin true 5 (pos 0)) (fin false 5 (pos 0)) tt b (exactly factor tt)
 
 shifted_in : (v : Float) → Turn v → Between (fin false 6755399441055739 (pos 0)) (fin false 6755399441055749 (pos 0)) (v ⊗ factor ⊕ big)
 unfolding le add
-shifted_in v b = add-in binary64 (fin false 6755399441055739 (pos 0)) (fin false 6755399441055749 (pos 0)) tt (product-in v b) (exactly big tt)
+shifted_in v b = add_in binary64 (fin false 6755399441055739 (pos 0)) (fin false 6755399441055749 (pos 0)) tt (product_in v b) (exactly big tt)
 
-turns-mono : (v w : Float) → Turn v → Turn w → T (le v w) → T (le (turnsOf v) (turnsOf w))
-turns-mono v w b c h =
+turns_mono : (v w : Float) → Turn v → Turn w → T (le v w) → T (le (turns_of v) (turns_of w))
+turns_mono v w b c h =
     let x = v ⊗ factor in
     let y = w ⊗ factor in
     let o = (exactly big tt).low in
-    let u : T (le x y) = mul_right binary64 v w factor (between-finite tt tt b) (between-finite tt tt c) tt (unfold le in tt) h in
-    let z : T (le (x ⊕ big) (y ⊕ big)) = add-mono binary64 x y big big (between-finite tt tt (product-in v b)) (between-finite tt tt (product-in w c)) tt tt u o in
-    rw (turns-is v, turns-is w) (sub-mono binary64 (x ⊕ big) (y ⊕ big) big big (between-finite tt tt (shifted_in v b)) (between-finite tt tt (shifted_in w c)) tt tt z o)
+    let u : T (le x y) = mul_right binary64 v w factor (between_finite tt tt b) (between_finite tt tt c) tt (unfold le in tt) h in
+    let z : T (le (x ⊕ big) (y ⊕ big)) = add_mono binary64 x y big big (between_finite tt tt (product_in v b)) (between_finite tt tt (product_in w c)) tt tt u o in
+    rw (turns_is v, turns_is w) (sub_mono binary64 (x ⊕ big) (y ⊕ big) big big (between_finite tt tt (shifted_in v b)) (between_finite tt tt (shifted_in w c)) tt tt z o)
 
 -- so they tell where v is: what has other turns is on the other side
-module _ (v : Float) (b : Turn v) {n : Float} (e : turnsOf v ≡ n) (a : Float) where
+module _ (v : Float) (b : Turn v) {n : Float} (e : turns_of v ≡ n) (a : Float) where
   number : (x : Float) → Turn x → T (not (is_nan x))
-  number x c = no-nan-finite x (between-finite tt tt c)
+  number x c = no_nan_finite x (between_finite tt tt c)
 
-  pub right_of : T (every (le minusSeven a ∷ le a seven ∷ not (le n (turnsOf a)) ∷ [])) → T (le a v)
+  pub right_of : T (every (le minus_seven a ∷ le a seven ∷ not (le n (turns_of a)) ∷ [])) → T (le a v)
   right_of t =
-      let w = all (le minusSeven a ∷ le a seven ∷ not (le n (turnsOf a)) ∷ []) t in
+      let w = all (le minus_seven a ∷ le a seven ∷ not (le n (turns_of a)) ∷ []) t in
       let c : Turn a = record { low = w.0; high = w.1.0 } in
-      elim (total-le a v (number a c) (number v b)) [ inl h ↦ h | inr h ↦ absurd (T_not (le n (turnsOf a)) w.1.1.0 (rw e at (turns-mono v a b c h))) ]
+      elim (total_le a v (number a c) (number v b)) [ inl h ↦ h | inr h ↦ absurd (T_not (le n (turns_of a)) w.1.1.0 (rw e at (turns_mono v a b c h))) ]
 
-  pub left-of : T (every (le minusSeven a ∷ le a seven ∷ not (le (turnsOf a) n) ∷ [])) → T (le v a)
-  left-of t =
-      let w = all (le minusSeven a ∷ le a seven ∷ not (le (turnsOf a) n) ∷ []) t in
+  pub left_of : T (every (le minus_seven a ∷ le a seven ∷ not (le (turns_of a) n) ∷ [])) → T (le v a)
+  left_of t =
+      let w = all (le minus_seven a ∷ le a seven ∷ not (le (turns_of a) n) ∷ []) t in
       let c : Turn a = record { low = w.0; high = w.1.0 } in
-      elim (total-le v a (number v b) (number a c)) [ inl h ↦ h | inr h ↦ absurd (T_not (le (turnsOf a) n) w.1.1.0 (rw e at (turns-mono a v c b h))) ]
+      elim (total_le v a (number v b) (number a c)) [ inl h ↦ h | inr h ↦ absurd (T_not (le (turns_of a) n) w.1.1.0 (rw e at (turns_mono a v c b h))) ]
 
 abbrev pub turns : ℕ → Float
 turns n = round binary64 false n 1
@@ -124,11 +124,11 @@ start = fin false 8796093 (negsuc 42)
 abbrev pub full : Float
 full = fin false 101 (negsuc 3)
 
-pub turns-whole : (v : Float) → Between nought full v → Whole (turnsOf v)
-turns-whole v b = rw (turns-is v) (whole (v ⊗ factor ⊕ big) (add-fits binary64 (v ⊗ factor) big) (between-finite tt tt w) w.low w.high)
+pub turns_whole : (v : Float) → Between nought full v → Whole (turns_of v)
+turns_whole v b = rw (turns_is v) (whole (v ⊗ factor ⊕ big) (add-fits binary64 (v ⊗ factor) big) (between_finite tt tt w) w.low w.high)
   where
     w : Between big top (v ⊗ factor ⊕ big)
-    w = unfold le mul add in add-in binary64 big top tt (mul_in binary64 nought (fin false 17 (negsuc 1)) tt b (exactly factor tt)) (exactly big tt)
+    w = unfold le mul add in add_in binary64 big top tt (mul_in binary64 nought (fin false 17 (negsuc 1)) tt b (exactly factor tt)) (exactly big tt)
 
 -- with n quarter turns v is at least .. and at most ..
 abbrev least : ℕ → Float
@@ -148,16 +148,16 @@ most (suc (suc (suc (suc n)))) = limit
 module _ (v : Float) (b : Between start limit v) where
   turn : Turn v
   unfolding le
-  turn = wider minusSeven seven tt tt b
+  turn = wider minus_seven seven tt tt b
 
-  near-turns : (n : ℕ) → n ≤ 4 → turnsOf v ≡ turns n → Between (least n) (most n) v
-  unfolding turnsOf nearOf fraction round mul neg add sub le
-  near-turns zero h e = record { low = b.low; high = left-of v turn e (most 0) tt }
-  near-turns (suc zero) h e = record { low = right_of v turn e (least 1) tt; high = left-of v turn e (most 1) tt }
-  near-turns (suc (suc zero)) h e = record { low = right_of v turn e (least 2) tt; high = left-of v turn e (most 2) tt }
-  near-turns (suc (suc (suc zero))) h e = record { low = right_of v turn e (least 3) tt; high = left-of v turn e (most 3) tt }
-  near-turns (suc (suc (suc (suc zero)))) h e = record { low = right_of v turn e (least 4) tt; high = b.high }
-  near-turns (suc (suc (suc (suc (suc n))))) h e = absurd (omega arith)
+  near_turns : (n : ℕ) → n ≤ 4 → turns_of v ≡ turns n → Between (least n) (most n) v
+  unfolding turns_of near_of fraction round mul neg add sub le
+  near_turns zero h e = record { low = b.low; high = left_of v turn e (most 0) tt }
+  near_turns (suc zero) h e = record { low = right_of v turn e (least 1) tt; high = left_of v turn e (most 1) tt }
+  near_turns (suc (suc zero)) h e = record { low = right_of v turn e (least 2) tt; high = left_of v turn e (most 2) tt }
+  near_turns (suc (suc (suc zero))) h e = record { low = right_of v turn e (least 3) tt; high = left_of v turn e (most 3) tt }
+  near_turns (suc (suc (suc (suc zero)))) h e = record { low = right_of v turn e (least 4) tt; high = b.high }
+  near_turns (suc (suc (suc (suc (suc n))))) h e = absurd (omega arith)
 
 -- ---- no f32 is half a turn: two quarter turns are 884279719003555 / 2 ^ 48, and 884279719003555
 -- is odd
@@ -190,40 +190,40 @@ coarse (fin false (suc m) (negsuc k)) f h =
 
 -- ---- what is left
 abbrev pub Away : Float → Float → Type 0
-Away d x = T (le d (absOf x))
+Away d x = T (le d (abs_of x))
 
-pub above-away : (d x : Float) → T (le d x) → Away d x
-above-away d x h = trans_le d x (absOf x) h (le-abs x (le_right d x h))
+pub above_away : (d x : Float) → T (le d x) → Away d x
+above_away d x h = trans_le d x (abs_of x) h (le_abs x (le_right d x h))
 
-below-away : (d x : Float) → T (le x (neg d)) → Away d x
-below-away d x h =
-    let k : T (le d (neg x)) = subst (λ (z : Float). T (le z (neg x))) (neg-neg d) (neg-le x (neg d) h) in
-    subst (λ (z : Float). T (le d z)) (abs_neg x) (above-away d (neg x) k)
+below_away : (d x : Float) → T (le x (neg d)) → Away d x
+below_away d x h =
+    let k : T (le d (neg x)) = subst (λ (z : Float). T (le z (neg x))) (neg_neg d) (neg_le x (neg d) h) in
+    subst (λ (z : Float). T (le d z)) (abs_neg x) (above_away d (neg x) k)
 
 abbrev unit : Float
 unit = fin false 1 (negsuc 47)
 
-unit-is : (round binary64 false 1 (2 ^ 48) ≡ unit) × (round binary64 true 1 (2 ^ 48) ≡ neg unit)
+unit_is : (round binary64 false 1 (2 ^ 48) ≡ unit) × (round binary64 true 1 (2 ^ 48) ≡ neg unit)
 unfolding round neg
-unit-is = (refl, refl)
+unit_is = (refl, refl)
 
-under-by : (P D N : ℕ) → P * N + D ≤ 884279719003555 * D → (P * N + 0 * D) * N + 1 * (D * N) ≤ 0 * (D * N) + (0 * N + 884279719003555 * D) * N
-under-by P D N h = omega (arith, mul-le-mul_right N h, add-mul (P * N) D N, add-mul (P * N) (0 * D) N, add-mul (0 * N) (884279719003555 * D) N)
+under_by : (P D N : ℕ) → P * N + D ≤ 884279719003555 * D → (P * N + 0 * D) * N + 1 * (D * N) ≤ 0 * (D * N) + (0 * N + 884279719003555 * D) * N
+under_by P D N h = omega (arith, mul-le-mul_right N h, add-mul (P * N) D N, add-mul (P * N) (0 * D) N, add-mul (0 * N) (884279719003555 * D) N)
 
 over_by : (P D N : ℕ) → 884279719003555 * D + D ≤ P * N → 1 * (D * N) + (0 * N + 884279719003555 * D) * N ≤ (P * N + 0 * D) * N + 0 * (D * N)
 over_by P D N h = omega (arith, mul-le-mul_right N h, add-mul (884279719003555 * D) D N, add-mul (P * N) (0 * D) N, add-mul (0 * N) (884279719003555 * D) N)
 
-off-half : (m : ℕ) (e : ℤ) → Divides (down e) → T (le (fin false m e ⊖ half) (neg unit)) ⊎ T (le unit (fin false m e ⊖ half))
-off-half m e d =
+off_half : (m : ℕ) (e : ℤ) → Divides (down e) → T (le (fin false m e ⊖ half) (neg unit)) ⊎ T (le unit (fin false m e ⊖ half))
+off_half m e d =
     let P = m * up e in
     let D = down e in
     let v = fin false m e in
     let C = mul-pos (down_pos e) (pow_pos 48) in
     elim (subst (λ (z : ℕ). (P * (2 * z) + D ≤ 884279719003555 * D) ⊎ (884279719003555 * D + D ≤ P * (2 * z))) d.is (split P D d.by)) [
-      | inl h ↦ inl (rounds-mono binary64 (v ⊖ half) (neg unit) (P * 2 ^ 48 + 0 * D) (0 * 2 ^ 48 + 884279719003555 * D) (D * 2 ^ 48) 0 1 (2 ^ 48) C (lit< tt)
-          (sub-rounds binary64 v half tt tt) (record { sign = true; size = 1; is = sym unit-is.1; value = refl }) (under-by P D (2 ^ 48) h))
-      | inr h ↦ inr (rounds-mono binary64 unit (v ⊖ half) 1 0 (2 ^ 48) (P * 2 ^ 48 + 0 * D) (0 * 2 ^ 48 + 884279719003555 * D) (D * 2 ^ 48) (lit< tt) C
-          (record { sign = false; size = 1; is = sym unit-is.0; value = refl }) (sub-rounds binary64 v half tt tt) (over_by P D (2 ^ 48) h))
+      | inl h ↦ inl (rounds_mono binary64 (v ⊖ half) (neg unit) (P * 2 ^ 48 + 0 * D) (0 * 2 ^ 48 + 884279719003555 * D) (D * 2 ^ 48) 0 1 (2 ^ 48) C (lit< tt)
+          (sub_rounds binary64 v half tt tt) (record { sign = true; size = 1; is = sym unit_is.1; value = refl }) (under_by P D (2 ^ 48) h))
+      | inr h ↦ inr (rounds_mono binary64 unit (v ⊖ half) 1 0 (2 ^ 48) (P * 2 ^ 48 + 0 * D) (0 * 2 ^ 48 + 884279719003555 * D) (D * 2 ^ 48) (lit< tt) C
+          (record { sign = false; size = 1; is = sym unit_is.0; value = refl }) (sub_rounds binary64 v half tt tt) (over_by P D (2 ^ 48) h))
     ]
 
 -- 5 / 4
@@ -233,19 +233,19 @@ five = fin false 5 (negsuc 1)
 abbrev Near : Float → Type 0
 Near x = Between (neg five) five x
 
-near-finite : (x : Float) → Near x → T (finite x)
+near_finite : (x : Float) → Near x → T (finite x)
 unfolding neg
-near-finite x b = between-finite {lo = neg five} {hi = five} tt tt b
+near_finite x b = between_finite {lo = neg five} {hi = five} tt tt b
 
 -- ---- the series
 abbrev wide : Float
 wide = fin false 25 (negsuc 3)
 
-square-in : (x : Float) → Near x → Between nought wide (x ⊗ x)
+square_in : (x : Float) → Near x → Between nought wide (x ⊗ x)
 unfolding neg mul
-square-in x b =
-    let a : T (le (absOf x) five) = le→abs x five b.low b.high in
-    record { low = square-not-below binary64 x (near-finite x b); high = abs→le (x ⊗ x) wide (mul-size binary64 x x five five tt tt a a) }
+square_in x b =
+    let a : T (le (abs_of x) five) = le→abs x five b.low b.high in
+    record { low = square_not_below binary64 x (near_finite x b); high = abs→le (x ⊗ x) wide (mul_size binary64 x x five five tt tt a a) }
 
 -- what is left off an even number of quarter turns is this at least in size, and its sine ..
 abbrev tiny : Float
@@ -255,113 +255,113 @@ tiny = fin false 1 (negsuc 48)
 abbrev pub faint : Float
 faint = fin false 1 (negsuc 49)
 
-sin-ends : T (every (calm sinTerms wide ∷ finite (low_of sinTerms wide) ∷ finite (high_of sinTerms wide) ∷ le (fin false 1 (negsuc 0)) (low_of sinTerms wide) ∷ []))
-unfolding calm sinTerms up_from alternating factorial round add mul le low_of high_of
-sin-ends = tt
+sin_ends : T (every (calm sin_terms wide ∷ finite (low_of sin_terms wide) ∷ finite (high_of sin_terms wide) ∷ le (fin false 1 (negsuc 0)) (low_of sin_terms wide) ∷ []))
+unfolding calm sin_terms up_from alternating factorial round add mul le low_of high_of
+sin_ends = tt
 
-cos-ends : T (every (calm cosTerms wide ∷ le faint (low_of cosTerms wide) ∷ []))
-unfolding calm cosTerms up_from alternating factorial round add mul le low_of high_of
-cos-ends = tt
+cos_ends : T (every (calm cos_terms wide ∷ le faint (low_of cos_terms wide) ∷ []))
+unfolding calm cos_terms up_from alternating factorial round add mul le low_of high_of
+cos_ends = tt
 
-size-finite : (x : Float) → T (finite x) → T (finite (absOf x))
-size-finite nan h = absurd h
-size-finite (inf s) h = absurd h
-size-finite (fin s m e) h = subst (λ (z : Float). T (finite z)) (sym (abs-fin s m e)) tt
+size_finite : (x : Float) → T (finite x) → T (finite (abs_of x))
+size_finite nan h = absurd h
+size_finite (inf s) h = absurd h
+size_finite (fin s m e) h = subst (λ (z : Float). T (finite z)) (sym (abs_fin s m e)) tt
 
-pub mul-away : (f : Format) (x y d k : Float) → T (finite x) → T (finite y) → T (le nought d) → T (le nought k) → Away d x → Away k y → Away (mul f d k) (mul f x y)
-mul-away f x y d k p q m n a b = subst (λ (z : Float). T (le (mul f d k) z)) (sym (abs-mul f x y)) (mul_mono f d (absOf x) k (absOf y) (size-finite x p) (size-finite y q) m n a b)
+pub mul_away : (f : Format) (x y d k : Float) → T (finite x) → T (finite y) → T (le nought d) → T (le nought k) → Away d x → Away k y → Away (mul f d k) (mul f x y)
+mul_away f x y d k p q m n a b = subst (λ (z : Float). T (le (mul f d k) z)) (sym (abs_mul f x y)) (mul_mono f d (abs_of x) k (abs_of y) (size_finite x p) (size_finite y q) m n a b)
 
-cos-away : (x : Float) → Near x → Away faint (cosSeries x)
-unfolding cosSeries
-cos-away x b =
-    let t = all (calm cosTerms wide ∷ le faint (low_of cosTerms wide) ∷ []) cos-ends in
-    let h = horner-in cosTerms wide (x ⊗ x) tt t.0 (square-in x b) in
-    above-away faint (cosSeries x) (trans_le faint (low_of cosTerms wide) (cosSeries x) t.1.0 h.low)
+cos_away : (x : Float) → Near x → Away faint (cos_series x)
+unfolding cos_series
+cos_away x b =
+    let t = all (calm cos_terms wide ∷ le faint (low_of cos_terms wide) ∷ []) cos_ends in
+    let h = horner_in_law cos_terms wide (x ⊗ x) tt t.0 (square_in x b) in
+    above_away faint (cos_series x) (trans_le faint (low_of cos_terms wide) (cos_series x) t.1.0 h.low)
 
-sin-away : (x : Float) → Near x → Away tiny x → Away faint (sinSeries x)
-unfolding sinSeries le mul
-sin-away x b a =
-    let t = all (calm sinTerms wide ∷ finite (low_of sinTerms wide) ∷ finite (high_of sinTerms wide) ∷ le (fin false 1 (negsuc 0)) (low_of sinTerms wide) ∷ []) sin-ends in
-    let z = horner sinTerms (x ⊗ x) in
-    let h = horner-in sinTerms wide (x ⊗ x) tt t.0 (square-in x b) in
-    mul-away binary64 x z tiny (fin false 1 (negsuc 0)) (near-finite x b) (between-finite t.1.0 t.1.1.0 h) tt tt a
-    (above-away (fin false 1 (negsuc 0)) z (trans_le (fin false 1 (negsuc 0)) (low_of sinTerms wide) z t.1.1.1.0 h.low))
+sin_away : (x : Float) → Near x → Away tiny x → Away faint (sin_series x)
+unfolding sin_series le mul
+sin_away x b a =
+    let t = all (calm sin_terms wide ∷ finite (low_of sin_terms wide) ∷ finite (high_of sin_terms wide) ∷ le (fin false 1 (negsuc 0)) (low_of sin_terms wide) ∷ []) sin_ends in
+    let z = horner sin_terms (x ⊗ x) in
+    let h = horner_in_law sin_terms wide (x ⊗ x) tt t.0 (square_in x b) in
+    mul_away binary64 x z tiny (fin false 1 (negsuc 0)) (near_finite x b) (between_finite t.1.0 t.1.1.0 h) tt tt a
+    (above_away (fin false 1 (negsuc 0)) z (trans_le (fin false 1 (negsuc 0)) (low_of sin_terms wide) z t.1.1.1.0 h.low))
 
 -- ---- the sine
 off : (v : Float) → T (fits binary32 v) → Between (least 2) (most 2) v → T (le (v ⊖ half) (neg unit)) ⊎ T (le unit (v ⊖ half))
-off nan f b = absurd (between-finite {lo = least 2} {hi = most 2} tt tt b)
-off (inf s) f b = absurd (between-finite {lo = least 2} {hi = most 2} tt tt b)
+off nan f b = absurd (between_finite {lo = least 2} {hi = most 2} tt tt b)
+off (inf s) f b = absurd (between_finite {lo = least 2} {hi = most 2} tt tt b)
 off (fin true m e) f b = absurd (omega (arith, le→cross (least 2) (fin true m e) tt tt b.low, down_pos e))
-off (fin false m e) f b = off-half m e (coarse (fin false m e) f (trans_le (fin false 1 (pos 0)) (least 2) (fin false m e) (unfold le in tt) b.low))
+off (fin false m e) f b = off_half m e (coarse (fin false m e) f (trans_le (fin false 1 (pos 0)) (least 2) (fin false m e) (unfold le in tt) b.low))
 
 abbrev arc : Float → Float
-arc n = n ⊗ halfPi
+arc n = n ⊗ half_pi
 
 abbrev rest : Float → Float
 rest n = n ⊗ fraction 6123233995736766 (10 ^ 32)
 
-reduced-in : (n l m lo hi : Float) {a b v : Float} → T (finite (arc n)) → T (finite (rest n)) → T (every (finite a ∷ finite b ∷ finite (arc n) ∷ finite (arc n) ∷ le l (a ⊖ arc n) ∷ le (b ⊖ arc n) m ∷ []))
-    → T (every (finite l ∷ finite m ∷ finite (rest n) ∷ finite (rest n) ∷ le lo (l ⊖ rest n) ∷ le (m ⊖ rest n) hi ∷ [])) → Between a b v → Between lo hi (reducedOf v n)
-unfolding reducedOf
-reduced-in n l m lo hi p q s t b = sub_in binary64 lo hi t (sub_in binary64 l m s b (exactly (arc n) p)) (exactly (rest n) q)
+reduced_in_law : (n l m lo hi : Float) {a b v : Float} → T (finite (arc n)) → T (finite (rest n)) → T (every (finite a ∷ finite b ∷ finite (arc n) ∷ finite (arc n) ∷ le l (a ⊖ arc n) ∷ le (b ⊖ arc n) m ∷ []))
+    → T (every (finite l ∷ finite m ∷ finite (rest n) ∷ finite (rest n) ∷ le lo (l ⊖ rest n) ∷ le (m ⊖ rest n) hi ∷ [])) → Between a b v → Between lo hi (reduced_of v n)
+unfolding reduced_of
+reduced_in_law n l m lo hi p q s t b = sub_in binary64 lo hi t (sub_in binary64 l m s b (exactly (arc n) p)) (exactly (rest n) q)
 
 -- to the right of 0, 2 or 4 quarter turns, and to the left
-right-away : (x : Float) → Between tiny five x → Away faint (sinSeries x)
+right_away : (x : Float) → Between tiny five x → Away faint (sin_series x)
 unfolding neg le
-right-away x b = sin-away x (wider (neg five) five tt tt b) (above-away tiny x b.low)
+right_away x b = sin_away x (wider (neg five) five tt tt b) (above_away tiny x b.low)
 
-left-away : (x : Float) → Between (neg five) (neg tiny) x → Away faint (sinSeries x)
+left_away : (x : Float) → Between (neg five) (neg tiny) x → Away faint (sin_series x)
 unfolding neg le
-left-away x b = sin-away x (wider (neg five) five tt tt b) (below-away tiny x b.high)
+left_away x b = sin_away x (wider (neg five) five tt tt b) (below_away tiny x b.high)
 
-turned-away : (x : Float) → Away faint x → Away faint (neg x)
-turned-away x a = subst (λ (z : Float). T (le faint z)) (sym (abs_neg x)) a
+turned_away : (x : Float) → Away faint x → Away faint (neg x)
+turned_away x a = subst (λ (z : Float). T (le faint z)) (sym (abs_neg x)) a
 
 -- 79 / 64
 abbrev more : Float
 more = fin false 79 (negsuc 5)
 
-half-away : (v : Float) → Between (least 2) (most 2) v → T (le (v ⊖ half) (neg unit)) ⊎ T (le unit (v ⊖ half)) → Away faint (sinSeries (reducedOf v (turns 2)))
-unfolding reducedOf halfPi fraction round mul neg add sub le
-half-away v b (inl h) =
+half_away : (v : Float) → Between (least 2) (most 2) v → T (le (v ⊖ half) (neg unit)) ⊎ T (le unit (v ⊖ half)) → Away faint (sin_series (reduced_of v (turns 2)))
+unfolding reduced_of half_pi fraction round mul neg add sub le
+half_away v b (inl h) =
     let w : Between (neg more) more (v ⊖ half) = sub_in binary64 (neg more) more tt b (exactly half tt) in
     let u : Between (neg more) (neg unit) (v ⊖ half) = record { low = w.low; high = h } in
-    left-away (reducedOf v (turns 2)) (sub_in binary64 (neg five) (neg tiny) tt u (exactly (rest (turns 2)) tt))
-half-away v b (inr h) =
+    left_away (reduced_of v (turns 2)) (sub_in binary64 (neg five) (neg tiny) tt u (exactly (rest (turns 2)) tt))
+half_away v b (inr h) =
     let w : Between (neg more) more (v ⊖ half) = sub_in binary64 (neg more) more tt b (exactly half tt) in
     let u : Between unit more (v ⊖ half) = record { low = h; high = w.high } in
-    right-away (reducedOf v (turns 2)) (sub_in binary64 tiny five tt u (exactly (rest (turns 2)) tt))
+    right_away (reduced_of v (turns 2)) (sub_in binary64 tiny five tt u (exactly (rest (turns 2)) tt))
 
 module _ (v : Float) (f : T (fits binary32 v)) where
-  sine-at : (n : ℕ) → n ≤ 4 → Between (least n) (most n) v → Away faint (sinAt (quarterOf (turns n)) (reducedOf v (turns n)))
-  unfolding sinAt quarterOf to_unsigned absOf negative halfPi fraction round mul neg add sub le
-  sine-at zero h b = right-away _ (reduced-in (turns 0) tiny more tiny five tt tt tt tt b)
-  sine-at (suc zero) h b = cos-away _ (reduced-in (turns 1) (neg more) more (neg five) five tt tt tt tt b)
-  sine-at (suc (suc zero)) h b = turned-away (sinSeries (reducedOf v (turns 2))) (half-away v b (off v f b))
-  sine-at (suc (suc (suc zero))) h b = turned-away (cosSeries (reducedOf v (turns 3))) (cos-away _ (reduced-in (turns 3) (neg more) more (neg five) five tt tt tt tt b))
-  sine-at (suc (suc (suc (suc zero)))) h b = left-away _ (reduced-in (turns 4) (neg more) (neg unit) (neg five) (neg tiny) tt tt tt tt b)
-  sine-at (suc (suc (suc (suc (suc n))))) h b = absurd (omega arith)
+  sine_at : (n : ℕ) → n ≤ 4 → Between (least n) (most n) v → Away faint (sin_at (quarter_of (turns n)) (reduced_of v (turns n)))
+  unfolding sin_at quarter_of to_unsigned abs_of negative half_pi fraction round mul neg add sub le
+  sine_at zero h b = right_away _ (reduced_in_law (turns 0) tiny more tiny five tt tt tt tt b)
+  sine_at (suc zero) h b = cos_away _ (reduced_in_law (turns 1) (neg more) more (neg five) five tt tt tt tt b)
+  sine_at (suc (suc zero)) h b = turned_away (sin_series (reduced_of v (turns 2))) (half_away v b (off v f b))
+  sine_at (suc (suc (suc zero))) h b = turned_away (cos_series (reduced_of v (turns 3))) (cos_away _ (reduced_in_law (turns 3) (neg more) more (neg five) five tt tt tt tt b))
+  sine_at (suc (suc (suc (suc zero)))) h b = left_away _ (reduced_in_law (turns 4) (neg more) (neg unit) (neg five) (neg tiny) tt tt tt tt b)
+  sine_at (suc (suc (suc (suc (suc n))))) h b = absurd (omega arith)
 
   module _ (b : Between start limit v) where
-    within : T (le (absOf v) (fraction 1000 1))
+    within : T (le (abs_of v) (fraction 1000 1))
     unfolding fraction round neg le
     within = le→abs v (fraction 1000 1) (trans_le (neg (fraction 1000 1)) start v tt b.low) (trans_le v limit (fraction 1000 1) b.high tt)
 
-    sin-is : sinOf v ≡ sinAt (quarterOf (turnsOf v)) (reducedOf v (turnsOf v))
-    unfolding sinOf
-    sin-is = cond-true _ _ (is_true (le (absOf v) (fraction 1000 1)) within)
+    sin_is : sin_of v ≡ sin_at (quarter_of (turns_of v)) (reduced_of v (turns_of v))
+    unfolding sin_of
+    sin_is = cond_true _ _ (is_true (le (abs_of v) (fraction 1000 1)) within)
 
-    sine-away : Away faint (sinOf v)
-    sine-away =
-        let w = turns-whole v (unfold le in wider nought full tt tt b) in
-        subst (Away faint) (sym (sin-is ∙ ap (λ (n : Float). sinAt (quarterOf n) (reducedOf v n)) w.is))
-        (sine-at w.count w.most (near-turns v b w.count w.most w.is))
+    sine_away : Away faint (sin_of v)
+    sine_away =
+        let w = turns_whole v (unfold le in wider nought full tt tt b) in
+        subst (Away faint) (sym (sin_is ∙ ap (λ (n : Float). sin_at (quarter_of n) (reduced_of v n)) w.is))
+        (sine_at w.count w.most (near_turns v b w.count w.most w.is))
 
-    sine32-away : Away faint (sin32Of v)
-    unfolding sin32Of narrowOf round
-    sine32-away = subst (λ (z : Float). T (le faint z)) (sym (abs-narrow (sinOf v))) (narrow-mono faint (absOf (sinOf v)) sine-away)
+    sine32_away : Away faint (sin32_of v)
+    unfolding sin32_of narrow_of round
+    sine32_away = subst (λ (z : Float). T (le faint z)) (sym (abs_narrow (sin_of v))) (narrow_mono faint (abs_of (sin_of v)) sine_away)
 
 -- from 0.000001 to the whole turn less that, the sine is 2 ^ -50 at least in size
-pub sine-not-zero : (v : Float) → T (fits binary32 v) → Between (decimal 1 6) (sub binary32 PI2 (decimal 1 6)) v → Away faint (sin32Of v)
+pub sine_not_zero : (v : Float) → T (fits binary32 v) → Between (decimal 1 6) (sub binary32 PI2 (decimal 1 6)) v → Away faint (sin32_of v)
 unfolding PI2 decimal round neg add sub
-sine-not-zero v f b = sine32-away v f b
+sine_not_zero v f b = sine32_away v f b

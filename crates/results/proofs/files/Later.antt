@@ -20,129 +20,129 @@ use Rattle.base.specs.declared.blend.Weights.{Weights}
 use Rattle.base.specs.Refusal.{◌then◌}
 use Rattle.base.specs.Number.{signed_of}
 use Rattle.base.specs.Fill.{tabulate}
-use Rattle.base.specs.Words.{word_of, word_at, integerAt, float_at}
-use Rattle.base.specs.MonthFile.{recordSize, monthFileSize, sizes, Four, marker, anything, layout, isRight, walk, monthFileCheck}
-use Rattle.base.specs.Finite.{wordsCheck, recordWordsCheck, floatTables, eachCheck, tableWordsCheck}
-use Rattle.base.specs.Tables.{Table, words_in, table_end, start_of, planeOf, words_of, xf2cof, ikim, fakmap, xfm3cf, xesmcf, xpmap, xeslcf, xesucf, xercof}
-use Rattle.base.specs.Index.{rows, harmonics, isWholeTo, equals, exceeds, climbs, goodMap, ikimPlace, ikimAt, lowestBad, indexCheck, index_of}
-use Rattle.base.specs.Blend.{blend_of, blendAt, blendTable, f2Weights, eWeights, heightWeights, eslcofOf, esmcofOf, esucofOf, f2cofOf, fm3cofOf, ercofOf, hmymOf, fakmapOf, appended, cofionOf}
+use Rattle.base.specs.Words.{word_of, word_at, integer_at, float_at}
+use Rattle.base.specs.MonthFile.{record_size, month_file_size, sizes, Four, marker, anything, layout, is_right, walk, month_file_check}
+use Rattle.base.specs.Finite.{words_check, record_words_check, float_tables, each_check, table_words_check}
+use Rattle.base.specs.Tables.{Table, words_in, table_end, start_of, plane_of, words_of, xf2cof, ikim, fakmap, xfm3cf, xesmcf, xpmap, xeslcf, xesucf, xercof}
+use Rattle.base.specs.Index.{rows, harmonics, is_whole_to, equals, exceeds, climbs, good_map, ikim_place, ikim_at, lowest_bad, index_check, index_of}
+use Rattle.base.specs.Blend.{blend_of, blend_at, blend_table, f2_weights, e_weights, height_weights, eslcof_of, esmcof_of, esucof_of, f2cof_of, fm3cof_of, ercof_of, hmym_of, fakmap_of, appended, cofion_of}
 use Rattle.results.specs.LaterBytes.{Alike}
 
 -- ---- lists and words
 
-pub run-alike : {A : Type 0} (f g : ℕ → A) (n : ℕ) → ((k : ℕ) → k < n → f k ≡ g k) → tabulate f n ≡ tabulate g n
+pub run_alike : {A : Type 0} (f g : ℕ → A) (n : ℕ) → ((k : ℕ) → k < n → f k ≡ g k) → tabulate f n ≡ tabulate g n
 unfolding tabulate
-run-alike f g zero h = refl
-run-alike f g (suc n) h =
-    let e = run-alike f g n (λ k q. h k (omega arith)) in
+run_alike f g zero h = refl
+run_alike f g (suc n) h =
+    let e = run_alike f g n (λ k q. h k (omega arith)) in
     let last = h n (omega arith) in
     λ i. e i ++ (last i ∷ [])
 
 -- whether tables end by the byte n
-unfoldable endsBy : ℕ → List Table → Bool
-endsBy n [] = true
-endsBy n (t ∷ ts) = leb (table_end t) n && endsBy n ts
+unfoldable ends_by : ℕ → List Table → Bool
+ends_by n [] = true
+ends_by n (t ∷ ts) = leb (table_end t) n && ends_by n ts
 
 module _ (n : ℕ) (s t : List ℕ) (a : Alike n s t) where
-  pub word-alike : (at : ℕ) → at + 4 ≤ n → word_at s at ≡ word_at t at
+  pub word_alike : (at : ℕ) → at + 4 ≤ n → word_at s at ≡ word_at t at
   unfolding word_at
-  word-alike at h =
+  word_alike at h =
       let b0 = a.bytes at (omega arith) in
       let b1 = a.bytes (at + 1) (omega arith) in
       let b2 = a.bytes (at + 2) (omega arith) in
       let b3 = a.bytes (at + 3) (omega arith) in
       λ i. word_of (b0 i) (b1 i) (b2 i) (b3 i)
 
-  pub float-alike : (at : ℕ) → at + 4 ≤ n → float_at s at ≡ float_at t at
+  pub float_alike : (at : ℕ) → at + 4 ≤ n → float_at s at ≡ float_at t at
   unfolding float_at
-  float-alike at h = ap (of_bits binary32) (word-alike at h)
+  float_alike at h = ap (of_bits binary32) (word_alike at h)
 
-  integer-alike : (at : ℕ) → at + 4 ≤ n → integerAt s at ≡ integerAt t at
-  unfolding integerAt
-  integer-alike at h = ap signed_of (word-alike at h)
+  integer_alike : (at : ℕ) → at + 4 ≤ n → integer_at s at ≡ integer_at t at
+  unfolding integer_at
+  integer_alike at h = ap signed_of (word_alike at h)
 
   -- ---- the walk
 
-  right-alike : (at : ℕ) (f : Four) → at + 4 ≤ n → isRight s at f ≡ isRight t at f
-  right-alike at (marker m) h = ap (λ (w : ℕ). eqb w m) (word-alike at h)
-  right-alike at anything h = refl
+  right_alike : (at : ℕ) (f : Four) → at + 4 ≤ n → is_right s at f ≡ is_right t at f
+  right_alike at (marker m) h = ap (λ (w : ℕ). eqb w m) (word_alike at h)
+  right_alike at anything h = refl
 
-  walk-alike : (at : ℕ) (fs : List Four) → at + 4 * length fs ≤ n → walk s at fs ≡ walk t at fs
+  walk_alike : (at : ℕ) (fs : List Four) → at + 4 * length fs ≤ n → walk s at fs ≡ walk t at fs
   unfolding walk
-  walk-alike at [] h = refl
-  walk-alike at (f ∷ fs) h =
+  walk_alike at [] h = refl
+  walk_alike at (f ∷ fs) h =
       let p = a.here in
       let q = a.there in
       let l : leb (at + 4) (length s) ≡ leb (at + 4) (length t) = le-leb (at + 4) (length s) (omega arith) ∙ sym (le-leb (at + 4) (length t) (omega arith)) in
-      let r = right-alike at f (omega arith) in
-      let e = walk-alike (at + 4) fs (omega arith) in
+      let r = right_alike at f (omega arith) in
+      let e = walk_alike (at + 4) fs (omega arith) in
       λ i. cond (l i) (cond (r i) (e i) (Refused (Marker at))) (Refused (Ended at))
 
   -- ---- the index table
 
-  climbs-alike : (w v : ℕ → ℤ) (m j : ℕ) → ((k : ℕ) → k ≤ j + m → w k ≡ v k) → climbs w m j ≡ climbs v m j
+  climbs_alike : (w v : ℕ → ℤ) (m j : ℕ) → ((k : ℕ) → k ≤ j + m → w k ≡ v k) → climbs w m j ≡ climbs v m j
   unfolding climbs
-  climbs-alike w v zero j h = refl
-  climbs-alike w v (suc m) j h =
+  climbs_alike w v zero j h = refl
+  climbs_alike w v (suc m) j h =
       let y = h j (omega arith) in
       let z = h (j + 1) (omega arith) in
-      let e = climbs-alike w v m (j + 1) (λ k q. h k (omega arith)) in
+      let e = climbs_alike w v m (j + 1) (λ k q. h k (omega arith)) in
       λ i. cond (equals (y i) (z i)) true (exceeds (y i) (z i) && e i)
 
-  good-alike : (w v : ℕ → ℤ) (r m : ℕ) → ((k : ℕ) → k ≤ 9 → w k ≡ v k) → goodMap w r m ≡ goodMap v r m
-  unfolding goodMap
-  good-alike w v r m h =
+  good_alike : (w v : ℕ → ℤ) (r m : ℕ) → ((k : ℕ) → k ≤ 9 → w k ≡ v k) → good_map w r m ≡ good_map v r m
+  unfolding good_map
+  good_alike w v r m h =
       let w8 = h 8 (omega arith) in
       let w9 = h 9 (omega arith) in
       let w0 = h 0 (omega arith) in
-      let e = climbs-alike w v 8 0 (λ k q. h k (omega arith)) in
-      λ i. isWholeTo 0 (r - 1) (w8 i) && (isWholeTo 0 m (w9 i) && (isWholeTo 1 75 (w0 i) && e i))
+      let e = climbs_alike w v 8 0 (λ k q. h k (omega arith)) in
+      λ i. is_whole_to 0 (r - 1) (w8 i) && (is_whole_to 0 m (w9 i) && (is_whole_to 1 75 (w0 i) && e i))
 
   module _ (whole : 244 ≤ n) where
-    lowest-alike : (m k : ℕ) → k + m ≤ 6 → lowestBad s m k ≡ lowestBad t m k
-    unfolding lowestBad
-    lowest-alike zero k h = refl
-    lowest-alike (suc m) k h =
-        let g = good-alike (ikimAt s k) (ikimAt t k) (get_or rows k 0) (get_or harmonics k 0) (λ j q. integer-alike (ikimPlace k j) (omega arith)) in
-        let e = lowest-alike m (k + 1) (omega arith) in
+    lowest_alike : (m k : ℕ) → k + m ≤ 6 → lowest_bad s m k ≡ lowest_bad t m k
+    unfolding lowest_bad
+    lowest_alike zero k h = refl
+    lowest_alike (suc m) k h =
+        let g = good_alike (ikim_at s k) (ikim_at t k) (get_or rows k 0) (get_or harmonics k 0) (λ j q. integer_alike (ikim_place k j) (omega arith)) in
+        let e = lowest_alike m (k + 1) (omega arith) in
         λ i. cond (g i) (e i) (Refused (Index (k + 1)))
 
-    pub check-alike : indexCheck s ≡ indexCheck t
-    unfolding indexCheck
-    check-alike = lowest-alike 6 0 (omega arith)
+    pub check_alike : index_check s ≡ index_check t
+    unfolding index_check
+    check_alike = lowest_alike 6 0 (omega arith)
 
-    pub index-alike : index_of s ≡ index_of t
+    pub index_alike : index_of s ≡ index_of t
     unfolding index_of
-    index-alike = run-alike _ _ 60 (λ k q. word-alike (start_of ikim + k * 4) (omega arith))
+    index_alike = run_alike _ _ 60 (λ k q. word_alike (start_of ikim + k * 4) (omega arith))
 
   -- ---- the words of the tables
 
-  pub words-alike : (why : ℕ → Refusal) (at m : ℕ) → at + 4 * m ≤ n → wordsCheck why s at m ≡ wordsCheck why t at m
-  unfolding wordsCheck
-  words-alike why at zero h = refl
-  words-alike why at (suc m) h =
-      let f = ap finite (float-alike at (omega arith)) in
-      let e = words-alike why (at + 4) m (omega arith) in
+  pub words_alike : (why : ℕ → Refusal) (at m : ℕ) → at + 4 * m ≤ n → words_check why s at m ≡ words_check why t at m
+  unfolding words_check
+  words_alike why at zero h = refl
+  words_alike why at (suc m) h =
+      let f = ap finite (float_alike at (omega arith)) in
+      let e = words_alike why (at + 4) m (omega arith) in
       λ i. cond (f i) (e i) (Refused (why at))
 
-  each-alike : (ts : List Table) → T (endsBy n ts) → eachCheck s ts ≡ eachCheck t ts
-  unfolding eachCheck endsBy
-  each-alike [] h = refl
-  each-alike (x ∷ ts) h =
-      let l = leb→le (table_end x) n (and_l (leb (table_end x) n) (endsBy n ts) h) in
-      let e = words-alike MonthWord x.from (words_in x) l in
-      let more = each-alike ts (and_r (leb (table_end x) n) (endsBy n ts) h) in
+  each_alike : (ts : List Table) → T (ends_by n ts) → each_check s ts ≡ each_check t ts
+  unfolding each_check ends_by
+  each_alike [] h = refl
+  each_alike (x ∷ ts) h =
+      let l = leb→le (table_end x) n (and_l (leb (table_end x) n) (ends_by n ts) h) in
+      let e = words_alike MonthWord x.from (words_in x) l in
+      let more = each_alike ts (and_r (leb (table_end x) n) (ends_by n ts) h) in
       λ i. e i then more i
 
   -- ---- the maps
 
-  blend-alike : (at width : ℕ) (w : Weights) → at + 8 * width ≤ n → tabulate (blendAt s at width w) width ≡ tabulate (blendAt t at width w) width
-  unfolding blendAt
-  blend-alike at width w h =
-      run-alike _ _ width
+  blend_alike : (at width : ℕ) (w : Weights) → at + 8 * width ≤ n → tabulate (blend_at s at width w) width ≡ tabulate (blend_at t at width w) width
+  unfolding blend_at
+  blend_alike at width w h =
+      run_alike _ _ width
       (λ k q.
-      let x0 = float-alike (at + 4 * k) (omega arith) in
-      let x1 = float-alike (at + 4 * (width + k)) (omega arith) in
+      let x0 = float_alike (at + 4 * k) (omega arith) in
+      let x1 = float_alike (at + 4 * (width + k)) (omega arith) in
       λ i. blend_of w (x0 i) (x1 i))
 
 -- ---- a month file, whole in both
@@ -151,59 +151,59 @@ fours : List ℕ → ℕ
 fours [] = 0
 fours (n ∷ ns) = n / 4 + 2 + fours ns
 
-length-layout : (ns : List ℕ) → length (layout ns) ≡ fours ns
+length_layout : (ns : List ℕ) → length (layout ns) ≡ fours ns
 unfolding layout fours
-length-layout [] = refl
-length-layout (n ∷ ns) =
-    let h = length-layout ns in
+length_layout [] = refl
+length_layout (n ∷ ns) =
+    let h = length_layout ns in
     let a = length-append (replicate (n / 4) anything) (marker n ∷ layout ns) in
     let b = length-replicate {A = Four} (n / 4) anything in
     omega arith
 
-module _ (s t : List ℕ) (a : Alike monthFileSize s t) where
-  pub file-alike : monthFileCheck s ≡ monthFileCheck t
-  unfolding monthFileCheck fours
-  file-alike = let e = length-layout sizes in walk-alike monthFileSize s t a 0 (layout sizes) (omega arith)
+module _ (s t : List ℕ) (a : Alike month_file_size s t) where
+  pub file_alike : month_file_check s ≡ month_file_check t
+  unfolding month_file_check fours
+  file_alike = let e = length_layout sizes in walk_alike month_file_size s t a 0 (layout sizes) (omega arith)
 
-  pub tables-alike : tableWordsCheck s ≡ tableWordsCheck t
-  unfolding tableWordsCheck endsBy
-  tables-alike = each-alike monthFileSize s t a floatTables tt
+  pub tables_alike : table_words_check s ≡ table_words_check t
+  unfolding table_words_check ends_by
+  tables_alike = each_alike month_file_size s t a float_tables tt
 
-  table-alike : (number : ℕ) (w : Weights) → start_of number + 8 * planeOf number ≤ monthFileSize → blendTable number w s ≡ blendTable number w t
-  table-alike number w h = blend-alike monthFileSize s t a (start_of number) (planeOf number) w h
+  table_alike : (number : ℕ) (w : Weights) → start_of number + 8 * plane_of number ≤ month_file_size → blend_table number w s ≡ blend_table number w t
+  table_alike number w h = blend_alike month_file_size s t a (start_of number) (plane_of number) w h
 
-  pub hmym-alike : (x : Float) → hmymOf s x ≡ hmymOf t x
-  unfolding hmymOf
-  hmym-alike x = table-alike xpmap (heightWeights x) (lit≤ tt)
+  pub hmym_alike : (x : Float) → hmym_of s x ≡ hmym_of t x
+  unfolding hmym_of
+  hmym_alike x = table_alike xpmap (height_weights x) (lit≤ tt)
 
-  pub fakmap-alike : fakmapOf s ≡ fakmapOf t
-  unfolding fakmapOf
-  fakmap-alike = run-alike _ _ (words_of fakmap) (λ k q. float-alike monthFileSize s t a (start_of fakmap + 4 * k) (omega arith))
+  pub fakmap_alike : fakmap_of s ≡ fakmap_of t
+  unfolding fakmap_of
+  fakmap_alike = run_alike _ _ (words_of fakmap) (λ k q. float_alike month_file_size s t a (start_of fakmap + 4 * k) (omega arith))
 
   -- beside any record
-  pub cofion-month : (f : List ℕ) (x : Float) → cofionOf f s x ≡ cofionOf f t x
-  unfolding cofionOf eslcofOf esmcofOf esucofOf fm3cofOf ercofOf
-  cofion-month f x =
-      let m1 = table-alike xeslcf (eWeights x) (lit≤ tt) in
-      let m2 = table-alike xesmcf (eWeights x) (lit≤ tt) in
-      let m3 = table-alike xesucf (eWeights x) (lit≤ tt) in
-      let m5 = table-alike xfm3cf (f2Weights x) (lit≤ tt) in
-      let m6 = table-alike xercof (eWeights x) (lit≤ tt) in
-      λ i. appended (m1 i ∷ m2 i ∷ m3 i ∷ f2cofOf f x ∷ m5 i ∷ m6 i ∷ [])
+  pub cofion_month : (f : List ℕ) (x : Float) → cofion_of f s x ≡ cofion_of f t x
+  unfolding cofion_of eslcof_of esmcof_of esucof_of fm3cof_of ercof_of
+  cofion_month f x =
+      let m1 = table_alike xeslcf (e_weights x) (lit≤ tt) in
+      let m2 = table_alike xesmcf (e_weights x) (lit≤ tt) in
+      let m3 = table_alike xesucf (e_weights x) (lit≤ tt) in
+      let m5 = table_alike xfm3cf (f2_weights x) (lit≤ tt) in
+      let m6 = table_alike xercof (e_weights x) (lit≤ tt) in
+      λ i. appended (m1 i ∷ m2 i ∷ m3 i ∷ f2cof_of f x ∷ m5 i ∷ m6 i ∷ [])
 
 -- ---- a record, whole in both, beside any month file
 
-module _ (f g : List ℕ) (b : Alike recordSize f g) where
-  pub records-alike : recordWordsCheck f 1 ≡ recordWordsCheck g 1
-  unfolding recordWordsCheck
-  records-alike = words-alike recordSize f g b RecordWord (start_of xf2cof) (words_of xf2cof) (lit≤ tt)
+module _ (f g : List ℕ) (b : Alike record_size f g) where
+  pub records_alike : record_words_check f 1 ≡ record_words_check g 1
+  unfolding record_words_check
+  records_alike = words_alike record_size f g b RecordWord (start_of xf2cof) (words_of xf2cof) (lit≤ tt)
 
-  f2-alike : (x : Float) → f2cofOf f x ≡ f2cofOf g x
-  unfolding f2cofOf
-  f2-alike x = blend-alike recordSize f g b (start_of xf2cof) (planeOf xf2cof) (f2Weights x) (lit≤ tt)
+  f2_alike : (x : Float) → f2cof_of f x ≡ f2cof_of g x
+  unfolding f2cof_of
+  f2_alike x = blend_alike record_size f g b (start_of xf2cof) (plane_of xf2cof) (f2_weights x) (lit≤ tt)
 
-  pub cofion-record : (s : List ℕ) (x : Float) → cofionOf f s x ≡ cofionOf g s x
-  unfolding cofionOf
-  cofion-record s x =
-      let m4 = f2-alike x in
-      λ i. appended (eslcofOf s x ∷ esmcofOf s x ∷ esucofOf s x ∷ m4 i ∷ fm3cofOf s x ∷ ercofOf s x ∷ [])
+  pub cofion_record : (s : List ℕ) (x : Float) → cofion_of f s x ≡ cofion_of g s x
+  unfolding cofion_of
+  cofion_record s x =
+      let m4 = f2_alike x in
+      λ i. appended (eslcof_of s x ∷ esmcof_of s x ∷ esucof_of s x ∷ m4 i ∷ fm3cof_of s x ∷ ercof_of s x ∷ [])

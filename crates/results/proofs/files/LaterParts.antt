@@ -15,29 +15,29 @@ use borrow.Author.Tests.{le-leb}
 use Rattle.base.specs.declared.refusal.Refusal.TheVariants.{Record, Table as NoTable}
 use Rattle.base.specs.declared.refusal.Verdict.{Verdict}
 use Rattle.base.specs.declared.refusal.Verdict.TheVariants.{Accepted, Refused}
-use Rattle.base.specs.Refusal.{refuseUnless, ◌then◌, isAccepted}
-use Rattle.base.specs.Ranges.{monthCheck}
-use Rattle.base.specs.MonthFile.{recordSize, monthFileSize, Part, emptyPart, monthRecordCheck, monthStart, monthPart, monthFileCheck}
-use Rattle.base.specs.Tables.{part_of, tableCheck, tablePart, tableFile}
-use Rattle.base.proofs.layout.Records.{month-known, month-part, month-none}
-use Rattle.base.proofs.layout.Parts.{table-known, placed, table-part, table_none, file-f2, file-month}
+use Rattle.base.specs.Refusal.{refuse_unless, ◌then◌, is_accepted}
+use Rattle.base.specs.Ranges.{month_check}
+use Rattle.base.specs.MonthFile.{record_size, month_file_size, Part, empty_part, month_record_check, month_start, month_part, month_file_check}
+use Rattle.base.specs.Tables.{part_of, table_check, table_part, table_file}
+use Rattle.base.proofs.layout.Records.{month_known, month_part_law, month_none}
+use Rattle.base.proofs.layout.Parts.{table_known, placed, table_part_law, table_none, file_f2, file_month}
 use Rattle.results.specs.LaterBytes.{Alike}
-use Rattle.results.proofs.files.Later.{file-alike}
+use Rattle.results.proofs.files.Later.{file_alike}
 
 -- the bytes of a part
 abbrev pub bytes_at : Part → List ℕ → List ℕ
 bytes_at p s = take p.size (drop p.from s)
 
 module _ (n : ℕ) (s t : List ℕ) (a : Alike n s t) where
-  length-there : (x : List ℕ) → n ≤ length x → (from size : ℕ) → from + size ≤ n → length (take size (drop from x)) ≡ size
-  length-there x l from size h = let e = length-drop from x in length-take-le size (drop from x) (omega arith)
+  length_there : (x : List ℕ) → n ≤ length x → (from size : ℕ) → from + size ≤ n → length (take size (drop from x)) ≡ size
+  length_there x l from size h = let e = length-drop from x in length-take-le size (drop from x) (omega arith)
 
-  part-alike : (p : Part) → p.from + p.size ≤ n → bytes_at p s ≡ bytes_at p t
-  part-alike p h =
+  part_alike : (p : Part) → p.from + p.size ≤ n → bytes_at p s ≡ bytes_at p t
+  part_alike p h =
       let f = p.from in
       let z = p.size in
-      let u = length-there s a.here f z h in
-      let v = length-there t a.there f z h in
+      let u = length_there s a.here f z h in
+      let v = length_there t a.there f z h in
       ext_get_or 0 (take z (drop f s)) (take z (drop f t)) (u ∙ sym v)
       (λ i l.
       get_or-take z (drop f s) i 0 (omega arith)
@@ -50,79 +50,79 @@ module _ (n : ℕ) (s t : List ℕ) (a : Alike n s t) where
 
 -- ---- Month record: what follows the month's record
 
-module _ (s t : List ℕ) (m : ℕ) (a : Alike (m * recordSize) s t) where
-  pub month-check-later : monthRecordCheck s m ≡ monthRecordCheck t m
-  unfolding monthRecordCheck
-  month-check-later = ap (λ (b : Bool). monthCheck m then refuseUnless b Record) (enough (m * recordSize) s t a (m * recordSize) (omega arith))
+module _ (s t : List ℕ) (m : ℕ) (a : Alike (m * record_size) s t) where
+  pub month_check_later : month_record_check s m ≡ month_record_check t m
+  unfolding month_record_check
+  month_check_later = ap (λ (b : Bool). month_check m then refuse_unless b Record) (enough (m * record_size) s t a (m * record_size) (omega arith))
 
-  pub month-part-later : monthPart s m ≡ monthPart t m
-  unfolding monthPart
-  month-part-later =
-      ap (λ (v : Verdict). cond (isAccepted v) (record { from = monthStart m; size = recordSize }) emptyPart) month-check-later
+  pub month_part_later : month_part s m ≡ month_part t m
+  unfolding month_part
+  month_part_later =
+      ap (λ (v : Verdict). cond (is_accepted v) (record { from = month_start m; size = record_size }) empty_part) month_check_later
 
   -- the same bytes are handed back
-  pub month-bytes-later : bytes_at (monthPart s m) s ≡ bytes_at (monthPart t m) t
-  month-bytes-later = go (monthRecordCheck s m) refl
+  pub month_bytes_later : bytes_at (month_part s m) s ≡ bytes_at (month_part t m) t
+  month_bytes_later = go (month_record_check s m) refl
     where
-      go : (v : Verdict) → v ≡ monthRecordCheck s m → bytes_at (monthPart s m) s ≡ bytes_at (monthPart t m) t
+      go : (v : Verdict) → v ≡ month_record_check s m → bytes_at (month_part s m) s ≡ bytes_at (month_part t m) t
       go Accepted e =
-          let l = (month-known s m (sym e)).low in
-          ap (λ (p : Part). bytes_at p s) (month-part s m e refl)
-          ∙ part-alike (m * recordSize) s t a (record { from = monthStart m; size = recordSize }) (omega arith)
-          ∙ sym (ap (λ (p : Part). bytes_at p t) (month-part t m (e ∙ month-check-later) refl))
+          let l = (month_known s m (sym e)).low in
+          ap (λ (p : Part). bytes_at p s) (month_part_law s m e refl)
+          ∙ part_alike (m * record_size) s t a (record { from = month_start m; size = record_size }) (omega arith)
+          ∙ sym (ap (λ (p : Part). bytes_at p t) (month_part_law t m (e ∙ month_check_later) refl))
       go (Refused why) e =
-          ap (λ (p : Part). bytes_at p s) (month-none s m e refl) ∙ sym (ap (λ (p : Part). bytes_at p t) (month-none t m (e ∙ month-check-later) refl))
+          ap (λ (p : Part). bytes_at p s) (month_none s m e refl) ∙ sym (ap (λ (p : Part). bytes_at p t) (month_none t m (e ∙ month_check_later) refl))
 
 -- ---- Table: what follows the record's 7,904 bytes, and the month file's 38,552
 
 module _ (k : ℕ) where
   -- the record alone, beside any month file
-  pub table-record-later : (f g s : List ℕ) → Alike recordSize f g → tableCheck k f s ≡ tableCheck k g s
-  unfolding tableCheck
-  table-record-later f g s b =
-      ap (λ (c : Bool). cond (leb k 20) (cond c (monthFileCheck s) (Refused Record)) (Refused NoTable)) (enough recordSize f g b recordSize (omega arith))
+  pub table_record_later : (f g s : List ℕ) → Alike record_size f g → table_check k f s ≡ table_check k g s
+  unfolding table_check
+  table_record_later f g s b =
+      ap (λ (c : Bool). cond (leb k 20) (cond c (month_file_check s) (Refused Record)) (Refused NoTable)) (enough record_size f g b record_size (omega arith))
 
   -- the month file alone, beside any record
-  pub table-month-later : (f s t : List ℕ) → Alike monthFileSize s t → tableCheck k f s ≡ tableCheck k f t
-  unfolding tableCheck
-  table-month-later f s t a =
-      ap (λ (v : Verdict). cond (leb k 20) (cond (leb recordSize (length f)) v (Refused Record)) (Refused NoTable)) (file-alike s t a)
+  pub table_month_later : (f s t : List ℕ) → Alike month_file_size s t → table_check k f s ≡ table_check k f t
+  unfolding table_check
+  table_month_later f s t a =
+      ap (λ (v : Verdict). cond (leb k 20) (cond (leb record_size (length f)) v (Refused Record)) (Refused NoTable)) (file_alike s t a)
 
-  module _ (f g s t : Bor (List ℕ)) (b : Alike recordSize f.now g.now) (a : Alike monthFileSize s.now t.now) where
-    pub table-check-later : tableCheck k f.now s.now ≡ tableCheck k g.now t.now
-    table-check-later = table-record-later f.now g.now s.now b ∙ table-month-later g.now s.now t.now a
+  module _ (f g s t : Bor (List ℕ)) (b : Alike record_size f.now g.now) (a : Alike month_file_size s.now t.now) where
+    pub table_check_later : table_check k f.now s.now ≡ table_check k g.now t.now
+    table_check_later = table_record_later f.now g.now s.now b ∙ table_month_later g.now s.now t.now a
 
-    pub table-part-later : tablePart k f.now s.now ≡ tablePart k g.now t.now
-    unfolding tablePart
-    table-part-later = ap (λ (v : Verdict). cond (isAccepted v) (part_of k) emptyPart) table-check-later
+    pub table_part_later : table_part k f.now s.now ≡ table_part k g.now t.now
+    unfolding table_part
+    table_part_later = ap (λ (v : Verdict). cond (is_accepted v) (part_of k) empty_part) table_check_later
 
     abbrev here : List ℕ
-    here = (tableFile k f s).now
+    here = (table_file k f s).now
 
     abbrev there : List ℕ
-    there = (tableFile k g t).now
+    there = (table_file k g t).now
 
     -- the same bytes are handed back
-    pub table-bytes-later : bytes_at (tablePart k f.now s.now) (tableFile k f s).now ≡ bytes_at (tablePart k g.now t.now) (tableFile k g t).now
-    table-bytes-later = go (tableCheck k f.now s.now) refl
+    pub table_bytes_later : bytes_at (table_part k f.now s.now) (table_file k f s).now ≡ bytes_at (table_part k g.now t.now) (table_file k g t).now
+    table_bytes_later = go (table_check k f.now s.now) refl
       where
-        go : (v : Verdict) → v ≡ tableCheck k f.now s.now → bytes_at (tablePart k f.now s.now) here ≡ bytes_at (tablePart k g.now t.now) there
+        go : (v : Verdict) → v ≡ table_check k f.now s.now → bytes_at (table_part k f.now s.now) here ≡ bytes_at (table_part k g.now t.now) there
         go (Refused why) e =
             ap (λ (p : Part). bytes_at p here) (table_none k f.now s.now e refl)
-            ∙ sym (ap (λ (p : Part). bytes_at p there) (table_none k g.now t.now (e ∙ table-check-later) refl))
+            ∙ sym (ap (λ (p : Part). bytes_at p there) (table_none k g.now t.now (e ∙ table_check_later) refl))
         go Accepted e =
-            let d : Accepted ≡ tableCheck k g.now t.now = e ∙ table-check-later in
-            let w = placed k (table-known k f.now s.now (sym e)).known in
-            ap (λ (p : Part). bytes_at p here) (table-part k f.now s.now e refl)
+            let d : Accepted ≡ table_check k g.now t.now = e ∙ table_check_later in
+            let w = placed k (table_known k f.now s.now (sym e)).known in
+            ap (λ (p : Part). bytes_at p here) (table_part_law k f.now s.now e refl)
             ∙ elim (dec_lt 0 k) [
               | yes h ↦
-                  ap (λ (x : Bor (List ℕ)). bytes_at (part_of k) x.now) (file-month k f s e refl (λ q. omega arith))
-                  ∙ part-alike monthFileSize s.now t.now a (part_of k) w.inside
-                  ∙ sym (ap (λ (x : Bor (List ℕ)). bytes_at (part_of k) x.now) (file-month k g t d refl (λ q. omega arith)))
+                  ap (λ (x : Bor (List ℕ)). bytes_at (part_of k) x.now) (file_month k f s e refl (λ q. omega arith))
+                  ∙ part_alike month_file_size s.now t.now a (part_of k) w.inside
+                  ∙ sym (ap (λ (x : Bor (List ℕ)). bytes_at (part_of k) x.now) (file_month k g t d refl (λ q. omega arith)))
               | no h ↦
                   let q : k ≡ 0 = omega arith in
-                  ap (λ (x : Bor (List ℕ)). bytes_at (part_of k) x.now) (file-f2 k f s e refl q)
-                  ∙ part-alike recordSize f.now g.now b (part_of k) (w.planes q)
-                  ∙ sym (ap (λ (x : Bor (List ℕ)). bytes_at (part_of k) x.now) (file-f2 k g t d refl q))
+                  ap (λ (x : Bor (List ℕ)). bytes_at (part_of k) x.now) (file_f2 k f s e refl q)
+                  ∙ part_alike record_size f.now g.now b (part_of k) (w.planes q)
+                  ∙ sym (ap (λ (x : Bor (List ℕ)). bytes_at (part_of k) x.now) (file_f2 k g t d refl q))
             ]
-            ∙ sym (ap (λ (p : Part). bytes_at p there) (table-part k g.now t.now d refl))
+            ∙ sym (ap (λ (p : Part). bytes_at p there) (table_part_law k g.now t.now d refl))

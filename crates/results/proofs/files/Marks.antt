@@ -1,5 +1,5 @@
 -- The month file's check without the walk: it accepts exactly the files that have 38,552 bytes and
--- 18 right markers (`month-file-good`); and document 01's known points (b) and (c) over all such
+-- 18 right markers (`month_file_good`); and document 01's known points (b) and (c) over all such
 -- files. The walk passes a record, or is refused in it, at once (Walks). Assumes nothing.
 use mathlib.Core.Path.{◌≡◌, refl, sym, ap, ◌∙◌}
 use mathlib.Core.List.{List, [], ◌∷◌, ◌++◌}
@@ -10,17 +10,17 @@ use lib.ListN.{length, take}
 use Rattle.base.specs.declared.refusal.Refusal.TheVariants.{Ended, Marker}
 use Rattle.base.specs.declared.refusal.Verdict.TheVariants.{Accepted, Refused}
 use Rattle.base.specs.Words.{word_at}
-use Rattle.base.specs.MonthFile.{monthFileSize, sizes, layout, walk, monthFileCheck, Marked, WellMarked, MarkedToLast}
-use Rattle.results.specs.AcceptedFiles.{withMarkers}
-use Rattle.base.proofs.layout.Walks.{Fours, fours, no-close, bad-close, passed, accepted-length, accepted-marks}
+use Rattle.base.specs.MonthFile.{month_file_size, sizes, layout, walk, month_file_check, Marked, WellMarked, MarkedToLast}
+use Rattle.results.specs.AcceptedFiles.{with_markers}
+use Rattle.base.proofs.layout.Walks.{Fours, fours, no_close, bad_close, passed, accepted_length, accepted_marks}
 
-fours-eight : Fours (take 8 sizes)
-fours-eight = (refl, (refl, (refl, (refl, (refl, (refl, (refl, (refl, tt))))))))
+fours_eight : Fours (take 8 sizes)
+fours_eight = (refl, (refl, (refl, (refl, (refl, (refl, (refl, (refl, tt))))))))
 
 -- ---- records with right markers are passed
 through :
-    (s : List ℕ) (at : ℕ) (ns rest : List ℕ) → Fours ns → at % 4 ≡ 0 → Marked s at ns → at + withMarkers ns ≤ length s →
-    walk s at (layout (ns ++ rest)) ≡ walk s (at + withMarkers ns) (layout rest)
+    (s : List ℕ) (at : ℕ) (ns rest : List ℕ) → Fours ns → at % 4 ≡ 0 → Marked s at ns → at + with_markers ns ≤ length s →
+    walk s at (layout (ns ++ rest)) ≡ walk s (at + with_markers ns) (layout rest)
 through s at [] rest f m k h = ap (λ (n : ℕ). walk s n (layout rest)) (sym (add-zero at))
 through s at (n ∷ ns) rest f m k h =
     let w = f.0 in
@@ -35,27 +35,27 @@ pub done : (s : List ℕ) (at : ℕ) → walk s at (layout []) ≡ Accepted
 unfolding walk layout
 done s at = refl
 
-pub month-file-good : (s : List ℕ) → (monthFileCheck s ≡ Accepted → WellMarked s) × (WellMarked s → monthFileCheck s ≡ Accepted)
-unfolding monthFileCheck
-month-file-good s = (
-  λ e. record { whole = accepted-length s e; marks = accepted-marks s e },
-  λ w. through s 0 sizes [] fours refl w.marks w.whole ∙ done s monthFileSize,
+pub month_file_good : (s : List ℕ) → (month_file_check s ≡ Accepted → WellMarked s) × (WellMarked s → month_file_check s ≡ Accepted)
+unfolding month_file_check
+month_file_good s = (
+  λ e. record { whole = accepted_length s e; marks = accepted_marks s e },
+  λ w. through s 0 sizes [] fours refl w.marks w.whole ∙ done s month_file_size,
 )
 
 -- ---- (b) and (c), of every file whose first 17 markers are right
 
 module _ (s : List ℕ) (k : MarkedToLast s) where
   -- '38,551 good bytes: 9 at 38,548'
-  pub cut_short : length s ≡ 38551 → monthFileCheck s ≡ Refused (Ended 38548)
-  unfolding monthFileCheck
+  pub cut_short : length s ≡ 38551 → month_file_check s ≡ Refused (Ended 38548)
+  unfolding month_file_check
   cut_short l =
-      through s 0 (take 8 sizes) (1584 ∷ []) fours-eight refl k.eight (omega arith)
-      ∙ no-close s 36960 1584 [] refl refl (omega arith) (omega arith) k.ninth (omega arith)
+      through s 0 (take 8 sizes) (1584 ∷ []) fours_eight refl k.eight (omega arith)
+      ∙ no_close s 36960 1584 [] refl refl (omega arith) (omega arith) k.ninth (omega arith)
       ∙ ap (λ (n : ℕ). Refused (Ended (n / 4 * 4))) l
 
   -- 'last marker wrong: 10 at 38,548'
-  pub last-wrong : monthFileSize ≤ length s → (word_at s 38548 ≡ 1584 → ⊥) → monthFileCheck s ≡ Refused (Marker 38548)
-  unfolding monthFileCheck
-  last-wrong l d =
-      through s 0 (take 8 sizes) (1584 ∷ []) fours-eight refl k.eight (omega arith)
-      ∙ bad-close s 36960 1584 [] refl refl (omega arith) (omega arith) k.ninth l d
+  pub last_wrong : month_file_size ≤ length s → (word_at s 38548 ≡ 1584 → ⊥) → month_file_check s ≡ Refused (Marker 38548)
+  unfolding month_file_check
+  last_wrong l d =
+      through s 0 (take 8 sizes) (1584 ∷ []) fours_eight refl k.eight (omega arith)
+      ∙ bad_close s 36960 1584 [] refl refl (omega arith) (omega arith) k.ninth l d

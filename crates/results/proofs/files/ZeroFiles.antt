@@ -25,11 +25,11 @@ use lib.Ieee.Fits.{and_l, and_r}
 use lib.Ieee.Scale.{finite}
 use Rattle.base.specs.Words.{word_at, float_at, FiniteRun}
 use Rattle.base.specs.MonthFile.{sizes}
-use Rattle.base.specs.Tables.{numbered, noSuchTable, words_in, start_of, words_of}
+use Rattle.base.specs.Tables.{numbered, no_such_table, words_in, start_of, words_of}
 use Rattle.base.specs.Finite.{FiniteMonth}
 use Rattle.base.proofs.lists.Entries.{up_to, at_each}
-unfoldable pub use Rattle.results.specs.ExhibitedFiles.{word_bytes, fileWith}
-use Rattle.results.proofs.files.MadeFiles.{fourBytes, fileOf, length_front}
+unfoldable pub use Rattle.results.specs.ExhibitedFiles.{word_bytes, file_with}
+use Rattle.results.proofs.files.MadeFiles.{four_bytes, file_of, length_front}
 
 -- ---- zeros
 
@@ -37,9 +37,9 @@ use Rattle.results.proofs.files.MadeFiles.{fourBytes, fileOf, length_front}
 unfoldable Zeros : List ℕ → ℕ → ℕ → Type 0
 Zeros s from n = (j : ℕ) → j < n → get_or s (from + j) 0 ≡ 0
 
-word-zero : (s : List ℕ) (from n at : ℕ) → Zeros s from n → from ≤ at → at + 4 ≤ from + n → word_at s at ≡ 0
+word_zero : (s : List ℕ) (from n at : ℕ) → Zeros s from n → from ≤ at → at + 4 ≤ from + n → word_at s at ≡ 0
 unfolding word_at Zeros
-word-zero s from n at z l h =
+word_zero s from n at z l h =
     let e : (i : ℕ) → from + (at - from + i) ≡ at + i = λ i. omega arith in
     let byte : (i : ℕ) → i < 4 → get_or s (at + i) 0 ≡ 0 = λ i b. ap (λ (k : ℕ). get_or s k 0) (sym (e i)) ∙ z (at - from + i) (omega arith) in
     let f : at ≡ at + 0 = omega arith in
@@ -49,17 +49,17 @@ word-zero s from n at z l h =
 pub zeros : (n at : ℕ) → at + 4 ≤ n → word_at (replicate n 0) at ≡ 0
 unfolding Zeros
 zeros n at h =
-    word-zero (replicate n 0) 0 n at
+    word_zero (replicate n 0) 0 n at
     (λ j l. let e : 0 + j ≡ j = omega arith in ap (λ (k : ℕ). get_or (replicate n 0) k 0) e ∙ get_or-replicate n j 0 0 l)
     (omega arith) (omega arith)
 
 -- a zero is a finite number
-pub zero-finite : (s : List ℕ) (at : ℕ) → word_at s at ≡ 0 → T (finite (float_at s at))
+pub zero_finite : (s : List ℕ) (at : ℕ) → word_at s at ≡ 0 → T (finite (float_at s at))
 unfolding float_at of_bits
-zero-finite s at e = subst (λ (w : ℕ). T (finite (of_bits binary32 w))) (sym e) tt
+zero_finite s at e = subst (λ (w : ℕ). T (finite (of_bits binary32 w))) (sym e) tt
 
-pub zeros-finite : (n m : ℕ) → 4 * m ≤ n → FiniteRun (replicate n 0) 0 m
-zeros-finite n m h i l = zero-finite (replicate n 0) (0 + 4 * i) (zeros n (0 + 4 * i) (omega arith))
+pub zeros_finite : (n m : ℕ) → 4 * m ≤ n → FiniteRun (replicate n 0) 0 m
+zeros_finite n m h i l = zero_finite (replicate n 0) (0 + 4 * i) (zeros n (0 + 4 * i) (omega arith))
 
 -- ---- the bodies of records
 unfoldable Bodies : List ℕ → ℕ → List ℕ → Type 0
@@ -76,32 +76,32 @@ body s pre at n r e l j h =
     ∙ get_or-replicate n j 0 0 h
 
 bodies :
-    (s pre : List ℕ) (at : ℕ) (ns rest : List ℕ) → s ≡ pre ++ (fileOf ns ++ rest) → at ≡ length pre → Bodies s at ns
+    (s pre : List ℕ) (at : ℕ) (ns rest : List ℕ) → s ≡ pre ++ (file_of ns ++ rest) → at ≡ length pre → Bodies s at ns
 unfolding Bodies
 bodies s pre at [] rest e l = tt
 bodies s pre at (n ∷ ns) rest e l = (
-  body s (pre ++ fourBytes n) (at + 4) n (fourBytes n ++ (fileOf ns ++ rest)) (e ∙ simp append_assoc)
-      (omega (arith, length-append pre (fourBytes n))),
-  bodies s (pre ++ (fourBytes n ++ (replicate n 0 ++ fourBytes n))) (at + n + 8) ns rest (e ∙ simp append_assoc)
-      (omega (arith, length_front pre n (fourBytes n))),
+  body s (pre ++ four_bytes n) (at + 4) n (four_bytes n ++ (file_of ns ++ rest)) (e ∙ simp append_assoc)
+      (omega (arith, length-append pre (four_bytes n))),
+  bodies s (pre ++ (four_bytes n ++ (replicate n 0 ++ four_bytes n))) (at + n + 8) ns rest (e ∙ simp append_assoc)
+      (omega (arith, length_front pre n (four_bytes n))),
 )
 
 -- a table lies in one of them
 unfoldable in_body : ℕ → ℕ → ℕ → Bool
 in_body at n table = leb (at + 4) (start_of table) && leb (start_of table + 4 * words_of table) (at + 4 + n)
 
-unfoldable inBodies : ℕ → List ℕ → ℕ → Bool
+unfoldable in_bodies : ℕ → List ℕ → ℕ → Bool
 unfolding in_body
-inBodies at [] table = false
-inBodies at (n ∷ ns) table = in_body at n table || inBodies (at + n + 8) ns table
+in_bodies at [] table = false
+in_bodies at (n ∷ ns) table = in_body at n table || in_bodies (at + n + 8) ns table
 
-in-bodies :
-    (s : List ℕ) (at : ℕ) (ns : List ℕ) → Bodies s at ns → (table : ℕ) → T (inBodies at ns table) →
+in_bodies_law :
+    (s : List ℕ) (at : ℕ) (ns : List ℕ) → Bodies s at ns → (table : ℕ) → T (in_bodies at ns table) →
     (i : ℕ) → i < words_of table → word_at s (start_of table + 4 * i) ≡ 0
-unfolding Bodies inBodies
-in-bodies s at [] z table t i h = absurd t
-in-bodies s at (n ∷ ns) z table t i h =
-    go (in_body at n table) refl t (λ u. in-bodies s (at + n + 8) ns z.1 table u i h)
+unfolding Bodies in_bodies
+in_bodies_law s at [] z table t i h = absurd t
+in_bodies_law s at (n ∷ ns) z table t i h =
+    go (in_body at n table) refl t (λ u. in_bodies_law s (at + n + 8) ns z.1 table u i h)
   where
     here : T (in_body at n table) → word_at s (start_of table + 4 * i) ≡ 0
     here u = unfold in_body in
@@ -109,55 +109,55 @@ in-bodies s at (n ∷ ns) z table t i h =
         let q = start_of table + 4 * words_of table in
         let a = leb→le (at + 4) p (and_l (leb (at + 4) p) (leb q (at + 4 + n)) u) in
         let b = leb→le q (at + 4 + n) (and_r (leb (at + 4) p) (leb q (at + 4 + n)) u) in
-        word-zero s (at + 4) n (start_of table + 4 * i) z.0 (omega arith) (omega arith)
+        word_zero s (at + 4) n (start_of table + 4 * i) z.0 (omega arith) (omega arith)
 
     go :
-        (c : Bool) → in_body at n table ≡ c → T (c || inBodies (at + n + 8) ns table) →
-        (T (inBodies (at + n + 8) ns table) → word_at s (start_of table + 4 * i) ≡ 0) → word_at s (start_of table + 4 * i) ≡ 0
+        (c : Bool) → in_body at n table ≡ c → T (c || in_bodies (at + n + 8) ns table) →
+        (T (in_bodies (at + n + 8) ns table) → word_at s (start_of table + 4 * i) ≡ 0) → word_at s (start_of table + 4 * i) ≡ 0
     go true e u later = here (subst T (sym e) tt)
     go false e u later = later u
 
 -- each table after the first does
-unfoldable isInside : ℕ → Bool
-unfolding inBodies
-isInside table = cond (leb 2 table) (inBodies 248 (drop 1 sizes) table) true
+unfoldable is_inside : ℕ → Bool
+unfolding in_bodies
+is_inside table = cond (leb 2 table) (in_bodies 248 (drop 1 sizes) table) true
 
-all-inside : T (up_to isInside 20)
-unfolding isInside inBodies in_body
-all-inside = tt
+all_inside : T (up_to is_inside 20)
+unfolding is_inside in_bodies in_body
+all_inside = tt
 
-inside_of : (table : ℕ) → 2 ≤ table → table ≤ 20 → T (inBodies 248 (drop 1 sizes) table)
-unfolding isInside
-inside_of table l h = go (leb 2 table) (le→leb 2 table l) (at_each isInside 20 all-inside table h)
+inside_of : (table : ℕ) → 2 ≤ table → table ≤ 20 → T (in_bodies 248 (drop 1 sizes) table)
+unfolding is_inside
+inside_of table l h = go (leb 2 table) (le→leb 2 table l) (at_each is_inside 20 all_inside table h)
   where
-    go : (b : Bool) → T b → T (cond b (inBodies 248 (drop 1 sizes) table) true) → T (inBodies 248 (drop 1 sizes) table)
+    go : (b : Bool) → T b → T (cond b (in_bodies 248 (drop 1 sizes) table) true) → T (in_bodies 248 (drop 1 sizes) table)
     go true r t = t
     go false r t = absurd r
 
 none_above : (table : ℕ) → 20 < table → words_of table ≡ 0
-none_above table h = ap words_in (get_or-eq_default numbered noSuchTable {n = table} h)
+none_above table h = ap words_in (get_or-eq_default numbered no_such_table {n = table} h)
 
 -- ---- a month file with a table of 60 words
 
-pub length-words : (ws : List ℕ) → length (word_bytes ws) ≡ 4 * length ws
-length-words [] = refl
-length-words (w ∷ ws) = let h = length-words ws in omega arith
+pub length_words : (ws : List ℕ) → length (word_bytes ws) ≡ 4 * length ws
+length_words [] = refl
+length_words (w ∷ ws) = let h = length_words ws in omega arith
 
 module _ (index : List ℕ) (n : length index ≡ 60) where
-  file-bodies : Bodies (fileWith index) 248 (drop 1 sizes)
-  unfolding fileWith
-  file-bodies =
-      bodies _ (fourBytes 240 ++ (word_bytes index ++ fourBytes 240)) 248 (drop 1 sizes) []
+  file_bodies : Bodies (file_with index) 248 (drop 1 sizes)
+  unfolding file_with
+  file_bodies =
+      bodies _ (four_bytes 240 ++ (word_bytes index ++ four_bytes 240)) 248 (drop 1 sizes) []
       (simp (append_assoc, append-nil))
-      (omega (arith, length-append (word_bytes index) (fourBytes 240), length-words index))
+      (omega (arith, length-append (word_bytes index) (four_bytes 240), length_words index))
 
-  pub month-word : (table i : ℕ) → 2 ≤ table → i < words_of table → word_at (fileWith index) (start_of table + 4 * i) ≡ 0
-  month-word table i l h = elim (dec_lt 20 table) [
+  pub month_word : (table i : ℕ) → 2 ≤ table → i < words_of table → word_at (file_with index) (start_of table + 4 * i) ≡ 0
+  month_word table i l h = elim (dec_lt 20 table) [
     | yes q ↦ absurd (omega (arith, none_above table q))
-    | no q ↦ in-bodies (fileWith index) 248 (drop 1 sizes) file-bodies table (inside_of table l (omega (arith, q))) i h
+    | no q ↦ in_bodies_law (file_with index) 248 (drop 1 sizes) file_bodies table (inside_of table l (omega (arith, q))) i h
   ]
 
-  pub month-finite : FiniteMonth (fileWith index)
-  month-finite = record {
-    words = λ table l h i m. zero-finite (fileWith index) (start_of table + 4 * i) (month-word table i l m);
+  pub month_finite : FiniteMonth (file_with index)
+  month_finite = record {
+    words = λ table l h i m. zero_finite (file_with index) (start_of table + 4 * i) (month_word table i l m);
   }

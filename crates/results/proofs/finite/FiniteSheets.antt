@@ -15,12 +15,12 @@ use lib.Ieee.{Float, nan, fin, round, lt, le}
 use lib.Ieee.Scale.{finite}
 use lib.Ieee.Fits.{and_l, and_r}
 use Rattle.base.specs.declared.angle.Degrees.{Degrees}
-use Rattle.base.specs.Single.{decimal, minusDecimal}
+use Rattle.base.specs.Single.{decimal, minus_decimal}
 use Rattle.base.specs.Double.{fraction}
-use Rattle.base.specs.Number.{absOf}
-use Rattle.base.specs.Ranges.{isTo, isMonth}
-use Rattle.base.proofs.order.Order.{finite-between}
-use Rattle.base.proofs.order.Monotone.{abs-finite}
+use Rattle.base.specs.Number.{abs_of}
+use Rattle.base.specs.Ranges.{is_to, is_month}
+use Rattle.base.proofs.order.Order.{finite_between}
+use Rattle.base.proofs.order.Monotone.{abs_finite}
 use Rattle.results.specs.FiniteOrNot.{
   UpToPower,
   PlaceInRange,
@@ -30,75 +30,75 @@ use Rattle.results.specs.FiniteOrNot.{
   FieldsInRange,
   SoundSheet,
   PointThere,
-  pointNumber,
-  sheetPoint,
-  sheetField,
-  sheetMaps,
-  sheetLayers,
-  sheetEs,
-  sheetGround,
-  sheetRow,
-  sheetCosine,
+  point_number,
+  sheet_point,
+  sheet_field,
+  sheet_maps,
+  sheet_layers,
+  sheet_es,
+  sheet_ground,
+  sheet_row,
+  sheet_cosine,
   MapsBounded,
   CosineClear,
   LayerFigures,
   Ordinary,
 }
-use Rattle.results.proofs.numbers.Sizes.{Sized, range-between, between-range, larger}
+use Rattle.results.proofs.numbers.Sizes.{Sized, range_between, between_range, larger}
 use Rattle.results.proofs.clock.Clock.{Hour, Longitude}
 use Rattle.maps.specs.declared.inputs.Inputs.{Inputs}
 use Rattle.maps.specs.declared.geometry.PathGeometry.{PathGeometry}
-use Rattle.maps.specs.Inputs.{isLong}
-use Rattle.maps.specs.Layers.{monthlyOf}
-use Rattle.maps.specs.Figures.{SheetHour, hourFrom, hourOf, head_of, numbersOf, pointRow, sheetPath, figuresOf}
-use Rattle.results.proofs.path.Longitudes.{Typed, point-longitude}
+use Rattle.maps.specs.Inputs.{is_long}
+use Rattle.maps.specs.Layers.{monthly_of}
+use Rattle.maps.specs.Figures.{SheetHour, hour_from, hour_of, head_of, numbers_of, point_row, sheet_path, figures_of}
+use Rattle.results.proofs.path.Longitudes.{Typed, point_longitude}
 use Rattle.results.proofs.path.PointRows.{most}
-use Rattle.results.proofs.finite.FinitePath.{FinitePoint, FiniteHead, points-located, points-finite, path-finite, latitude-there}
-use Rattle.results.proofs.finite.FiniteField.{FiniteMagnetic, gyrofrequency-sized}
-use Rattle.results.proofs.finite.MagneticFinite.{gmdip-sized, points-magnetic}
+use Rattle.results.proofs.finite.FinitePath.{FinitePoint, FiniteHead, points_located, points_finite, path_finite, latitude_there}
+use Rattle.results.proofs.finite.FiniteField.{FiniteMagnetic, gyrofrequency_sized}
+use Rattle.results.proofs.finite.MagneticFinite.{gmdip_sized, points_magnetic}
 use Rattle.results.proofs.finite.FiniteLayers.{
   Fields,
   Placed,
   EsFinite,
-  cosineOf,
-  ground-finite,
-  e-height,
-  zenang-range as zenang-range-at,
-  beyond-none as beyond-none-at,
-  none-beyond as none-beyond-at,
+  cosine_of,
+  ground_finite,
+  e_height,
+  zenang_range as zenang-range-at,
+  beyond_none as beyond-none-at,
+  none_beyond as none-beyond-at,
 }
-use Rattle.results.proofs.finite.FiniteFigures.{point-mapped as mapped_at, point-es, point-layers}
-use Rattle.results.proofs.sheet.FigurePlaces.{head_at, present-at}
+use Rattle.results.proofs.finite.FiniteFigures.{point_mapped as mapped_at, point_es, point_layers}
+use Rattle.results.proofs.sheet.FigurePlaces.{head_at, present_at}
 
 -- ---- ranges as tests
 
 typed : (latd lond : Degrees) → PlaceInRange latd lond → Typed latd lond
-unfolding decimal minusDecimal round
+unfolding decimal minus_decimal round
 typed latd lond h = record {
-  latitude = range-between (minusDecimal 90 0) (decimal 90 0) latd.0 h.latitude;
-  longitude = range-between (minusDecimal 180 0) (decimal 180 0) lond.0 h.longitude;
+  latitude = range_between (minus_decimal 90 0) (decimal 90 0) latd.0 h.latitude;
+  longitude = range_between (minus_decimal 180 0) (decimal 180 0) lond.0 h.longitude;
 }
 
-hour-in : (i : Inputs) → HourInRange i → Hour i.gmt
+hour_in : (i : Inputs) → HourInRange i → Hour i.gmt
 unfolding decimal round
-hour-in i h = range-between (decimal 0 1) (decimal 24 0) i.gmt h
+hour_in i h = range_between (decimal 0 1) (decimal 24 0) i.gmt h
 
 fields_in : (i : Inputs) → FieldsInRange i → Fields i.ssn i.gmt i.psc
 unfolding decimal round
 fields_in i h = record {
-  hour = hour-in i h.hour;
-  sunspots = range-between (decimal 0 1) (decimal 300 0) i.ssn h.sunspots;
-  e = range-between (decimal 125 3) (decimal 8 0) i.psc.e h.e;
-  f1 = range-between (decimal 125 3) (decimal 8 0) i.psc.f1 h.f1;
-  f2 = range-between (decimal 125 3) (decimal 8 0) i.psc.f2 h.f2;
-  es = range-between (decimal 125 3) (decimal 8 0) i.psc.es h.es;
+  hour = hour_in i h.hour;
+  sunspots = range_between (decimal 0 1) (decimal 300 0) i.ssn h.sunspots;
+  e = range_between (decimal 125 3) (decimal 8 0) i.psc.e h.e;
+  f1 = range_between (decimal 125 3) (decimal 8 0) i.psc.f1 h.f1;
+  f2 = range_between (decimal 125 3) (decimal 8 0) i.psc.f2 h.f2;
+  es = range_between (decimal 125 3) (decimal 8 0) i.psc.es h.es;
 }
 
-up-to-finite : (n : ℕ) (x : Float) → UpToPower n x → T (finite x)
-up-to-finite n x h = abs-finite x (fin false 1 (pos n)) tt h
+up_to_finite : (n : ℕ) (x : Float) → UpToPower n x → T (finite x)
+up_to_finite n x h = abs_finite x (fin false 1 (pos n)) tt h
 
-pub ranged-finite : (lo hi x : Float) → T (finite lo) → T (finite hi) → T (isTo lo hi x) → T (finite x)
-ranged-finite lo hi x a b t = finite-between lo x hi a b (and_l (le lo x) (le x hi) t) (and_r (le lo x) (le x hi) t)
+pub ranged_finite : (lo hi x : Float) → T (finite lo) → T (finite hi) → T (is_to lo hi x) → T (finite x)
+ranged_finite lo hi x a b t = finite_between lo x hi a b (and_l (le lo x) (le x hi) t) (and_r (le lo x) (le x hi) t)
 
 -- ---- lists of finite numbers
 infixr 50 ◌and◌
@@ -106,24 +106,24 @@ data Finite : List Float → Type 0 where
   none : Finite []
   ◌and◌ : {x : Float} {xs : List Float} → T (finite x) → Finite xs → Finite (x ∷ xs)
 
-finite-at : (l : List Float) → Finite l → (k : ℕ) → k < length l → T (finite (get_or l k nan))
-finite-at [] h k b = absurd (not-suc-le-zero b)
-finite-at (x ∷ xs) (p and ps) zero b = p
-finite-at (x ∷ xs) (p and ps) (suc k) b = finite-at xs ps k (le_of_suc-le-suc b)
+finite_at : (l : List Float) → Finite l → (k : ℕ) → k < length l → T (finite (get_or l k nan))
+finite_at [] h k b = absurd (not-suc-le-zero b)
+finite_at (x ∷ xs) (p and ps) zero b = p
+finite_at (x ∷ xs) (p and ps) (suc k) b = finite_at xs ps k (le_of_suc-le-suc b)
 
-six-finite : (g : PathGeometry) → FiniteHead g → Finite (head_of g)
+six_finite : (g : PathGeometry) → FiniteHead g → Finite (head_of g)
 unfolding head_of
-six-finite g p = p.gcd and p.gcd_km and p.btr and p.brt and p.rlatd and p.alatd and none
+six_finite g p = p.gcd and p.gcd_km and p.btr and p.brt and p.rlatd and p.alatd and none
 
-abbrev longWay : Inputs → Bool
-longWay i = isLong i.route.long_path
+abbrev long_way : Inputs → Bool
+long_way i = is_long i.route.long_path
 
 at_most : (i : Inputs) (p : ℕ) → PointThere i p → p - 1 < 5
-unfolding sheetPath
+unfolding sheet_path
 at_most i p t =
     let a = t.first in
     let b = t.last in
-    let m = most i.route.tlat i.route.tlong i.route.rlat i.route.rlong (longWay i) i.pole in
+    let m = most i.route.tlat i.route.tlong i.route.rlat i.route.rlong (long_way i) i.pole in
     omega arith
 
 module _ (i : Inputs) (r : EndsInRange i) where
@@ -134,79 +134,79 @@ module _ (i : Inputs) (r : EndsInRange i) where
   rx = typed _ _ r.receiver
 
   -- NO NaN ON THE PATH: its six figures, of any files
-  pub sheet-path-finite : (f2 file : List ℕ) (k : ℕ) → k < 6 → T (finite (get_or (figuresOf f2 file i) k nan))
-  unfolding sheetPath head_of
-  sheet-path-finite f2 file k b =
+  pub sheet_path_finite : (f2 file : List ℕ) (k : ℕ) → k < 6 → T (finite (get_or (figures_of f2 file i) k nan))
+  unfolding sheet_path head_of
+  sheet_path_finite f2 file k b =
       subst (λ (x : Float). T (finite x)) (sym (head_at f2 file i k b))
-      (finite-at (head_of (sheetPath i))
-      (six-finite (sheetPath i) (path-finite _ _ _ _ tx rx (longWay i) i.pole))
+      (finite_at (head_of (sheet_path i))
+      (six_finite (sheet_path i) (path_finite _ _ _ _ tx rx (long_way i) i.pole))
       k b)
 
   module _ (p : ℕ) (t : PointThere i p) where
-    lat-there : Sized (fin false 1 (pos 5)) (sheetPoint i p).lat.0
-    unfolding sheetPath
-    lat-there = latitude-there _ _ _ _ tx rx (longWay i) i.pole (p - 1) (at_most i p t)
+    lat_there : Sized (fin false 1 (pos 5)) (sheet_point i p).lat.0
+    unfolding sheet_path
+    lat_there = latitude_there _ _ _ _ tx rx (long_way i) i.pole (p - 1) (at_most i p t)
 
-    lon-there : Longitude (sheetPoint i p).lon.0
-    unfolding sheetPath
-    lon-there = point-longitude _ _ _ _ tx rx (longWay i) i.pole (p - 1) (at_most i p t)
+    lon_there : Longitude (sheet_point i p).lon.0
+    unfolding sheet_path
+    lon_there = point_longitude _ _ _ _ tx rx (long_way i) i.pole (p - 1) (at_most i p t)
 
 module _ (i : Inputs) (r : RouteInRange i) where
-  pole-in : Typed i.pole.lat i.pole.lon
-  pole-in = typed _ _ r.pole
+  pole_in : Typed i.pole.lat i.pole.lon
+  pole_in = typed _ _ r.pole
 
   module _ (p : ℕ) (t : PointThere i p) where
-    point-finite : FinitePoint (sheetPoint i p)
-    unfolding sheetPath
-    point-finite = points-finite _ _ _ _ (tx i r.ends) (rx i r.ends) (longWay i) i.pole pole-in (p - 1) (at_most i p t)
+    point_finite : FinitePoint (sheet_point i p)
+    unfolding sheet_path
+    point_finite = points_finite _ _ _ _ (tx i r.ends) (rx i r.ends) (long_way i) i.pole pole_in (p - 1) (at_most i p t)
 
-    field-finite : FiniteMagnetic (sheetField i p)
-    unfolding sheetPath
-    field-finite = points-magnetic _ _ _ _ (tx i r.ends) (rx i r.ends) (longWay i) i.pole pole-in (p - 1) (at_most i p t)
+    field_finite : FiniteMagnetic (sheet_field i p)
+    unfolding sheet_path
+    field_finite = points_magnetic _ _ _ _ (tx i r.ends) (rx i r.ends) (long_way i) i.pole pole_in (p - 1) (at_most i p t)
 
     -- what `FiniteFigures` asks of a point
-    point-placed : Placed (sheetPoint i p) (sheetField i p)
-    unfolding sheetPath le
-    point-placed =
-        let w = points-located _ _ _ _ (tx i r.ends) (rx i r.ends) (longWay i) i.pole pole-in (p - 1) (at_most i p t) in
+    point_placed : Placed (sheet_point i p) (sheet_field i p)
+    unfolding sheet_path le
+    point_placed =
+        let w = points_located _ _ _ _ (tx i r.ends) (rx i r.ends) (long_way i) i.pole pole_in (p - 1) (at_most i p t) in
         record {
           lat = w.lat;
           lon = w.lon;
           gmlat = w.gmlat;
-          gyz = gyrofrequency-sized _ _ w.lat w.lon;
-          gmdip = larger (fin false 1 (pos 5)) tt (gmdip-sized _ _ w.lat w.lon);
+          gyz = gyrofrequency_sized _ _ w.lat w.lon;
+          gmdip = larger (fin false 1 (pos 5)) tt (gmdip_sized _ _ w.lat w.lon);
         }
 
 module _ (f2 file : List ℕ) (i : Inputs) (p : ℕ) where
   abbrev h : SheetHour
-  h = hourOf f2 file i
+  h = hour_of f2 file i
 
   -- the names of a row in their places
-  pub point-numbers : (k : ℕ) → PointThere i p → k < 29
-      → pointNumber f2 file i p k ≡ get_or (sheetRow f2 file i p) k nan
-  unfolding pointRow
-  point-numbers k t b = present-at f2 file i p k t.first t.last b
+  pub point_numbers_law : (k : ℕ) → PointThere i p → k < 29
+      → point_number f2 file i p k ≡ get_or (sheet_row f2 file i p) k nan
+  unfolding point_row
+  point_numbers_law k t b = present_at f2 file i p k t.first t.last b
 
   -- the cosine of the layers is that of the month
-  cosine-is : cosineOf (hourOf f2 file i).monthly i.gmt (sheetPoint i p) ≡ sheetCosine i p
-  unfolding hourOf hourFrom monthlyOf
-  cosine-is = refl
+  cosine_is : cosine_of (hour_of f2 file i).monthly i.gmt (sheet_point i p) ≡ sheet_cosine i p
+  unfolding hour_of hour_from monthly_of
+  cosine_is = refl
 
   constants :
-      T (finite (get_or (sheetLayers f2 file i p).yi 0 nan)) × T (finite (get_or (sheetLayers f2 file i p).hi 0 nan))
+      T (finite (get_or (sheet_layers f2 file i p).yi 0 nan)) × T (finite (get_or (sheet_layers f2 file i p).hi 0 nan))
   unfolding decimal round
   constants =
       let k =
-      e-height h.monthly i.ssn i.gmt i.psc h.hmym (sheetPoint i p) (sheetField i p) (sheetMaps f2 file i p) in
+      e_height h.monthly i.ssn i.gmt i.psc h.hmym (sheet_point i p) (sheet_field i p) (sheet_maps f2 file i p) in
       (subst (λ (x : Float). T (finite x)) (sym k.0) tt, subst (λ (x : Float). T (finite x)) (sym k.1) tt)
 
-  row-finite :
-      FinitePoint (sheetPoint i p) → FiniteMagnetic (sheetField i p) →
-      LayerFigures (sheetCosine i p) (sheetLayers f2 file i p) → Ordinary (sheetCosine i p) (sheetLayers f2 file i p) →
-      EsFinite (sheetEs f2 file i p) → Finite (pointRow h i (sheetPoint i p))
-  unfolding pointRow numbersOf decimal round
-  row-finite a b c o d =
-      let g = ground-finite h.monthly h.fakmap (sheetPoint i p).lat (sheetField i p).east_lon in
+  row_finite :
+      FinitePoint (sheet_point i p) → FiniteMagnetic (sheet_field i p) →
+      LayerFigures (sheet_cosine i p) (sheet_layers f2 file i p) → Ordinary (sheet_cosine i p) (sheet_layers f2 file i p) →
+      EsFinite (sheet_es f2 file i p) → Finite (point_row h i (sheet_point i p))
+  unfolding point_row numbers_of decimal round
+  row_finite a b c o d =
+      let g = ground_finite h.monthly h.fakmap (sheet_point i p).lat (sheet_field i p).east_lon in
       a.rd
       and a.lat
       and a.lon
@@ -214,22 +214,22 @@ module _ (f2 file : List ℕ) (i : Inputs) (p : ℕ) where
       and b.gyz
       and b.gmdip
       and b.east_lon
-      and ranged-finite (fin false 1 (negsuc 4)) (fin false 1 (pos 53)) _ tt tt c.fi0
-      and up-to-finite 55 _ c.fi1
-      and up-to-finite 54 _ c.fi2
+      and ranged_finite (fin false 1 (negsuc 4)) (fin false 1 (pos 53)) _ tt tt c.fi0
+      and up_to_finite 55 _ c.fi1
+      and up_to_finite 54 _ c.fi2
       and constants.0
-      and up-to-finite 126 _ (c.yi1 o.f2m3 o.f1)
-      and up-to-finite 126 _ (c.yi2 o.cosine o.f2m3 o.f1)
+      and up_to_finite 126 _ (c.yi1 o.f2m3 o.f1)
+      and up_to_finite 126 _ (c.yi2 o.cosine o.f2m3 o.f1)
       and constants.1
-      and up-to-finite 126 _ (c.hi1 o.f2m3 o.f1)
-      and up-to-finite 126 _ (c.hi2 o.f2m3 o.f1)
-      and up-to-finite 50 _ c.f2m3
-      and up-to-finite 71 _ (c.hpf2 o.f2m3)
-      and ranged-finite (fin false 1 (pos 0)) (fin false 1 (pos 111)) _ tt tt (c.rat o.cosine)
-      and up-to-finite 125 _ (c.abiy o.e)
+      and up_to_finite 126 _ (c.hi1 o.f2m3 o.f1)
+      and up_to_finite 126 _ (c.hi2 o.f2m3 o.f1)
+      and up_to_finite 50 _ c.f2m3
+      and up_to_finite 71 _ (c.hpf2 o.f2m3)
+      and ranged_finite (fin false 1 (pos 0)) (fin false 1 (pos 111)) _ tt tt (c.rat o.cosine)
+      and up_to_finite 125 _ (c.abiy o.e)
       and c.clck
-      and ranged-finite (decimal 0 1) (decimal 2300 1) _ tt tt (c.zenang o.cosine)
-      and up-to-finite 27 _ c.zenmax
+      and ranged_finite (decimal 0 1) (decimal 2300 1) _ tt tt (c.zenang o.cosine)
+      and up_to_finite 27 _ c.zenmax
       and d.fs0
       and d.fs1
       and d.fs2
@@ -239,42 +239,42 @@ module _ (f2 file : List ℕ) (i : Inputs) (p : ℕ) where
       and none
 
   -- from 0 to 230 degrees, of any inputs and files
-  pub zenang-range : CosineClear (sheetCosine i p) → T (isTo (decimal 0 1) (decimal 2300 1) (sheetLayers f2 file i p).zenang.0)
-  unfolding hourOf hourFrom monthlyOf
-  zenang-range w =
-      between-range (zenang-range-at h.monthly i.ssn i.gmt i.psc h.hmym (sheetPoint i p) (sheetField i p) (sheetMaps f2 file i p) w)
+  pub zenang_range : CosineClear (sheet_cosine i p) → T (is_to (decimal 0 1) (decimal 2300 1) (sheet_layers f2 file i p).zenang.0)
+  unfolding hour_of hour_from monthly_of
+  zenang_range w =
+      between_range (zenang-range-at h.monthly i.ssn i.gmt i.psc h.hmym (sheet_point i p) (sheet_field i p) (sheet_maps f2 file i p) w)
 
   module _ (t : PointThere i p) where
     -- the ground pair, of any inputs and files
-    pub sheet-ground-finite : (k : ℕ) → k < 2 → T (finite (pointNumber f2 file i p (27 + k)))
-    unfolding numbersOf
-    sheet-ground-finite k b =
-        subst (λ (x : Float). T (finite x)) (sym (point-numbers (27 + k) t (omega arith)))
+    pub sheet_ground_finite : (k : ℕ) → k < 2 → T (finite (point_number f2 file i p (27 + k)))
+    unfolding numbers_of
+    sheet_ground_finite k b =
+        subst (λ (x : Float). T (finite x)) (sym (point_numbers_law (27 + k) t (omega arith)))
         (two k b)
       where
-        g : T (finite (sheetGround f2 file i p).0) × T (finite (sheetGround f2 file i p).1)
-        g = ground-finite h.monthly h.fakmap (sheetPoint i p).lat (sheetField i p).east_lon
+        g : T (finite (sheet_ground f2 file i p).0) × T (finite (sheet_ground f2 file i p).1)
+        g = ground_finite h.monthly h.fakmap (sheet_point i p).lat (sheet_field i p).east_lon
 
-        two : (k : ℕ) → k < 2 → T (finite (get_or (sheetRow f2 file i p) (27 + k) nan))
+        two : (k : ℕ) → k < 2 → T (finite (get_or (sheet_row f2 file i p) (27 + k) nan))
         two zero h = g.0
         two (suc zero) h = g.1
         two (suc (suc k)) h = absurd (omega arith)
 
     -- NO NaN ON THE PATH: the seven numbers of each point that is there and of the field there, of
     -- any files
-    pub sheet-point-finite : RouteInRange i → (k : ℕ) → k < 7 → T (finite (pointNumber f2 file i p k))
-    unfolding numbersOf
-    sheet-point-finite r k b =
-        subst (λ (x : Float). T (finite x)) (sym (point-numbers k t (omega arith)))
+    pub sheet_point_finite : RouteInRange i → (k : ℕ) → k < 7 → T (finite (point_number f2 file i p k))
+    unfolding numbers_of
+    sheet_point_finite r k b =
+        subst (λ (x : Float). T (finite x)) (sym (point_numbers_law k t (omega arith)))
         (seven k b)
       where
-        a : FinitePoint (sheetPoint i p)
-        a = point-finite i r p t
+        a : FinitePoint (sheet_point i p)
+        a = point_finite i r p t
 
-        f : FiniteMagnetic (sheetField i p)
-        f = field-finite i r p t
+        f : FiniteMagnetic (sheet_field i p)
+        f = field_finite i r p t
 
-        seven : (k : ℕ) → k < 7 → T (finite (get_or (sheetRow f2 file i p) k nan))
+        seven : (k : ℕ) → k < 7 → T (finite (get_or (sheet_row f2 file i p) k nan))
         seven zero h = a.rd
         seven (suc zero) h = a.lat
         seven (suc (suc zero)) h = a.lon
@@ -285,36 +285,36 @@ module _ (f2 file : List ℕ) (i : Inputs) (p : ℕ) where
         seven (suc (suc (suc (suc (suc (suc (suc k))))))) h = absurd (omega arith)
 
     -- NO ZENITH ANGLE exactly where the cosine came out beyond 1 in size, of any files
-    module _ (r : EndsInRange i) (f : HourInRange i) (month : T (isMonth i.month)) where
+    module _ (r : EndsInRange i) (f : HourInRange i) (month : T (is_month i.month)) where
       months : (1 ≤ i.month) × (i.month ≤ 12)
       months =
           let a = leb 1 i.month in
           let b = leb i.month 12 in
           (leb→le 1 i.month (and_l a b month), leb→le i.month 12 (and_r a b month))
 
-      pub beyond-none : T (lt (fraction 1 1) (absOf (sheetCosine i p))) → (sheetLayers f2 file i p).zenang.0 ≡ nan
-      unfolding hourOf hourFrom monthlyOf
-      beyond-none e =
-          beyond-none-at file i.month i.ssn i.gmt i.psc h.hmym (sheetPoint i p) (sheetField i p)
-          (sheetMaps f2 file i p) months.0 months.1 (hour-in i f) (lat-there i r p t) (lon-there i r p t) e
+      pub beyond_none : T (lt (fraction 1 1) (abs_of (sheet_cosine i p))) → (sheet_layers f2 file i p).zenang.0 ≡ nan
+      unfolding hour_of hour_from monthly_of
+      beyond_none e =
+          beyond-none-at file i.month i.ssn i.gmt i.psc h.hmym (sheet_point i p) (sheet_field i p)
+          (sheet_maps f2 file i p) months.0 months.1 (hour_in i f) (lat_there i r p t) (lon_there i r p t) e
 
-      pub none-beyond : (sheetLayers f2 file i p).zenang.0 ≡ nan → T (lt (fraction 1 1) (absOf (sheetCosine i p)))
-      unfolding hourOf hourFrom monthlyOf
-      none-beyond e =
-          none-beyond-at file i.month i.ssn i.gmt i.psc h.hmym (sheetPoint i p) (sheetField i p)
-          (sheetMaps f2 file i p) months.0 months.1 (hour-in i f) (lat-there i r p t) (lon-there i r p t) e
+      pub none_beyond : (sheet_layers f2 file i p).zenang.0 ≡ nan → T (lt (fraction 1 1) (abs_of (sheet_cosine i p)))
+      unfolding hour_of hour_from monthly_of
+      none_beyond e =
+          none-beyond-at file i.month i.ssn i.gmt i.psc h.hmym (sheet_point i p) (sheet_field i p)
+          (sheet_maps f2 file i p) months.0 months.1 (hour_in i f) (lat_there i r p t) (lon_there i r p t) e
 
     -- ---- of a sound sheet
     module _ (s : SoundSheet f2 file i) where
-      placed : Placed (sheetPoint i p) (sheetField i p)
-      placed = point-placed i s.route p t
+      placed : Placed (sheet_point i p) (sheet_field i p)
+      placed = point_placed i s.route p t
 
       fields : Fields i.ssn i.gmt i.psc
       fields = fields_in i s.fields
 
-      pub point-mapped : MapsBounded (sheetMaps f2 file i p)
-      point-mapped =
-          let g = mapped_at f2 file i s.bounded s.index fields (sheetPoint i p) placed in
+      pub point_mapped : MapsBounded (sheet_maps f2 file i p)
+      point_mapped =
+          let g = mapped_at f2 file i s.bounded s.index fields (sheet_point i p) placed in
           record {
             g1 = g.g1.size;
             g2 = g.g2.size;
@@ -324,35 +324,35 @@ module _ (f2 file : List ℕ) (i : Inputs) (p : ℕ) where
             g6 = g.g6.size;
           }
 
-      es-finite : EsFinite (sheetEs f2 file i p)
-      es-finite = point-es f2 file i s.bounded s.index fields (sheetPoint i p) placed
+      es_finite : EsFinite (sheet_es f2 file i p)
+      es_finite = point_es f2 file i s.bounded s.index fields (sheet_point i p) placed
 
       -- sporadic E
-      pub sheet-es-finite : (k : ℕ) → k < 4 → T (finite (pointNumber f2 file i p (23 + k)))
-      unfolding numbersOf
-      sheet-es-finite k b =
-          subst (λ (x : Float). T (finite x)) (sym (point-numbers (23 + k) t (omega arith)))
+      pub sheet_es_finite : (k : ℕ) → k < 4 → T (finite (point_number f2 file i p (23 + k)))
+      unfolding numbers_of
+      sheet_es_finite k b =
+          subst (λ (x : Float). T (finite x)) (sym (point_numbers_law (23 + k) t (omega arith)))
           (four k b)
         where
-          four : (k : ℕ) → k < 4 → T (finite (get_or (sheetRow f2 file i p) (23 + k) nan))
-          four zero h = es-finite.fs0
-          four (suc zero) h = es-finite.fs1
-          four (suc (suc zero)) h = es-finite.fs2
-          four (suc (suc (suc zero))) h = es-finite.hs
+          four : (k : ℕ) → k < 4 → T (finite (get_or (sheet_row f2 file i p) (23 + k) nan))
+          four zero h = es_finite.fs0
+          four (suc zero) h = es_finite.fs1
+          four (suc (suc zero)) h = es_finite.fs2
+          four (suc (suc (suc zero))) h = es_finite.hs
           four (suc (suc (suc (suc k)))) h = absurd (omega arith)
 
       -- each figure of the layers
-      pub sheet-layers : LayerFigures (sheetCosine i p) (sheetLayers f2 file i p)
-      sheet-layers =
-          subst (λ (c : Float). LayerFigures c (sheetLayers f2 file i p)) cosine-is
-          (point-layers f2 file i s.bounded s.index fields (sheetPoint i p) placed)
+      pub sheet_layers_law : LayerFigures (sheet_cosine i p) (sheet_layers f2 file i p)
+      sheet_layers_law =
+          subst (λ (c : Float). LayerFigures c (sheet_layers f2 file i p)) cosine_is
+          (point_layers f2 file i s.bounded s.index fields (sheet_point i p) placed)
 
       -- ALL 29 NUMBERS of an ordinary point
-      pub sheet-finite :
-          Ordinary (sheetCosine i p) (sheetLayers f2 file i p) →
-          (k : ℕ) → k < 29 → T (finite (pointNumber f2 file i p k))
-      sheet-finite o k b =
-          subst (λ (x : Float). T (finite x)) (sym (present-at f2 file i p k t.first t.last b))
-          (finite-at (pointRow h i (sheetPoint i p))
-          (row-finite (point-finite i s.route p t) (field-finite i s.route p t) sheet-layers o es-finite)
-          k (unfold pointRow numbersOf in b))
+      pub sheet_finite :
+          Ordinary (sheet_cosine i p) (sheet_layers f2 file i p) →
+          (k : ℕ) → k < 29 → T (finite (point_number f2 file i p k))
+      sheet_finite o k b =
+          subst (λ (x : Float). T (finite x)) (sym (present_at f2 file i p k t.first t.last b))
+          (finite_at (point_row h i (sheet_point i p))
+          (row_finite (point_finite i s.route p t) (field_finite i s.route p t) sheet_layers_law o es_finite)
+          k (unfold point_row numbers_of in b))

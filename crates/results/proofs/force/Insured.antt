@@ -13,56 +13,56 @@ use lib.ListN.{length}
 use lib.Ieee.{Float}
 use Rattle.base.specs.declared.refusal.Verdict.{Verdict}
 use Rattle.base.specs.declared.refusal.Verdict.TheVariants.{Accepted, Refused}
-use Rattle.base.specs.Refusal.{◌then◌, writtenOver}
-use Rattle.base.proofs.verdicts.Refusals.{then-both}
+use Rattle.base.specs.Refusal.{◌then◌, written_over}
+use Rattle.base.proofs.verdicts.Refusals.{then_both}
 use Rattle.maps.specs.declared.geometry.Uses.{Uses}
 use Rattle.maps.specs.declared.inputs.Inputs.{Inputs}
 use Rattle.maps.specs.declared.figures.Shown.TheVariants.{Points}
-use Rattle.base.specs.Files.{filesCheck}
-use Rattle.maps.specs.Figures.{sheetPath, figuresOf, pointsOr}
+use Rattle.base.specs.Files.{files_check}
+use Rattle.maps.specs.Figures.{sheet_path, figures_of, points_or}
 use Rattle.worksheet.specs.declared.inputs.Edit.{Edit}
 use Rattle.worksheet.specs.declared.desks.Worksheet.{Worksheet}
 use Rattle.worksheet.specs.declared.desks.Draft.TheVariants.{Fresh}
-use Rattle.worksheet.specs.Desks.{draftAt, freshSheet, openOf}
-use Rattle.worksheet.specs.Showing.{Source, inputsShown, bufferCheck, drawnCheck, judgedCheck, showCheck, showOf, showBuffer}
-use Rattle.worksheet.specs.Journal.{Call, begin, commit, cancel, change, takeBack, show, shown, Role, beginning, ending, settling, belonging, returning, showing, roleOf, Entry, accepted, roleIn, good, Step, step, entry_of, run, isBegin, isOwn, begins, belongs, own, none}
-use Rattle.worksheet.specs.InForce.{editsIn, editsOf, AcceptedCommit, changesBy, inputsBy, Force, forceIn, forceAfter, commitsInForce, inForce, FiguresOf, disturbs, DraftUndisturbed, CommitInForce, InForceBy}
-use Rattle.worksheet.proofs.drafts.Drafts.{atRest, rest-none}
-use Rattle.worksheet.proofs.drafts.Effects.{Accepts, begun, begin-leaves, desk-put}
+use Rattle.worksheet.specs.Desks.{draft_at, fresh_sheet, open_of}
+use Rattle.worksheet.specs.Showing.{Source, inputs_shown, buffer_check, drawn_check, judged_check, show_check, show_of, show_buffer}
+use Rattle.worksheet.specs.Journal.{Call, begin, commit, cancel, change, take_back, show, shown, Role, beginning, ending, settling, belonging, returning, showing, role_of, Entry, accepted, role_in, good, Step, step, entry_of, run, is_begin, is_own, begins, belongs, own, none}
+use Rattle.worksheet.specs.InForce.{edits_in, edits_of, AcceptedCommit, changes_by, inputs_by, Force, force_in, force_after, commits_in_force, in_force, FiguresOf, disturbs, DraftUndisturbed, CommitInForce, InForceBy}
+use Rattle.worksheet.proofs.drafts.Drafts.{at_rest, rest_none}
+use Rattle.worksheet.proofs.drafts.Effects.{Accepts, begun, begin_leaves, desk_put}
 use Rattle.worksheet.proofs.lists.Rules.{law}
-use Rattle.results.proofs.lists.Kept.{◌∈◌, own-member, own-calls, none_first}
-use Rattle.results.proofs.force.Tracked.{force-still, quiet-still, begin-still, quiet-unbegun, Holds, start-holds, run_holds}
-use Rattle.results.proofs.force.Lasting.{commits-exactly, left-source}
+use Rattle.results.proofs.lists.Kept.{◌∈◌, own_member, own_calls, none_first}
+use Rattle.results.proofs.force.Tracked.{force_still, quiet_still, begin_still, quiet_unbegun, Holds, start_holds, run_holds}
+use Rattle.results.proofs.force.Lasting.{commits_exactly, left_source}
 
 -- ---- lists read backwards
 
-reverse-split : (late : List Entry) (b : Entry) (front : List Entry) → reverse (late ++ (b ∷ front)) ≡ reverse front ++ (b ∷ reverse late)
-reverse-split late b front =
+reverse_split : (late : List Entry) (b : Entry) (front : List Entry) → reverse (late ++ (b ∷ front)) ≡ reverse front ++ (b ∷ reverse late)
+reverse_split late b front =
     reverse-append late (b ∷ front)
     ∙ ap (λ (l : List Entry). l ++ reverse late) (reverse-cons b front)
     ∙ append_assoc (reverse front) (b ∷ []) (reverse late)
 
-none-reverse : (p : Entry → Bool) (l r : List Entry) → none p l ≡ true → none p r ≡ true → none p (reverse_aux l r) ≡ true
+none_reverse : (p : Entry → Bool) (l r : List Entry) → none p l ≡ true → none p r ≡ true → none p (reverse_aux l r) ≡ true
 unfolding none
-none-reverse p [] r g h = h
-none-reverse p (x ∷ l) r g h =
+none_reverse p [] r g h = h
+none_reverse p (x ∷ l) r g h =
     let f = none_first p x l g in
-    none-reverse p l (x ∷ r) f.1 (ap (λ (z : Bool). not z && none p r) f.0 ∙ h)
+    none_reverse p l (x ∷ r) f.1 (ap (λ (z : Bool). not z && none p r) f.0 ∙ h)
 
-none-begins : (n : ℕ) (l : List Entry) → none (disturbs n) l ≡ true → none (begins n) l ≡ true
+none_begins : (n : ℕ) (l : List Entry) → none (disturbs n) l ≡ true → none (begins n) l ≡ true
 unfolding none
-none-begins n [] h = refl
-none-begins n (x ∷ l) h =
+none_begins n [] h = refl
+none_begins n (x ∷ l) h =
     let f = none_first (disturbs n) x l h in
-    ap (λ (z : Bool). not z && none (begins n) l) (quiet-unbegun n (roleIn x) (good x) f.0) ∙ none-begins n l f.1
+    ap (λ (z : Bool). not z && none (begins n) l) (quiet_unbegun n (role_in x) (good x) f.0) ∙ none_begins n l f.1
 
 -- what is in force stays from desk n's begin on, while nothing disturbs its draft
-force-since : (f : Force) (n : ℕ) (late : List Entry) (b : Entry) (front : List Entry) → begins n b ≡ true → none (disturbs n) late ≡ true
-    → forceAfter f (late ++ (b ∷ front)) ≡ forceAfter f front
-force-since f n [] b front g h = force-still f b front (begin-still n (roleIn b) (good b) g)
-force-since f n (x ∷ late) b front g h =
+force_since : (f : Force) (n : ℕ) (late : List Entry) (b : Entry) (front : List Entry) → begins n b ≡ true → none (disturbs n) late ≡ true
+    → force_after f (late ++ (b ∷ front)) ≡ force_after f front
+force_since f n [] b front g h = force_still f b front (begin_still n (role_in b) (good b) g)
+force_since f n (x ∷ late) b front g h =
     let d = none_first (disturbs n) x late h in
-    force-still f x (late ++ (b ∷ front)) (quiet-still n (roleIn x) (good x) d.0) ∙ force-since f n late b front g d.1
+    force_still f x (late ++ (b ∷ front)) (quiet_still n (role_in x) (good x) d.0) ∙ force_since f n late b front g d.1
 
 -- ---- an entry of a run
 
@@ -73,18 +73,18 @@ module _ (source : Source) (w : Worksheet) where
     pub ran : (run source calls w).entries ≡ before
     pub there : x ≡ entry_of source x.call (run source calls w).sheet
 
-pub run-split : (source : Source) (cs : List Call) (w : Worksheet) (before : List Entry) (x : Entry) (later : List Entry)
+pub run_split : (source : Source) (cs : List Call) (w : Worksheet) (before : List Entry) (x : Entry) (later : List Entry)
     → (run source cs w).entries ≡ before ++ (x ∷ later) → At source w before x
 unfolding run
-run-split source [] w [] x later h = absurd (nil≢cons h)
-run-split source [] w (z ∷ before) x later h = absurd (nil≢cons h)
-run-split source (c ∷ cs) w [] x later h = record {
+run_split source [] w [] x later h = absurd (nil≢cons h)
+run_split source [] w (z ∷ before) x later h = absurd (nil≢cons h)
+run_split source (c ∷ cs) w [] x later h = record {
   calls = [];
   ran = refl;
   there = subst (λ (z : Entry). z ≡ entry_of source z.call w) (head-eq_of_cons-eq h) refl;
 }
-run-split source (c ∷ cs) w (z ∷ before) x later h =
-    let r = run-split source cs (step source c w).sheet before x later (tail-eq_of_cons-eq h) in
+run_split source (c ∷ cs) w (z ∷ before) x later h =
+    let r = run_split source cs (step source c w).sheet before x later (tail-eq_of_cons-eq h) in
     record {
       calls = c ∷ r.calls;
       ran = ap₂ (λ (y : Entry) (l : List Entry). y ∷ l) (head-eq_of_cons-eq h) r.ran;
@@ -92,193 +92,193 @@ run-split source (c ∷ cs) w (z ∷ before) x later h =
     }
 
 -- what stands before an entry of a run is the run of the calls before
-pub run-before : (source : Source) (cs : List Call) (w : Worksheet) (before : List Entry) (x : Entry) (later : List Entry)
+pub run_before : (source : Source) (cs : List Call) (w : Worksheet) (before : List Entry) (x : Entry) (later : List Entry)
     → (run source cs w).entries ≡ before ++ (x ∷ later) → (calls : List Call) × ((run source calls w).entries ≡ before)
-run-before source cs w before x later h = let a = run-split source cs w before x later h in (a.calls, a.ran)
+run_before source cs w before x later h = let a = run_split source cs w before x later h in (a.calls, a.ran)
 
 -- the invariant holds at every entry
-at-holds : (source : Source) (w : Worksheet) → atRest w ≡ w → (before : List Entry) (x : Entry) (a : At source w before x)
-    → Holds (forceIn w) (reverse before) (run source a.calls w).sheet
-at-holds source w rest before x a =
-    subst (λ (l : List Entry). Holds (forceIn w) (reverse l) (run source a.calls w).sheet) a.ran
-    (run_holds source (forceIn w) a.calls [] w (start-holds w (rest-none w rest)))
+at_holds : (source : Source) (w : Worksheet) → at_rest w ≡ w → (before : List Entry) (x : Entry) (a : At source w before x)
+    → Holds (force_in w) (reverse before) (run source a.calls w).sheet
+at_holds source w rest before x a =
+    subst (λ (l : List Entry). Holds (force_in w) (reverse l) (run source a.calls w).sheet) a.ran
+    (run_holds source (force_in w) a.calls [] w (start_holds w (rest_none w rest)))
 
 -- ---- THE INPUTS IN FORCE ARE THE WORKSHEET'S
 
 -- over any source of files, of every worksheet whose desks are closed, after every list of calls
-pub in-force : (source : Source) (w : Worksheet) → atRest w ≡ w → (cs : List Call)
-    → (run source cs w).sheet.inputs ≡ inForce w (run source cs w).entries
-unfolding inForce
-in-force source w rest cs = (run_holds source (forceIn w) cs [] w (start-holds w (rest-none w rest))).at-present
+pub in_force_law : (source : Source) (w : Worksheet) → at_rest w ≡ w → (cs : List Call)
+    → (run source cs w).sheet.inputs ≡ in_force w (run source cs w).entries
+unfolding in_force
+in_force_law source w rest cs = (run_holds source (force_in w) cs [] w (start_holds w (rest_none w rest))).at_present
 
 -- and what an accepted begin copies, after every list of calls, is the inputs in force then
-pub begun-in-force : (source : Source) (w : Worksheet) → atRest w ≡ w → (cs : List Call) (n : ℕ) → let s = run source cs w in
-    Accepts source (begin n) s.sheet → draftAt n (step source (begin n) s.sheet).sheet ≡ Fresh (inForce w s.entries)
-begun-in-force source w rest cs n a =
+pub begun_in_force : (source : Source) (w : Worksheet) → at_rest w ≡ w → (cs : List Call) (n : ℕ) → let s = run source cs w in
+    Accepts source (begin n) s.sheet → draft_at n (step source (begin n) s.sheet).sheet ≡ Fresh (in_force w s.entries)
+begun_in_force source w rest cs n a =
     let s = (run source cs w).sheet in
     let b = begun source n s a in
-    ap (λ (t : Step). draftAt n t.sheet) (begin-leaves source n s b)
-    ∙ desk-put n (Fresh s.inputs) s b.desk
-    ∙ ap Fresh (in-force source w rest cs)
+    ap (λ (t : Step). draft_at n t.sheet) (begin_leaves source n s b)
+    ∙ desk_put n (Fresh s.inputs) s b.desk
+    ∙ ap Fresh (in_force_law source w rest cs)
 
 -- the same of every worksheet that open gives
-pub opened-in-force : (source : Source) (opened : Inputs) → (openOf opened).answer ≡ Accepted → (cs : List Call)
-    → (run source cs (openOf opened).sheet).sheet.inputs ≡ inForce (openOf opened).sheet (run source cs (openOf opened).sheet).entries
-unfolding openOf freshSheet
-opened-in-force source opened given cs = in-force source (openOf opened).sheet refl cs
+pub opened_in_force : (source : Source) (opened : Inputs) → (open_of opened).answer ≡ Accepted → (cs : List Call)
+    → (run source cs (open_of opened).sheet).sheet.inputs ≡ in_force (open_of opened).sheet (run source cs (open_of opened).sheet).entries
+unfolding open_of fresh_sheet
+opened_in_force source opened given cs = in_force_law source (open_of opened).sheet refl cs
 
 -- ---- THE INSURER'S LINE
 
 -- an accepted showing on the worksheet s, of its inputs or of a desk
-pub shown-figures : (source : Source) (n : ℕ) (s : Worksheet) (lent after : List Float) (count : ℕ) (uses : Uses)
-    → shown (Points count uses) after ≡ (step source (show n lent) s).answer → FiguresOf source (inputsShown n s) count uses after
-unfolding step showOf showBuffer showCheck drawnCheck
-shown-figures source n s lent after count uses h =
-    go (judgedCheck n s then drawnCheck (source i) (length lent)) refl h
+pub shown_figures : (source : Source) (n : ℕ) (s : Worksheet) (lent after : List Float) (count : ℕ) (uses : Uses)
+    → shown (Points count uses) after ≡ (step source (show n lent) s).answer → FiguresOf source (inputs_shown n s) count uses after
+unfolding step show_of show_buffer show_check drawn_check
+shown_figures source n s lent after count uses h =
+    go (judged_check n s then drawn_check (source i) (length lent)) refl h
   where
     i : Inputs
-    i = inputsShown n s
+    i = inputs_shown n s
 
     files : Verdict
-    files = (source i).verdict then filesCheck (source i).f2 (source i).file
+    files = (source i).verdict then files_check (source i).f2 (source i).file
 
-    go : (v : Verdict) → (judgedCheck n s then bufferCheck (length lent) then files) ≡ v
-        → shown (Points count uses) after ≡ shown (pointsOr v (sheetPath i).count) (writtenOver v (figuresOf (source i).f2 (source i).file i) lent)
+    go : (v : Verdict) → (judged_check n s then buffer_check (length lent) then files) ≡ v
+        → shown (Points count uses) after ≡ shown (points_or v (sheet_path i).count) (written_over v (figures_of (source i).f2 (source i).file i) lent)
         → FiguresOf source i count uses after
     go Accepted c e =
-        let a = then-both (judgedCheck n s) (bufferCheck (length lent) then files) c in
-        let b = then-both (bufferCheck (length lent)) files a.1 in
-        let d = then-both (source i).verdict (filesCheck (source i).f2 (source i).file) b.1 in
+        let a = then_both (judged_check n s) (buffer_check (length lent) then files) c in
+        let b = then_both (buffer_check (length lent)) files a.1 in
+        let d = then_both (source i).verdict (files_check (source i).f2 (source i).file) b.1 in
         record { lent = d.0; checked = d.1; points = (cc); used = (cc); whole = (cc) }
     go (Refused why) c e = let z : ◌≡◌ {A = ℕ} 0 1 = cc in absurd (omega arith)
 
 -- Over any source of files, of every worksheet whose desks are closed and every list of calls: each
 -- accepted showing of the worksheet, with the entries before it, gave the number of points, their uses
 -- and the whole figures of the inputs in force after those entries.
-pub insurers-line-lent : (source : Source) (w : Worksheet) → atRest w ≡ w
+pub insurers_line_lent : (source : Source) (w : Worksheet) → at_rest w ≡ w
     → (cs : List Call) (before later : List Entry) (lent figures : List Float) (count : ℕ) (uses : Uses)
     → (run source cs w).entries ≡ before ++ (record { call = show 0 lent; answer = shown (Points count uses) figures } ∷ later)
-    → FiguresOf source (inForce w before) count uses figures
-unfolding inForce inputsShown
-insurers-line-lent source w rest cs before later lent figures count uses h =
+    → FiguresOf source (in_force w before) count uses figures
+unfolding in_force inputs_shown
+insurers_line_lent source w rest cs before later lent figures count uses h =
     let x : Entry = record { call = show 0 lent; answer = shown (Points count uses) figures } in
-    let a = run-split source cs w before x later h in
+    let a = run_split source cs w before x later h in
     let s = (run source a.calls w).sheet in
-    subst (λ (j : Inputs). FiguresOf source j count uses figures) (at-holds source w rest before x a).at-present
-    (shown-figures source 0 s lent figures count uses (ap (λ (y : Entry). y.answer) a.there))
+    subst (λ (j : Inputs). FiguresOf source j count uses figures) (at_holds source w rest before x a).at_present
+    (shown_figures source 0 s lent figures count uses (ap (λ (y : Entry). y.answer) a.there))
 
 -- THE INSURER'S LINE for every source of files and every worksheet that open gives
-pub insurers-line : (source : Source) (opened : Inputs) → (openOf opened).answer ≡ Accepted
+pub insurers_line : (source : Source) (opened : Inputs) → (open_of opened).answer ≡ Accepted
     → (cs : List Call) (before later : List Entry) (lent figures : List Float) (count : ℕ) (uses : Uses)
-    → (run source cs (openOf opened).sheet).entries ≡ before ++ (record { call = show 0 lent; answer = shown (Points count uses) figures } ∷ later)
-    → FiguresOf source (inForce (openOf opened).sheet before) count uses figures
-unfolding openOf freshSheet
-insurers-line source opened given = insurers-line-lent source (openOf opened).sheet refl
+    → (run source cs (open_of opened).sheet).entries ≡ before ++ (record { call = show 0 lent; answer = shown (Points count uses) figures } ∷ later)
+    → FiguresOf source (in_force (open_of opened).sheet before) count uses figures
+unfolding open_of fresh_sheet
+insurers_line source opened given = insurers_line_lent source (open_of opened).sheet refl
 
 -- ---- A COMMIT'S DRAFT: since its own begin nobody committed or took back, and it was not
 -- cancelled; so it started from the inputs in force
 
-pub undisturbed-draft : (source : Source) (w : Worksheet) → atRest w ≡ w
+pub undisturbed_draft : (source : Source) (w : Worksheet) → at_rest w ≡ w
     → (cs : List Call) (before later : List Entry) (x : Entry) (n : ℕ) → (run source cs w).entries ≡ before ++ (x ∷ later)
     → x.call ≡ commit n → accepted x.answer ≡ true → DraftUndisturbed w n before
-unfolding inForce none
-undisturbed-draft source w rest cs before later x n h c good =
-    let a = run-split source cs w before x later h in
+unfolding in_force none
+undisturbed_draft source w rest cs before later x n h c good =
+    let a = run_split source cs w before x later h in
     let s = (run source a.calls w).sheet in
     let ok : accepted (step source (commit n) s).answer ≡ true = ap (λ (k : Call). accepted (step source k s).answer) (sym c) ∙ sym (ap (λ (y : Entry). accepted y.answer) a.there) ∙ good in
     let b = (law source (commit n) s).done ok in
-    let d = (at-holds source w rest before x a).drafts n b.draft b.fresh in
+    let d = (at_holds source w rest before x a).drafts n b.draft b.fresh in
     record {
       front = reverse d.front;
-      own-begin = d.its-begin;
+      own_begin = d.its_begin;
       between = reverse d.late;
-      split = sym (reverse-reverse before) ∙ ap reverse d.split ∙ reverse-split d.late d.its-begin d.front;
+      split = sym (reverse-reverse before) ∙ ap reverse d.split ∙ reverse_split d.late d.its_begin d.front;
       begun = d.begun;
-      quiet = none-reverse (disturbs n) d.late [] d.quiet refl;
-      own-calls = ap (own n) d.split ∙ own-calls n d.late d.its-begin d.front d.begun (none-begins n d.late d.quiet);
+      quiet = none_reverse (disturbs n) d.late [] d.quiet refl;
+      own_calls = ap (own n) d.split ∙ own_calls n d.late d.its_begin d.front d.begun (none_begins n d.late d.quiet);
       same_inputs =
-          ap (λ (k : Force). inputsBy k.present)
-          (ap (forceAfter (forceIn w)) d.split
-          ∙ force-since (forceIn w) n d.late d.its-begin d.front d.begun d.quiet
-          ∙ ap (forceAfter (forceIn w)) (sym (reverse-reverse d.front)));
+          ap (λ (k : Force). inputs_by k.present)
+          (ap (force_after (force_in w)) d.split
+          ∙ force_since (force_in w) n d.late d.its_begin d.front d.begun d.quiet
+          ∙ ap (force_after (force_in w)) (sym (reverse-reverse d.front)));
     }
 
 -- ---- WHERE A CHANGE IN FORCE COMES FROM: it was accepted, it is among the own calls of an
 -- accepted commit, and that commit was not taken back
 
 -- EVERY COMMIT IN FORCE was accepted and not taken back
-pub commit-source : (source : Source) (w : Worksheet) → atRest w ≡ w → (cs : List Call) (c : AcceptedCommit)
-    → Memᴰ c (commitsInForce w (run source cs w).entries) → CommitInForce (run source cs w).entries c
-commit-source source w rest cs c m =
-    left-source [] (run source cs w).entries c (subst (λ (l : List AcceptedCommit). Memᴰ c l) (commits-exactly source w rest cs) m)
+pub commit_source : (source : Source) (w : Worksheet) → at_rest w ≡ w → (cs : List Call) (c : AcceptedCommit)
+    → Memᴰ c (commits_in_force w (run source cs w).entries) → CommitInForce (run source cs w).entries c
+commit_source source w rest cs c m =
+    left_source [] (run source cs w).entries c (subst (λ (l : List AcceptedCommit). Memᴰ c l) (commits_exactly source w rest cs) m)
 
 -- a change among some entries is one of theirs
-edit-entry : (e : Edit) (l : List Entry) → Memᴰ e (editsOf l) → (y : Entry) × (y ∈ l) × Memᴰ e (editsIn (roleIn y))
-unfolding editsOf
-edit-entry e [] h = absurd (Memᴰ.not-nil h)
-edit-entry e (x ∷ l) h = either (edit-entry e l) (Memᴰ.append_cases (editsIn (roleIn x)) h)
+edit_entry : (e : Edit) (l : List Entry) → Memᴰ e (edits_of l) → (y : Entry) × (y ∈ l) × Memᴰ e (edits_in (role_in y))
+unfolding edits_of
+edit_entry e [] h = absurd (Memᴰ.not-nil h)
+edit_entry e (x ∷ l) h = either (edit_entry e l) (Memᴰ.append_cases (edits_in (role_in x)) h)
   where
-    either : (Memᴰ e (editsOf l) → (y : Entry) × (y ∈ l) × Memᴰ e (editsIn (roleIn y)))
-        → Memᴰ e (editsIn (roleIn x)) ⊎ Memᴰ e (editsOf l) → (y : Entry) × (y ∈ (x ∷ l)) × Memᴰ e (editsIn (roleIn y))
+    either : (Memᴰ e (edits_of l) → (y : Entry) × (y ∈ l) × Memᴰ e (edits_in (role_in y)))
+        → Memᴰ e (edits_in (role_in x)) ⊎ Memᴰ e (edits_of l) → (y : Entry) × (y ∈ (x ∷ l)) × Memᴰ e (edits_in (role_in y))
     either below (inl m) = (x, Memᴰ.head refl, m)
     either below (inr m) = let r = below m in (r.0, Memᴰ.tail r.1, r.2)
 
 -- a change of some commits is among the own calls of one of them
-commit-entry : (e : Edit) (l : List AcceptedCommit) → Memᴰ e (changesBy l) → (c : AcceptedCommit) × Memᴰ c l × Memᴰ e (editsOf (own c.desk c.past))
-unfolding changesBy
-commit-entry e [] h = absurd (Memᴰ.not-nil h)
-commit-entry e (x ∷ l) h = either (commit-entry e l) (Memᴰ.append_cases (changesBy l) h)
+commit_entry : (e : Edit) (l : List AcceptedCommit) → Memᴰ e (changes_by l) → (c : AcceptedCommit) × Memᴰ c l × Memᴰ e (edits_of (own c.desk c.past))
+unfolding changes_by
+commit_entry e [] h = absurd (Memᴰ.not-nil h)
+commit_entry e (x ∷ l) h = either (commit_entry e l) (Memᴰ.append_cases (changes_by l) h)
   where
-    either : (Memᴰ e (changesBy l) → (c : AcceptedCommit) × Memᴰ c l × Memᴰ e (editsOf (own c.desk c.past)))
-        → Memᴰ e (changesBy l) ⊎ Memᴰ e (editsOf (own x.desk x.past))
-        → (c : AcceptedCommit) × Memᴰ c (x ∷ l) × Memᴰ e (editsOf (own c.desk c.past))
+    either : (Memᴰ e (changes_by l) → (c : AcceptedCommit) × Memᴰ c l × Memᴰ e (edits_of (own c.desk c.past)))
+        → Memᴰ e (changes_by l) ⊎ Memᴰ e (edits_of (own x.desk x.past))
+        → (c : AcceptedCommit) × Memᴰ c (x ∷ l) × Memᴰ e (edits_of (own c.desk c.past))
     either below (inl m) = let r = below m in (r.0, Memᴰ.tail r.1, r.2)
     either below (inr m) = (x, Memᴰ.head refl, m)
 
 -- a begin makes no change
-begin-no-edit : (n : ℕ) (r : Role) (b : Bool) (e : Edit) → isBegin n r b ≡ true → Memᴰ e (editsIn r) → ⊥
-begin-no-edit n (beginning m) b e h k = Memᴰ.not-nil k
-begin-no-edit n (ending m) b e h k = Memᴰ.not-nil k
-begin-no-edit n (settling m) b e h k = Memᴰ.not-nil k
-begin-no-edit n (belonging m even es) b e h k = false≢true h
-begin-no-edit n returning b e h k = Memᴰ.not-nil k
-begin-no-edit n showing b e h k = Memᴰ.not-nil k
+begin_no_edit : (n : ℕ) (r : Role) (b : Bool) (e : Edit) → is_begin n r b ≡ true → Memᴰ e (edits_in r) → ⊥
+begin_no_edit n (beginning m) b e h k = Memᴰ.not-nil k
+begin_no_edit n (ending m) b e h k = Memᴰ.not-nil k
+begin_no_edit n (settling m) b e h k = Memᴰ.not-nil k
+begin_no_edit n (belonging m even es) b e h k = false≢true h
+begin_no_edit n returning b e h k = Memᴰ.not-nil k
+begin_no_edit n showing b e h k = Memᴰ.not-nil k
 
 -- an own call that makes a change was accepted: by the table of roles
-edit-accepted : (n : ℕ) (c : Call) (b : Bool) (e : Edit) → isOwn n (roleOf c) b ≡ true → Memᴰ e (editsIn (roleOf c)) → b ≡ true
-edit-accepted n (begin m) b e h k = absurd (Memᴰ.not-nil k)
-edit-accepted n (commit m) b e h k = absurd (Memᴰ.not-nil k)
-edit-accepted n (cancel m) b e h k = absurd (Memᴰ.not-nil k)
-edit-accepted n (change m x) b e h k = go (eqb m n) h
+edit_accepted : (n : ℕ) (c : Call) (b : Bool) (e : Edit) → is_own n (role_of c) b ≡ true → Memᴰ e (edits_in (role_of c)) → b ≡ true
+edit_accepted n (begin m) b e h k = absurd (Memᴰ.not-nil k)
+edit_accepted n (commit m) b e h k = absurd (Memᴰ.not-nil k)
+edit_accepted n (cancel m) b e h k = absurd (Memᴰ.not-nil k)
+edit_accepted n (change m x) b e h k = go (eqb m n) h
   where
     go : (t : Bool) → (t && b) ≡ true → b ≡ true
     go true q = q
     go false q = absurd (false≢true q)
-edit-accepted n takeBack b e h k = absurd (Memᴰ.not-nil k)
-edit-accepted n (show m lent) b e h k = go (eqb m 0) k
+edit_accepted n take_back b e h k = absurd (Memᴰ.not-nil k)
+edit_accepted n (show m lent) b e h k = go (eqb m 0) k
   where
-    go : (t : Bool) → Memᴰ e (editsIn (cond t showing (belonging m true []))) → b ≡ true
+    go : (t : Bool) → Memᴰ e (edits_in (cond t showing (belonging m true []))) → b ≡ true
     go true q = absurd (Memᴰ.not-nil q)
     go false q = absurd (Memᴰ.not-nil q)
 
 -- WHERE A CHANGE IN FORCE COMES FROM
-pub change-source : (source : Source) (w : Worksheet) → atRest w ≡ w → (cs : List Call) (e : Edit)
-    → Memᴰ e (changesBy (commitsInForce w (run source cs w).entries)) → InForceBy (run source cs w).entries e
-change-source source w rest cs e h =
-    let q = commit-entry e (commitsInForce w (run source cs w).entries) h in
+pub change_source : (source : Source) (w : Worksheet) → at_rest w ≡ w → (cs : List Call) (e : Edit)
+    → Memᴰ e (changes_by (commits_in_force w (run source cs w).entries)) → InForceBy (run source cs w).entries e
+change_source source w rest cs e h =
+    let q = commit_entry e (commits_in_force w (run source cs w).entries) h in
     let c = q.0 in
-    let r = edit-entry e (own c.desk c.past) q.2 in
-    let its = go c.desk r.0 r.2 (own-member c.desk r.0 c.past r.1) in
+    let r = edit_entry e (own c.desk c.past) q.2 in
+    let its = go c.desk r.0 r.2 (own_member c.desk r.0 c.past r.1) in
     record {
-      its-commit = c;
-      in-force = commit-source source w rest cs c q.1;
-      its-change = r.0;
-      is-own = r.1;
-      is-change = r.2;
-      belongs-to-it = its;
-      accepted-too = edit-accepted c.desk r.0.call (good r.0) e its r.2;
+      its_commit = c;
+      in_force_law = commit_source source w rest cs c q.1;
+      its_change = r.0;
+      is_own_law = r.1;
+      is_change = r.2;
+      belongs_to_it = its;
+      accepted_too = edit_accepted c.desk r.0.call (good r.0) e its r.2;
     }
   where
-    go : (n : ℕ) (y : Entry) → Memᴰ e (editsIn (roleIn y)) → (begins n y ≡ true) ⊎ (belongs n y ≡ true) → belongs n y ≡ true
-    go n y m (inl b) = absurd (begin-no-edit n (roleIn y) (good y) e b m)
+    go : (n : ℕ) (y : Entry) → Memᴰ e (edits_in (role_in y)) → (begins n y ≡ true) ⊎ (belongs n y ≡ true) → belongs n y ≡ true
+    go n y m (inl b) = absurd (begin_no_edit n (role_in y) (good y) e b m)
     go n y m (inr o) = o

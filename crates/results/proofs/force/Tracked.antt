@@ -15,63 +15,63 @@ use Rattle.worksheet.specs.declared.desks.Earlier.TheVariants.{Nothing, Set}
 use Rattle.worksheet.specs.declared.desks.Worksheet.{Worksheet}
 use Rattle.worksheet.specs.Inputs.{edited}
 use Rattle.worksheet.specs.Showing.{Source}
-use Rattle.worksheet.specs.Journal.{Call, Role, beginning, ending, settling, belonging, returning, showing, roleOf, Entry, accepted, roleIn, good, step, entry_of, run, isBegin, isOwn, begins, belongs, own, none}
-use Rattle.worksheet.specs.InForce.{editsIn, editsOf, changed, AcceptedCommit, Standing, changesBy, inputsBy, Force, standingAt, standingBefore, forceIn, pushed, returnedTo, forceBy, forceAfter, isDisturbing, disturbs}
-use Rattle.worksheet.proofs.drafts.Drafts.{atRest, FreshAt}
-use Rattle.worksheet.proofs.lists.Replay.{Local, sheetOf, Law}
+use Rattle.worksheet.specs.Journal.{Call, Role, beginning, ending, settling, belonging, returning, showing, role_of, Entry, accepted, role_in, good, step, entry_of, run, is_begin, is_own, begins, belongs, own, none}
+use Rattle.worksheet.specs.InForce.{edits_in, edits_of, changed, AcceptedCommit, Standing, changes_by, inputs_by, Force, standing_at, standing_before, force_in, pushed, returned_to, force_by, force_after, is_disturbing, disturbs}
+use Rattle.worksheet.proofs.drafts.Drafts.{at_rest, FreshAt}
+use Rattle.worksheet.proofs.lists.Replay.{Local, sheet_of, Law}
 use Rattle.worksheet.proofs.lists.Rules.{law}
-use Rattle.results.specs.Audit.{isMoving}
+use Rattle.results.specs.Audit.{is_moving}
 
 -- ---- changes one after the other
 
-changed-append : (i : Inputs) (l m : List Edit) → changed i (l ++ m) ≡ changed (changed i l) m
+changed_append : (i : Inputs) (l m : List Edit) → changed i (l ++ m) ≡ changed (changed i l) m
 unfolding changed
-changed-append i [] m = refl
-changed-append i (e ∷ l) m = changed-append (edited e i) l m
+changed_append i [] m = refl
+changed_append i (e ∷ l) m = changed_append (edited e i) l m
 
-edits-append : (l m : List Entry) → editsOf (l ++ m) ≡ editsOf l ++ editsOf m
-unfolding editsOf
-edits-append [] m = refl
-edits-append (x ∷ l) m = ap (λ (k : List Edit). editsIn (roleIn x) ++ k) (edits-append l m) ∙ sym (append_assoc (editsIn (roleIn x)) (editsOf l) (editsOf m))
+edits_append : (l m : List Entry) → edits_of (l ++ m) ≡ edits_of l ++ edits_of m
+unfolding edits_of
+edits_append [] m = refl
+edits_append (x ∷ l) m = ap (λ (k : List Edit). edits_in (role_in x) ++ k) (edits_append l m) ∙ sym (append_assoc (edits_in (role_in x)) (edits_of l) (edits_of m))
 
 -- ---- what a role does, and `b`, whether the call was accepted
 
-still : (past : List Entry) (x : Entry) (r : Role) (b : Bool) (f : Force) → isMoving r b ≡ false → forceBy past x r b f ≡ f
+still : (past : List Entry) (x : Entry) (r : Role) (b : Bool) (f : Force) → is_moving r b ≡ false → force_by past x r b f ≡ f
 still past x (beginning n) b f h = refl
 still past x (ending n) b f h = refl
 still past x (settling n) b f h = ap (λ (z : Bool). cond z (pushed (record { desk = n; past = past; entry = x }) f) f) h
 still past x (belonging n even es) b f h = refl
-still past x returning b f h = ap (λ (z : Bool). cond z (returnedTo f.before f) f) h
+still past x returning b f h = ap (λ (z : Bool). cond z (returned_to f.before f) f) h
 still past x showing b f h = refl
 
 -- a call that moves nothing leaves what is in force
-pub force-still : (f : Force) (x : Entry) (past : List Entry) → isMoving (roleIn x) (good x) ≡ false → forceAfter f (x ∷ past) ≡ forceAfter f past
-unfolding forceAfter
-force-still f x past h = still past x (roleIn x) (good x) (forceAfter f past) h
+pub force_still : (f : Force) (x : Entry) (past : List Entry) → is_moving (role_in x) (good x) ≡ false → force_after f (x ∷ past) ≡ force_after f past
+unfolding force_after
+force_still f x past h = still past x (role_in x) (good x) (force_after f past) h
 
-pub quiet-still : (n : ℕ) (r : Role) (b : Bool) → isDisturbing n r b ≡ false → isMoving r b ≡ false
-quiet-still n (beginning m) b h = refl
-quiet-still n (ending m) b h = refl
-quiet-still n (settling m) b h = h
-quiet-still n (belonging m even es) b h = refl
-quiet-still n returning b h = h
-quiet-still n showing b h = refl
+pub quiet_still : (n : ℕ) (r : Role) (b : Bool) → is_disturbing n r b ≡ false → is_moving r b ≡ false
+quiet_still n (beginning m) b h = refl
+quiet_still n (ending m) b h = refl
+quiet_still n (settling m) b h = h
+quiet_still n (belonging m even es) b h = refl
+quiet_still n returning b h = h
+quiet_still n showing b h = refl
 
-pub begin-still : (n : ℕ) (r : Role) (b : Bool) → isBegin n r b ≡ true → isMoving r b ≡ false
-begin-still n (beginning m) b h = refl
-begin-still n (ending m) b h = refl
-begin-still n (settling m) b h = absurd (false≢true h)
-begin-still n (belonging m even es) b h = refl
-begin-still n returning b h = absurd (false≢true h)
-begin-still n showing b h = refl
+pub begin_still : (n : ℕ) (r : Role) (b : Bool) → is_begin n r b ≡ true → is_moving r b ≡ false
+begin_still n (beginning m) b h = refl
+begin_still n (ending m) b h = refl
+begin_still n (settling m) b h = absurd (false≢true h)
+begin_still n (belonging m even es) b h = refl
+begin_still n returning b h = absurd (false≢true h)
+begin_still n showing b h = refl
 
-pub quiet-unbegun : (n : ℕ) (r : Role) (b : Bool) → isDisturbing n r b ≡ false → isBegin n r b ≡ false
-quiet-unbegun n (beginning m) b h = h
-quiet-unbegun n (ending m) b h = refl
-quiet-unbegun n (settling m) b h = refl
-quiet-unbegun n (belonging m even es) b h = refl
-quiet-unbegun n returning b h = refl
-quiet-unbegun n showing b h = refl
+pub quiet_unbegun : (n : ℕ) (r : Role) (b : Bool) → is_disturbing n r b ≡ false → is_begin n r b ≡ false
+quiet_unbegun n (beginning m) b h = h
+quiet_unbegun n (ending m) b h = refl
+quiet_unbegun n (settling m) b h = refl
+quiet_unbegun n (belonging m even es) b h = refl
+quiet_unbegun n returning b h = refl
+quiet_unbegun n showing b h = refl
 
 -- ---- what a fresh draft is, from the entries
 
@@ -79,20 +79,20 @@ quiet-unbegun n showing b h = refl
 -- made
 pub record Drafting (n : ℕ) (past : List Entry) (j x : Inputs) : Type 0 where
   pub late : List Entry
-  pub its-begin : Entry
+  pub its_begin : Entry
   pub front : List Entry
-  pub split : past ≡ late ++ (its-begin ∷ front)
-  pub begun : begins n its-begin ≡ true
+  pub split : past ≡ late ++ (its_begin ∷ front)
+  pub begun : begins n its_begin ≡ true
   pub quiet : none (disturbs n) late ≡ true
-  pub made : x ≡ changed j (editsOf (own n past))
+  pub made : x ≡ changed j (edits_of (own n past))
 
 -- one entry more that does not disturb it, by which the draft and its own calls went on alike
-drafting-on : (n : ℕ) (past : List Entry) (j x v : Inputs) (y : Entry) → disturbs n y ≡ false
-    → v ≡ changed j (editsOf (own n (y ∷ past))) → Drafting n past j x → Drafting n (y ∷ past) j v
+drafting_on : (n : ℕ) (past : List Entry) (j x v : Inputs) (y : Entry) → disturbs n y ≡ false
+    → v ≡ changed j (edits_of (own n (y ∷ past))) → Drafting n past j x → Drafting n (y ∷ past) j v
 unfolding none
-drafting-on n past j x v y p q d = record {
+drafting_on n past j x v y p q d = record {
   late = y ∷ d.late;
-  its-begin = d.its-begin;
+  its_begin = d.its_begin;
   front = d.front;
   split = ap (λ (k : List Entry). y ∷ k) d.split;
   begun = d.begun;
@@ -101,44 +101,44 @@ drafting-on n past j x v y p q d = record {
 }
 
 -- the own changes after an entry that is no begin and no own call
-pub edits-stay : (n : ℕ) (past : List Entry) (y : Entry) → begins n y ≡ false → belongs n y ≡ false → own n (y ∷ past) ≡ own n past
+pub edits_stay : (n : ℕ) (past : List Entry) (y : Entry) → begins n y ≡ false → belongs n y ≡ false → own n (y ∷ past) ≡ own n past
 unfolding own
-edits-stay n past y p q =
+edits_stay n past y p q =
     ap (λ (z : Bool). cond z (y ∷ []) (cond (belongs n y) (own n past ++ (y ∷ [])) (own n past))) p
     ∙ ap (λ (z : Bool). cond z (own n past ++ (y ∷ [])) (own n past)) q
 
 -- the own changes after an own call
-edits-more : (n : ℕ) (past : List Entry) (y : Entry) → begins n y ≡ false → belongs n y ≡ true
-    → editsOf (own n (y ∷ past)) ≡ editsOf (own n past) ++ editsIn (roleIn y)
-unfolding own editsOf
-edits-more n past y p q =
-    ap (λ (z : Bool). editsOf (cond z (y ∷ []) (cond (belongs n y) (own n past ++ (y ∷ [])) (own n past)))) p
-    ∙ ap (λ (z : Bool). editsOf (cond z (own n past ++ (y ∷ [])) (own n past))) q
-    ∙ edits-append (own n past) (y ∷ [])
-    ∙ ap (λ (k : List Edit). editsOf (own n past) ++ k) (append-nil (editsIn (roleIn y)))
+edits_more : (n : ℕ) (past : List Entry) (y : Entry) → begins n y ≡ false → belongs n y ≡ true
+    → edits_of (own n (y ∷ past)) ≡ edits_of (own n past) ++ edits_in (role_in y)
+unfolding own edits_of
+edits_more n past y p q =
+    ap (λ (z : Bool). edits_of (cond z (y ∷ []) (cond (belongs n y) (own n past ++ (y ∷ [])) (own n past)))) p
+    ∙ ap (λ (z : Bool). edits_of (cond z (own n past ++ (y ∷ [])) (own n past))) q
+    ∙ edits_append (own n past) (y ∷ [])
+    ∙ ap (λ (k : List Edit). edits_of (own n past) ++ k) (append-nil (edits_in (role_in y)))
 
 -- ---- THE INVARIANT, after the entries `past` of a run that began with f in force
 
 -- the earlier set of what is in force
-abbrev pub earlierBy : List Standing → Earlier
-earlierBy [] = Nothing
-earlierBy (s ∷ l) = Set (inputsBy s)
+abbrev pub earlier_by : List Standing → Earlier
+earlier_by [] = Nothing
+earlier_by (s ∷ l) = Set (inputs_by s)
 
 pub record Holds (f : Force) (past : List Entry) (w : Worksheet) : Type 0 where
-  pub at-present : w.inputs ≡ inputsBy (forceAfter f past).present
-  pub at-earlier : w.earlier ≡ earlierBy (forceAfter f past).before
+  pub at_present : w.inputs ≡ inputs_by (force_after f past).present
+  pub at_earlier : w.earlier ≡ earlier_by (force_after f past).before
   pub drafts : (n : ℕ) (x : Inputs) → FreshAt n x w → Drafting n past w.inputs x
 
 set_same : {j k : Inputs} → Set j ≡ Set k → j ≡ k
 set_same p = cc
 
-pub nothing-not-set : {j : Inputs} → Nothing ≡ Set j → ⊥
-nothing-not-set p = let z : ◌≡◌ {A = ℕ} 0 1 = cc in omega arith
+pub nothing_not_set : {j : Inputs} → Nothing ≡ Set j → ⊥
+nothing_not_set p = let z : ◌≡◌ {A = ℕ} 0 1 = cc in omega arith
 
 -- a take-back returns the set that the worksheet has as its earlier one
-returned : (before : List Standing) (f : Force) (i : Inputs) → earlierBy before ≡ Set i
-    → (i ≡ inputsBy (returnedTo before f).present) × (Nothing ≡ earlierBy (returnedTo before f).before)
-returned [] f i h = absurd (nothing-not-set h)
+returned : (before : List Standing) (f : Force) (i : Inputs) → earlier_by before ≡ Set i
+    → (i ≡ inputs_by (returned_to before f).present) × (Nothing ≡ earlier_by (returned_to before f).before)
+returned [] f i h = absurd (nothing_not_set h)
 returned (s ∷ l) f i h = (sym (set_same h), refl)
 
 module _ (source : Source) (f : Force) (past : List Entry) (w : Worksheet) (g : Holds f past w) (c : Call) where
@@ -146,20 +146,20 @@ module _ (source : Source) (f : Force) (past : List Entry) (w : Worksheet) (g : 
   y = entry_of source c w
 
   abbrev v : Worksheet
-  v = sheetOf source c w
+  v = sheet_of source c w
 
   abbrev After : Role → Type 0
-  After r = roleOf c ≡ r → Holds f (y ∷ past) v
+  After r = role_of c ≡ r → Holds f (y ∷ past) v
 
   -- where inputs and earlier set stay and the call moves nothing, only drafts are to be seen to
-  resting : isMoving (roleIn y) (good y) ≡ false → atRest v ≡ atRest w
+  resting : is_moving (role_in y) (good y) ≡ false → at_rest v ≡ at_rest w
       → ((n : ℕ) (x : Inputs) → FreshAt n x v → Drafting n (y ∷ past) w.inputs x) → Holds f (y ∷ past) v
   resting q h d =
       let same : v.inputs ≡ w.inputs = ap (λ (u : Worksheet). u.inputs) h in
-      let force = force-still f y past q in
+      let force = force_still f y past q in
       record {
-        at-present = same ∙ g.at-present ∙ sym (ap (λ (k : Force). inputsBy k.present) force);
-        at-earlier = ap (λ (u : Worksheet). u.earlier) h ∙ g.at-earlier ∙ sym (ap (λ (k : Force). earlierBy k.before) force);
+        at_present = same ∙ g.at_present ∙ sym (ap (λ (k : Force). inputs_by k.present) force);
+        at_earlier = ap (λ (u : Worksheet). u.earlier) h ∙ g.at_earlier ∙ sym (ap (λ (k : Force). earlier_by k.before) force);
         drafts = λ n x e. subst (λ (j : Inputs). Drafting n (y ∷ past) j x) (sym same) (d n x e);
       }
 
@@ -167,17 +167,17 @@ module _ (source : Source) (f : Force) (past : List Entry) (w : Worksheet) (g : 
   untouched : (n : ℕ) (x : Inputs) → disturbs n y ≡ false → belongs n y ≡ false → FreshAt n x w → Drafting n (y ∷ past) w.inputs x
   untouched n x p q e =
       let d = g.drafts n x e in
-      drafting-on n past w.inputs x x y p
-      (d.made ∙ ap (λ (l : List Entry). changed w.inputs (editsOf l)) (sym (edits-stay n past y (quiet-unbegun n (roleIn y) (good y) p) q))) d
+      drafting_on n past w.inputs x x y p
+      (d.made ∙ ap (λ (l : List Entry). changed w.inputs (edits_of l)) (sym (edits_stay n past y (quiet_unbegun n (role_in y) (good y) p) q))) d
 
   -- nothing moved
   unmoved : v ≡ w → ((n : ℕ) → disturbs n y ≡ false) → ((n : ℕ) → belongs n y ≡ false) → Holds f (y ∷ past) v
   unmoved h p q =
-      resting (quiet-still 0 (roleIn y) (good y) (p 0)) (ap atRest h)
+      resting (quiet_still 0 (role_in y) (good y) (p 0)) (ap at_rest h)
       (λ n x e. untouched n x (p n) (q n) (subst (λ (u : Worksheet). FreshAt n x u) h e))
 
   -- a call of desk n alone
-  locally : (n : ℕ) → isMoving (roleIn y) (good y) ≡ false → Local n w v
+  locally : (n : ℕ) → is_moving (role_in y) (good y) ≡ false → Local n w v
       → ((m : ℕ) → eqb n m ≡ false → (disturbs m y ≡ false) × (belongs m y ≡ false))
       → ((x : Inputs) → FreshAt n x v → Drafting n (y ∷ past) w.inputs x) → Holds f (y ∷ past) v
   locally n q loc other its = resting q loc.at_rest (λ m x e. go m x (eqb n m) refl e)
@@ -189,138 +189,138 @@ module _ (source : Source) (f : Force) (past : List Entry) (w : Worksheet) (g : 
 
   -- ---- each role
 
-  module _ {A : Type 0} (h : Role → Bool → A) (r : Role) (e : roleOf c ≡ r) where
+  module _ {A : Type 0} (h : Role → Bool → A) (r : Role) (e : role_of c ≡ r) where
     -- a test of the entry's role and acceptance
-    with-role : (b : Bool) → accepted y.answer ≡ b → h (roleIn y) (good y) ≡ h r b
-    with-role b a = ap₂ h e a
+    with_role : (b : Bool) → accepted y.answer ≡ b → h (role_in y) (good y) ≡ h r b
+    with_role b a = ap₂ h e a
 
-  begun-after : (n : ℕ) → Law source (beginning n) c w → (b : Bool) → accepted y.answer ≡ b → After (beginning n)
-  unfolding own editsOf changed none
-  begun-after n l false a e =
+  begun_after : (n : ℕ) → Law source (beginning n) c w → (b : Bool) → accepted y.answer ≡ b → After (beginning n)
+  unfolding own edits_of changed none
+  begun_after n l false a e =
       unmoved (l.refused a)
-      (λ m. with-role (isDisturbing m) (beginning n) e false a ∙ and-false (eqb n m))
-      (λ m. with-role (isOwn m) (beginning n) e false a)
-  begun-after n l true a e =
+      (λ m. with_role (is_disturbing m) (beginning n) e false a ∙ and-false (eqb n m))
+      (λ m. with_role (is_own m) (beginning n) e false a)
+  begun_after n l true a e =
       let d = l.done a in
-      let its : begins n y ≡ true = with-role (isBegin n) (beginning n) e true a ∙ ap (λ (z : Bool). z && true) (eq-eqb n n refl) in
-      locally n (with-role isMoving (beginning n) e true a) d.local
-      (λ m t. (with-role (isDisturbing m) (beginning n) e true a ∙ ap (λ (z : Bool). z && true) t, with-role (isOwn m) (beginning n) e true a))
+      let its : begins n y ≡ true = with_role (is_begin n) (beginning n) e true a ∙ ap (λ (z : Bool). z && true) (eq-eqb n n refl) in
+      locally n (with_role is_moving (beginning n) e true a) d.local
+      (λ m t. (with_role (is_disturbing m) (beginning n) e true a ∙ ap (λ (z : Bool). z && true) t, with_role (is_own m) (beginning n) e true a))
       (λ x k. record {
         late = [];
-        its-begin = y;
+        its_begin = y;
         front = past;
         split = refl;
         begun = its;
         quiet = refl;
         made = d.copied x k
-            ∙ sym (ap (λ (l : List Edit). changed w.inputs (l ++ [])) (ap editsIn e))
-            ∙ ap (λ (z : Bool). changed w.inputs (editsOf (cond z (y ∷ []) (cond (belongs n y) (own n past ++ (y ∷ [])) (own n past))))) (sym its);
+            ∙ sym (ap (λ (l : List Edit). changed w.inputs (l ++ [])) (ap edits_in e))
+            ∙ ap (λ (z : Bool). changed w.inputs (edits_of (cond z (y ∷ []) (cond (belongs n y) (own n past ++ (y ∷ [])) (own n past))))) (sym its);
       })
 
-  own-after : (n : ℕ) (even : Bool) (es : List Edit) → Law source (belonging n even es) c w → (b : Bool) → (even || accepted y.answer) ≡ b
+  own_after : (n : ℕ) (even : Bool) (es : List Edit) → Law source (belonging n even es) c w → (b : Bool) → (even || accepted y.answer) ≡ b
       → After (belonging n even es)
-  unfolding own editsOf changed none
-  own-after n even es l false a e =
+  unfolding own edits_of changed none
+  own_after n even es l false a e =
       unmoved (l.refused a)
-      (λ m. with-role (isDisturbing m) (belonging n even es) e _ refl)
-      (λ m. with-role (isOwn m) (belonging n even es) e _ refl ∙ ap (λ (z : Bool). eqb n m && z) a ∙ and-false (eqb n m))
-  own-after n even es l true a e =
+      (λ m. with_role (is_disturbing m) (belonging n even es) e _ refl)
+      (λ m. with_role (is_own m) (belonging n even es) e _ refl ∙ ap (λ (z : Bool). eqb n m && z) a ∙ and-false (eqb n m))
+  own_after n even es l true a e =
       let d = l.done a in
       let r = belonging n even es in
-      let its : belongs n y ≡ true = with-role (isOwn n) r e _ refl ∙ ap₂ ◌&&◌ (eq-eqb n n refl) a in
-      let quiet : (m : ℕ) → disturbs m y ≡ false = λ m. with-role (isDisturbing m) r e _ refl in
-      locally n (with-role isMoving r e _ refl) d.local
-      (λ m t. (quiet m, with-role (isOwn m) r e _ refl ∙ ap (λ (z : Bool). z && (even || good y)) t))
+      let its : belongs n y ≡ true = with_role (is_own n) r e _ refl ∙ ap₂ ◌&&◌ (eq-eqb n n refl) a in
+      let quiet : (m : ℕ) → disturbs m y ≡ false = λ m. with_role (is_disturbing m) r e _ refl in
+      locally n (with_role is_moving r e _ refl) d.local
+      (λ m t. (quiet m, with_role (is_own m) r e _ refl ∙ ap (λ (z : Bool). z && (even || good y)) t))
       (λ x k.
       let o = d.alike x k in
       let before = g.drafts n o.0 o.1 in
-      drafting-on n past w.inputs o.0 x y (quiet n)
+      drafting_on n past w.inputs o.0 x y (quiet n)
       (o.2
       ∙ ap (λ (i : Inputs). changed i es) before.made
-      ∙ sym (changed-append w.inputs (editsOf (own n past)) es)
-      ∙ ap (λ (l : List Edit). changed w.inputs (editsOf (own n past) ++ l)) (sym (ap editsIn e))
-      ∙ ap (changed w.inputs) (sym (edits-more n past y (quiet-unbegun n (roleIn y) (good y) (quiet n)) its)))
+      ∙ sym (changed_append w.inputs (edits_of (own n past)) es)
+      ∙ ap (λ (l : List Edit). changed w.inputs (edits_of (own n past) ++ l)) (sym (ap edits_in e))
+      ∙ ap (changed w.inputs) (sym (edits_more n past y (quiet_unbegun n (role_in y) (good y) (quiet n)) its)))
       before)
 
-  ended-after : (n : ℕ) → Law source (ending n) c w → (b : Bool) → accepted y.answer ≡ b → After (ending n)
-  ended-after n l false a e =
+  ended_after : (n : ℕ) → Law source (ending n) c w → (b : Bool) → accepted y.answer ≡ b → After (ending n)
+  ended_after n l false a e =
       unmoved (l.refused a)
-      (λ m. with-role (isDisturbing m) (ending n) e false a ∙ and-false (eqb n m))
-      (λ m. with-role (isOwn m) (ending n) e false a)
-  ended-after n l true a e =
+      (λ m. with_role (is_disturbing m) (ending n) e false a ∙ and-false (eqb n m))
+      (λ m. with_role (is_own m) (ending n) e false a)
+  ended_after n l true a e =
       let d = l.done a in
-      locally n (with-role isMoving (ending n) e true a) d.local
-      (λ m t. (with-role (isDisturbing m) (ending n) e true a ∙ ap (λ (z : Bool). z && true) t, with-role (isOwn m) (ending n) e true a))
+      locally n (with_role is_moving (ending n) e true a) d.local
+      (λ m t. (with_role (is_disturbing m) (ending n) e true a ∙ ap (λ (z : Bool). z && true) t, with_role (is_own m) (ending n) e true a))
       (λ x k. absurd (d.none x k))
 
-  settled-after : (n : ℕ) → Law source (settling n) c w → (b : Bool) → accepted y.answer ≡ b → After (settling n)
-  unfolding forceAfter inputsBy changesBy
-  settled-after n l false a e =
+  settled_after : (n : ℕ) → Law source (settling n) c w → (b : Bool) → accepted y.answer ≡ b → After (settling n)
+  unfolding force_after inputs_by changes_by
+  settled_after n l false a e =
       unmoved (l.refused a)
-      (λ m. with-role (isDisturbing m) (settling n) e false a)
-      (λ m. with-role (isOwn m) (settling n) e false a)
-  settled-after n l true a e =
+      (λ m. with_role (is_disturbing m) (settling n) e false a)
+      (λ m. with_role (is_own m) (settling n) e false a)
+  settled_after n l true a e =
       let d = l.done a in
-      let F = forceAfter f past in
-      let es = editsOf (own n past) in
-      let force : forceAfter f (y ∷ past) ≡ pushed (record { desk = n; past = past; entry = y }) F = with-role (λ (r : Role) (b : Bool). forceBy past y r b F) (settling n) e true a in
+      let F = force_after f past in
+      let es = edits_of (own n past) in
+      let force : force_after f (y ∷ past) ≡ pushed (record { desk = n; past = past; entry = y }) F = with_role (λ (r : Role) (b : Bool). force_by past y r b F) (settling n) e true a in
       let draft = g.drafts n d.draft d.fresh in
       record {
-        at-present =
+        at_present =
             d.inputs ∙ draft.made
-            ∙ ap (λ (i : Inputs). changed i es) g.at-present
-            ∙ sym (changed-append F.present.start (changesBy F.present.commits) es)
-            ∙ sym (ap (λ (k : Force). inputsBy k.present) force);
-        at-earlier = d.earlier ∙ ap Set g.at-present ∙ sym (ap (λ (k : Force). earlierBy k.before) force);
+            ∙ ap (λ (i : Inputs). changed i es) g.at_present
+            ∙ sym (changed_append F.present.start (changes_by F.present.commits) es)
+            ∙ sym (ap (λ (k : Force). inputs_by k.present) force);
+        at_earlier = d.earlier ∙ ap Set g.at_present ∙ sym (ap (λ (k : Force). earlier_by k.before) force);
         drafts = λ m x k. absurd (d.none m x k);
       }
 
   returned_after : Law source returning c w → (b : Bool) → accepted y.answer ≡ b → After returning
-  unfolding forceAfter
+  unfolding force_after
   returned_after l false a e =
       unmoved (l.refused a)
-      (λ m. with-role (isDisturbing m) returning e false a)
-      (λ m. with-role (isOwn m) returning e false a)
+      (λ m. with_role (is_disturbing m) returning e false a)
+      (λ m. with_role (is_own m) returning e false a)
   returned_after l true a e =
       let d = l.done a in
-      let F = forceAfter f past in
-      let force : forceAfter f (y ∷ past) ≡ returnedTo F.before F = with-role (λ (r : Role) (b : Bool). forceBy past y r b F) returning e true a in
-      let back = returned F.before F d.set (sym g.at-earlier ∙ d.was) in
+      let F = force_after f past in
+      let force : force_after f (y ∷ past) ≡ returned_to F.before F = with_role (λ (r : Role) (b : Bool). force_by past y r b F) returning e true a in
+      let back = returned F.before F d.set (sym g.at_earlier ∙ d.was) in
       record {
-        at-present = d.inputs ∙ back.0 ∙ sym (ap (λ (k : Force). inputsBy k.present) force);
-        at-earlier = d.earlier ∙ back.1 ∙ sym (ap (λ (k : Force). earlierBy k.before) force);
+        at_present = d.inputs ∙ back.0 ∙ sym (ap (λ (k : Force). inputs_by k.present) force);
+        at_earlier = d.earlier ∙ back.1 ∙ sym (ap (λ (k : Force). earlier_by k.before) force);
         drafts = λ m x k. absurd (d.none m x k);
       }
 
-  shown-after : Law source showing c w → After showing
-  shown-after l e =
+  shown_after : Law source showing c w → After showing
+  shown_after l e =
       unmoved l.same
-      (λ m. with-role (isDisturbing m) showing e _ refl)
-      (λ m. with-role (isOwn m) showing e _ refl)
+      (λ m. with_role (is_disturbing m) showing e _ refl)
+      (λ m. with_role (is_own m) showing e _ refl)
 
   after : (r : Role) → Law source r c w → After r
-  after (beginning n) l = begun-after n l (accepted y.answer) refl
-  after (ending n) l = ended-after n l (accepted y.answer) refl
-  after (settling n) l = settled-after n l (accepted y.answer) refl
-  after (belonging n even es) l = own-after n even es l (even || accepted y.answer) refl
+  after (beginning n) l = begun_after n l (accepted y.answer) refl
+  after (ending n) l = ended_after n l (accepted y.answer) refl
+  after (settling n) l = settled_after n l (accepted y.answer) refl
+  after (belonging n even es) l = own_after n even es l (even || accepted y.answer) refl
   after returning l = returned_after l (accepted y.answer) refl
-  after showing l = shown-after l
+  after showing l = shown_after l
 
   pub next : Holds f (y ∷ past) v
-  next = after (roleOf c) (law source c w) refl
+  next = after (role_of c) (law source c w) refl
 
 -- ---- the run
 
 -- a worksheet whose desks are closed, with nothing called yet
-pub start-holds : (w : Worksheet) → ((n : ℕ) (x : Inputs) → FreshAt n x w → ⊥) → Holds (forceIn w) [] w
-unfolding forceAfter inputsBy changesBy changed
-start-holds w none = record {
-  at-present = refl;
-  at-earlier = go w.earlier;
+pub start_holds : (w : Worksheet) → ((n : ℕ) (x : Inputs) → FreshAt n x w → ⊥) → Holds (force_in w) [] w
+unfolding force_after inputs_by changes_by changed
+start_holds w none = record {
+  at_present = refl;
+  at_earlier = go w.earlier;
   drafts = λ n x h. absurd (none n x h);
 }
   where
-    go : (e : Earlier) → e ≡ earlierBy (standingBefore e)
+    go : (e : Earlier) → e ≡ earlier_by (standing_before e)
     go Nothing = refl
     go (Set i) = refl
 

@@ -8,20 +8,20 @@ use native.Mathlib.Omega.{arith}
 use lib.ListN.{length, take, get_or}
 use Rattle.base.specs.declared.refusal.Verdict.{Verdict}
 use Rattle.base.specs.declared.refusal.Verdict.TheVariants.{Accepted, Refused}
-use Rattle.worksheet.specs.Desks.{openOf}
+use Rattle.worksheet.specs.Desks.{open_of}
 use Rattle.worksheet.specs.Showing.{Source}
 use Rattle.wording.specs.declared.line.Line.{Line}
 use Rattle.wording.specs.declared.line.Line.TheVariants as line
 use Rattle.wording.specs.declared.written.WrittenInputs.{WrittenInputs}
-use Rattle.wording.specs.Line.{lineIn}
-use Rattle.wording.specs.Written.{inputsWritten}
-use Rattle.listing.specs.Spoken.{spokenVerdict}
+use Rattle.wording.specs.Line.{line_in}
+use Rattle.wording.specs.Written.{inputs_written}
+use Rattle.listing.specs.Spoken.{spoken_verdict}
 use Rattle.sitting.specs.declared.Sitting.{Sitting}
 use Rattle.sitting.specs.declared.Stage.{Stage}
 use Rattle.sitting.specs.declared.Stage.TheVariants.{Waiting, Open, Ended}
-use Rattle.sitting.specs.Sitting.{Hearing, stageAfter, openedBy, hearOpen, hearCall, hearWrong, hearLine, hearing}
-use Rattle.auditing.specs.Gathered.{textLines, Told, waiting, sits, ended, openedTold, telling, toldFrom, toldBy}
-use Rattle.results.specs.Heard.{EndingText, no_call, open-again, not-open, open-refused, heardFrom, heardBy, lineAfter, EndedAt}
+use Rattle.sitting.specs.Sitting.{Hearing, stage_after, opened_by, hear_open, hear_call, hear_wrong, hear_line, hearing}
+use Rattle.auditing.specs.Gathered.{text_lines, Told, waiting, sits, ended, opened_told, telling, told_from, told_by}
+use Rattle.results.specs.Heard.{EndingText, no_call, open_again, not_open, open_refused, heard_from, heard_by, line_after, EndedAt}
 
 -- the journal has ended, and nothing is said
 abbrev Silent : Hearing → Type 0
@@ -42,70 +42,70 @@ record Ends (n : ℕ) (t : Told) (l : Line) (h : Hearing) : Type 0 where
 abbrev Next : ℕ → Told → Line → Hearing → Type 0
 Next n t l h = Ends n t l h ⊎ Going (telling n t l) h.sitting
 
-opened : (n : ℕ) (o : WrittenInputs) (v : Verdict) → (openOf (inputsWritten o)).answer ≡ v → Next n waiting (line.Open o) (openedBy n o)
+opened : (n : ℕ) (o : WrittenInputs) (v : Verdict) → (open_of (inputs_written o)).answer ≡ v → Next n waiting (line.Open o) (opened_by n o)
 opened n o Accepted a =
-    let w = (openOf (inputsWritten o)).sheet in
-    inr (subst (λ (v : Verdict). Going (openedTold n o v) (record { stage = stageAfter v; sheet = w })) (sym a) refl)
+    let w = (open_of (inputs_written o)).sheet in
+    inr (subst (λ (v : Verdict). Going (opened_told n o v) (record { stage = stage_after v; sheet = w })) (sym a) refl)
 opened n o (Refused why) a =
     inl (record {
-      told = ap (openedTold n o) a;
-      stage = ap stageAfter a;
-      text = subst (λ (v : Verdict). EndingText n waiting (line.Open o) (spokenVerdict n v)) (sym a) (open-refused a);
+      told = ap (opened_told n o) a;
+      stage = ap stage_after a;
+      text = subst (λ (v : Verdict). EndingText n waiting (line.Open o) (spoken_verdict n v)) (sym a) (open_refused a);
     })
 
 module _ (source : Source) where
   -- ---- after the end
 
-  pub silent-line : (n : ℕ) (s : Sitting) (l : Line) → s.stage ≡ Ended → Silent (hearLine source n s l)
-  silent-line n s line.Blank e = (refl, e)
-  silent-line n s (line.Open o) e = subst (λ (x : Stage). Silent (hearOpen n o x s)) (sym e) (refl, refl)
-  silent-line n s (line.Call c) e = subst (λ (x : Stage). Silent (hearCall source n c x s)) (sym e) (refl, refl)
-  silent-line n s (line.Wrong f) e = subst (λ (x : Stage). Silent (hearWrong n f x s)) (sym e) (refl, refl)
+  pub silent_line : (n : ℕ) (s : Sitting) (l : Line) → s.stage ≡ Ended → Silent (hear_line source n s l)
+  silent_line n s line.Blank e = (refl, e)
+  silent_line n s (line.Open o) e = subst (λ (x : Stage). Silent (hear_open n o x s)) (sym e) (refl, refl)
+  silent_line n s (line.Call c) e = subst (λ (x : Stage). Silent (hear_call source n c x s)) (sym e) (refl, refl)
+  silent_line n s (line.Wrong f) e = subst (λ (x : Stage). Silent (hear_wrong n f x s)) (sym e) (refl, refl)
 
-  silent : (n : ℕ) (s : Sitting) (ls : List (List ℕ)) → s.stage ≡ Ended → (heardFrom source n s ls).text ≡ []
-  unfolding heardFrom hearing
+  silent : (n : ℕ) (s : Sitting) (ls : List (List ℕ)) → s.stage ≡ Ended → (heard_from source n s ls).text ≡ []
+  unfolding heard_from hearing
   silent n s [] e = refl
   silent n s (l ∷ ls) e =
-      let q = silent-line n s (lineIn l) e in
+      let q = silent_line n s (line_in l) e in
       let next = (hearing source n s l).sitting in
-      ap (λ (x : List ℕ). x ++ (heardFrom source (suc n) next ls).text) q.0 ∙ silent (suc n) next ls q.1
+      ap (λ (x : List ℕ). x ++ (heard_from source (suc n) next ls).text) q.0 ∙ silent (suc n) next ls q.1
 
   -- ---- before it
 
-  next : (n : ℕ) (t : Told) (s : Sitting) (l : Line) → Going t s → Next n t l (hearLine source n s l)
+  next : (n : ℕ) (t : Told) (s : Sitting) (l : Line) → Going t s → Next n t l (hear_line source n s l)
   next n waiting s line.Blank g = inr g
   next n waiting s (line.Open o) g =
-      subst (λ (x : Stage). Next n waiting (line.Open o) (hearOpen n o x s)) (sym g)
-      (opened n o (openOf (inputsWritten o)).answer refl)
+      subst (λ (x : Stage). Next n waiting (line.Open o) (hear_open n o x s)) (sym g)
+      (opened n o (open_of (inputs_written o)).answer refl)
   next n waiting s (line.Call c) g =
-      subst (λ (x : Stage). Next n waiting (line.Call c) (hearCall source n c x s)) (sym g)
-      (inl (record { told = refl; stage = refl; text = not-open }))
+      subst (λ (x : Stage). Next n waiting (line.Call c) (hear_call source n c x s)) (sym g)
+      (inl (record { told = refl; stage = refl; text = not_open }))
   next n waiting s (line.Wrong f) g =
-      subst (λ (x : Stage). Next n waiting (line.Wrong f) (hearWrong n f x s)) (sym g)
+      subst (λ (x : Stage). Next n waiting (line.Wrong f) (hear_wrong n f x s)) (sym g)
       (inl (record { told = refl; stage = refl; text = no_call }))
   next n (sits o at cs) s line.Blank g = inr g
   next n (sits o at cs) s (line.Open p) g =
-      subst (λ (x : Stage). Next n (sits o at cs) (line.Open p) (hearOpen n p x s)) (sym g)
-      (inl (record { told = refl; stage = refl; text = open-again }))
+      subst (λ (x : Stage). Next n (sits o at cs) (line.Open p) (hear_open n p x s)) (sym g)
+      (inl (record { told = refl; stage = refl; text = open_again }))
   next n (sits o at cs) s (line.Call c) g =
-      subst (λ (x : Stage). Next n (sits o at cs) (line.Call c) (hearCall source n c x s)) (sym g) (inr refl)
+      subst (λ (x : Stage). Next n (sits o at cs) (line.Call c) (hear_call source n c x s)) (sym g) (inr refl)
   next n (sits o at cs) s (line.Wrong f) g =
-      subst (λ (x : Stage). Next n (sits o at cs) (line.Wrong f) (hearWrong n f x s)) (sym g)
+      subst (λ (x : Stage). Next n (sits o at cs) (line.Wrong f) (hear_wrong n f x s)) (sym g)
       (inl (record { told = refl; stage = refl; text = no_call }))
   next n ended s l g = absurd g
 
   -- ---- the line
 
   module _ (n : ℕ) (t : Told) (s : Sitting) (ls : List (List ℕ)) where
-    abbrev toldOf : ℕ → Told
-    toldOf m = toldFrom n t (take m ls)
+    abbrev told_of : ℕ → Told
+    told_of m = told_from n t (take m ls)
 
-    abbrev heardOf : ℕ → Hearing
-    heardOf m = heardFrom source n s (take m ls)
+    abbrev heard_of : ℕ → Hearing
+    heard_of m = heard_from source n s (take m ls)
 
     -- the hearing of the line after m lines, as line `number`
     abbrev line_of : ℕ → ℕ → Hearing
-    line_of number m = hearing source number (heardOf m).sitting (get_or ls m [])
+    line_of number m = hearing source number (heard_of m).sitting (get_or ls m [])
 
     -- one of the first k of the lines from line n on ended the journal
     record Cut (k : ℕ) : Type 0 where
@@ -114,25 +114,25 @@ module _ (source : Source) where
       counted : number ≡ n + before
       among : before < k
       there : before < length ls
-      not-ended : toldOf before ≡ ended → ⊥
-      ended_by : toldOf (suc before) ≡ ended
-      said : (heardOf k).text ≡ (heardOf before).text ++ (line_of number before).text
-      ending : EndingText number (toldOf before) (lineIn (get_or ls before [])) (line_of number before).text
+      not_ended : told_of before ≡ ended → ⊥
+      ended_by : told_of (suc before) ≡ ended
+      said : (heard_of k).text ≡ (heard_of before).text ++ (line_of number before).text
+      ending : EndingText number (told_of before) (line_in (get_or ls before [])) (line_of number before).text
 
   module _ (n : ℕ) (t : Told) (s : Sitting) (l : List ℕ) (ls : List (List ℕ)) (k : ℕ) where
     abbrev first : Hearing
     first = hearing source n s l
 
-    cut-here : Going t s → Ends n t (lineIn l) first → Cut n t s (l ∷ ls) (suc k)
-    unfolding toldFrom heardFrom
-    cut-here g x =
+    cut_here : Going t s → Ends n t (line_in l) first → Cut n t s (l ∷ ls) (suc k)
+    unfolding told_from heard_from
+    cut_here g x =
         record {
           before = 0;
           number = n;
           counted = omega arith;
           among = omega arith;
           there = omega arith;
-          not-ended = λ e. subst (λ (y : Told). Going y s) e g;
+          not_ended = λ e. subst (λ (y : Told). Going y s) e g;
           ended_by = x.told;
           said =
               ap (λ (y : List ℕ). first.text ++ y) (silent (suc n) first.sitting (take k ls) x.stage)
@@ -140,8 +140,8 @@ module _ (source : Source) where
           ending = x.text;
         }
 
-    cut_later : Cut (suc n) (telling n t (lineIn l)) first.sitting ls k → Cut n t s (l ∷ ls) (suc k)
-    unfolding toldFrom heardFrom
+    cut_later : Cut (suc n) (telling n t (line_in l)) first.sitting ls k → Cut n t s (l ∷ ls) (suc k)
+    unfolding told_from heard_from
     cut_later c =
         record {
           before = suc c.before;
@@ -149,7 +149,7 @@ module _ (source : Source) where
           counted = omega (arith, c.counted);
           among = omega (arith, c.among);
           there = omega (arith, c.there);
-          not-ended = c.not-ended;
+          not_ended = c.not_ended;
           ended_by = c.ended_by;
           said =
               ap (λ (y : List ℕ). first.text ++ y) c.said ∙ sym (append_assoc first.text _ _);
@@ -157,45 +157,45 @@ module _ (source : Source) where
         }
 
   cut :
-      (n : ℕ) (t : Told) (s : Sitting) (ls : List (List ℕ)) (k : ℕ) → Going t s → toldFrom n t (take k ls) ≡ ended →
+      (n : ℕ) (t : Told) (s : Sitting) (ls : List (List ℕ)) (k : ℕ) → Going t s → told_from n t (take k ls) ≡ ended →
       Cut n t s ls k
-  unfolding toldFrom hearing
+  unfolding told_from hearing
   cut n t s ls zero g e = absurd (subst (λ (y : Told). Going y s) e g)
   cut n t s [] (suc k) g e = absurd (subst (λ (y : Told). Going y s) e g)
   cut n t s (l ∷ ls) (suc k) g e =
-      either (λ h. cut (suc n) (telling n t (lineIn l)) (hearing source n s l).sitting ls k h e)
-      (next n t s (lineIn l) g)
+      either (λ h. cut (suc n) (telling n t (line_in l)) (hearing source n s l).sitting ls k h e)
+      (next n t s (line_in l) g)
     where
       either :
-          (Going (telling n t (lineIn l)) (hearing source n s l).sitting →
-          Cut (suc n) (telling n t (lineIn l)) (hearing source n s l).sitting ls k) →
-          Next n t (lineIn l) (hearing source n s l) → Cut n t s (l ∷ ls) (suc k)
-      either below (inl x) = cut-here n t s l ls k g x
+          (Going (telling n t (line_in l)) (hearing source n s l).sitting →
+          Cut (suc n) (telling n t (line_in l)) (hearing source n s l).sitting ls k) →
+          Next n t (line_in l) (hearing source n s l) → Cut n t s (l ∷ ls) (suc k)
+      either below (inl x) = cut_here n t s l ls k g x
       either below (inr h) = cut_later n t s l ls k (below h)
 
   -- THE LINE that ended a journal
   pub ended_at :
-      (s : Sitting) (text : List ℕ) (k : ℕ) → s.stage ≡ Waiting → toldBy text k ≡ ended →
-      (heardBy source s text k).sitting.stage ≡ Ended → EndedAt source s text k
-  unfolding toldBy
+      (s : Sitting) (text : List ℕ) (k : ℕ) → s.stage ≡ Waiting → told_by text k ≡ ended →
+      (heard_by source s text k).sitting.stage ≡ Ended → EndedAt source s text k
+  unfolding told_by
   ended_at s text k g e stage =
-      let c = cut 1 waiting s (textLines text) k g e in
+      let c = cut 1 waiting s (text_lines text) k g e in
       let m = c.before in
       let number : c.number ≡ suc m = omega (arith, c.counted) in
-      let on = (heardBy source s text m).sitting in
+      let on = (heard_by source s text m).sitting in
       record {
         before = m;
         among = c.among;
         there = c.there;
-        not-ended = c.not-ended;
+        not_ended = c.not_ended;
         ended_by = c.ended_by;
         said =
             c.said
-            ∙ ap (λ (x : ℕ). (heardBy source s text m).text ++ (hearing source x on (lineAfter text m)).text) number;
+            ∙ ap (λ (x : ℕ). (heard_by source s text m).text ++ (hearing source x on (line_after text m)).text) number;
         ending =
             subst
             (λ (x : ℕ).
-            EndingText x (toldBy text m) (lineIn (lineAfter text m)) (hearing source x on (lineAfter text m)).text)
+            EndingText x (told_by text m) (line_in (line_after text m)) (hearing source x on (line_after text m)).text)
             number c.ending;
         stage = stage;
       }

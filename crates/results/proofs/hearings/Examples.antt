@@ -4,39 +4,39 @@ use mathlib.Core.Bool.{true, false}
 use mathlib.Core.List.{List, [], ◌∷◌}
 use mathlib.Core.Path.{◌≡◌, refl}
 use lib.Ieee.{le, round}
-use Rattle.base.specs.Single.{decimal, minusDecimal}
-use Rattle.base.specs.Ranges.{monthCheck, hourCheck, latitudeCheck, longitudeCheck, modelCheck}
+use Rattle.base.specs.Single.{decimal, minus_decimal}
+use Rattle.base.specs.Ranges.{month_check, hour_check, latitude_check, longitude_check, model_check}
 use Rattle.worksheet.specs.declared.desks.Worksheet.{Worksheet}
-use Rattle.worksheet.specs.Inputs.{sunspotCheck, factorCheck, flagCheck, routeCheck, factorsCheck, poleCheck, inputsCheck}
-use Rattle.worksheet.specs.Desks.{draftAt, withDraft, outcome, deskCheck, closedCheck, freshSheet, openOf, beginCheck, beginOf}
+use Rattle.worksheet.specs.Inputs.{sunspot_check, factor_check, flag_check, route_check, factors_check, pole_check, inputs_check}
+use Rattle.worksheet.specs.Desks.{draft_at, with_draft, outcome, desk_check, closed_check, fresh_sheet, open_of, begin_check, begin_of}
 use Rattle.worksheet.specs.Showing.{Source}
 use Rattle.worksheet.specs.Journal.{step}
 use Rattle.wording.specs.declared.number.Decimal.{Decimal}
 use Rattle.wording.specs.declared.written.WrittenCall.TheVariants.{Begin}
 use Rattle.wording.specs.declared.written.WrittenInputs.{WrittenInputs}
-use Rattle.wording.specs.Number.{allDigits, valueFrom, beforePoint, afterPoint, isUnsigned, unsignedIn, number_in, float_of}
-use Rattle.wording.specs.Token.{ascii, same, uncommented, wordsFrom, nameFrom, tokenOf, slots_of, firstTokens, tokensOf, tokenAt}
-use Rattle.wording.specs.Line.{usualFactors, usualPole, wordFit, numberFit, wholeFit, endFit, decimalAt, whole_at, pairFit, routeFit, routeAt, routeEnd, headFit, factorsStart, poleStart, modelStart, openEnd, factorsFit, poleFit, modelsFit, openFit, openingFactors, openingPole, openingModel, openingAt, deedLine, word_line, numberLine, lineIn}
-use Rattle.wording.specs.Written.{routeWritten, factorsWritten, poleWritten, inputsWritten, callWritten}
-use Rattle.listing.specs.Text.{digitOf, hasDigit, digitAt, digitsBelow}
-use Rattle.listing.specs.Reason.{refusedWords}
-use Rattle.listing.specs.Survey.{refusedLine}
-use Rattle.listing.specs.Spoken.{lineMark, verdictWords, spokenText, spokenVerdict, inputsAsked}
-use Rattle.listing.specs.Fault.{unopenedText}
+use Rattle.wording.specs.Number.{all_digits, value_from, before_point, after_point, is_unsigned, unsigned_in, number_in, float_of}
+use Rattle.wording.specs.Token.{ascii, same, uncommented, words_from, name_from, token_of, slots_of, first_tokens, tokens_of, token_at}
+use Rattle.wording.specs.Line.{usual_factors, usual_pole, word_fit, number_fit, whole_fit, end_fit, decimal_at, whole_at, pair_fit, route_fit, route_at, route_end, head_fit, factors_start, pole_start, model_start, open_end, factors_fit, pole_fit, models_fit, open_fit, opening_factors, opening_pole, opening_model, opening_at, deed_line, word_line, number_line, line_in}
+use Rattle.wording.specs.Written.{route_written, factors_written, pole_written, inputs_written, call_written}
+use Rattle.listing.specs.Text.{digit_of, has_digit, digit_at, digits_below}
+use Rattle.listing.specs.Reason.{refused_words}
+use Rattle.listing.specs.Survey.{refused_line}
+use Rattle.listing.specs.Spoken.{line_mark, verdict_words, spoken_text, spoken_verdict, inputs_asked}
+use Rattle.listing.specs.Fault.{unopened_text}
 use Rattle.sitting.specs.declared.Stage.TheVariants.{Waiting, Open, Ended}
 use Rattle.sitting.specs.Sitting.{Hearing, hearing}
-use Rattle.auditing.specs.Gathered.{Told, waiting, sits, toldFrom}
-use Rattle.results.specs.Heard.{heardFrom}
+use Rattle.auditing.specs.Gathered.{Told, waiting, sits, told_from}
+use Rattle.results.specs.Heard.{heard_from}
 
 -- ---- what is open to computation
 
 told : List (List ℕ) → Told
-unfolding toldFrom allDigits valueFrom beforePoint afterPoint isUnsigned unsignedIn number_in float_of same uncommented wordsFrom nameFrom tokenOf slots_of firstTokens tokensOf tokenAt wordFit numberFit wholeFit endFit decimalAt whole_at pairFit routeFit routeAt routeEnd headFit factorsStart poleStart modelStart openEnd factorsFit poleFit modelsFit openFit openingFactors openingPole openingModel openingAt deedLine word_line numberLine lineIn routeWritten factorsWritten poleWritten inputsWritten sunspotCheck factorCheck flagCheck routeCheck factorsCheck poleCheck inputsCheck monthCheck hourCheck latitudeCheck longitudeCheck modelCheck openOf decimal minusDecimal round le
-told ls = toldFrom 1 waiting ls
+unfolding told_from all_digits value_from before_point after_point is_unsigned unsigned_in number_in float_of same uncommented words_from name_from token_of slots_of first_tokens tokens_of token_at word_fit number_fit whole_fit end_fit decimal_at whole_at pair_fit route_fit route_at route_end head_fit factors_start pole_start model_start open_end factors_fit pole_fit models_fit open_fit opening_factors opening_pole opening_model opening_at deed_line word_line number_line line_in route_written factors_written pole_written inputs_written sunspot_check factor_check flag_check route_check factors_check pole_check inputs_check month_check hour_check latitude_check longitude_check model_check open_of decimal minus_decimal round le
+told ls = told_from 1 waiting ls
 
 heard : Source → Worksheet → List (List ℕ) → Hearing
-unfolding heardFrom hearing allDigits valueFrom beforePoint afterPoint isUnsigned unsignedIn number_in float_of same uncommented wordsFrom nameFrom tokenOf slots_of firstTokens tokensOf tokenAt wordFit numberFit wholeFit endFit decimalAt whole_at pairFit routeFit routeAt routeEnd headFit factorsStart poleStart modelStart openEnd factorsFit poleFit modelsFit openFit openingFactors openingPole openingModel openingAt deedLine word_line numberLine lineIn routeWritten factorsWritten poleWritten inputsWritten callWritten sunspotCheck factorCheck flagCheck routeCheck factorsCheck poleCheck inputsCheck monthCheck hourCheck latitudeCheck longitudeCheck modelCheck draftAt withDraft outcome deskCheck closedCheck freshSheet openOf beginCheck beginOf step spokenText spokenVerdict inputsAsked lineMark verdictWords refusedLine refusedWords digitsBelow digitAt hasDigit digitOf decimal minusDecimal round le unopenedText
-heard source w ls = heardFrom source 1 (record { stage = Waiting; sheet = w }) ls
+unfolding heard_from hearing all_digits value_from before_point after_point is_unsigned unsigned_in number_in float_of same uncommented words_from name_from token_of slots_of first_tokens tokens_of token_at word_fit number_fit whole_fit end_fit decimal_at whole_at pair_fit route_fit route_at route_end head_fit factors_start pole_start model_start open_end factors_fit pole_fit models_fit open_fit opening_factors opening_pole opening_model opening_at deed_line word_line number_line line_in route_written factors_written pole_written inputs_written call_written sunspot_check factor_check flag_check route_check factors_check pole_check inputs_check month_check hour_check latitude_check longitude_check model_check draft_at with_draft outcome desk_check closed_check fresh_sheet open_of begin_check begin_of step spoken_text spoken_verdict inputs_asked line_mark verdict_words refused_line refused_words digits_below digit_at has_digit digit_of decimal minus_decimal round le unopened_text
+heard source w ls = heard_from source 1 (record { stage = Waiting; sheet = w }) ls
 
 -- ---- an open, and two calls of which one is refused
 
@@ -65,29 +65,29 @@ opening =
             rlong = record { negative = true; digits = 219; places = 1 };
             long_path = 0;
           };
-      psc = usualFactors;
-      pole = usualPole;
+      psc = usual_factors;
+      pole = usual_pole;
       model = 0;
     }
 
-monday-told :
+monday_told :
     told monday
     ≡ sits opening 2 (record { call = Begin 1; line = 3 } ∷ record { call = Begin 1; line = 4 } ∷ [])
 unfolding told
-monday-told = refl
+monday_told = refl
 
 module _ (source : Source) (w : Worksheet) where
-  monday-heard :
+  monday_heard :
       ((heard source w monday).sitting.stage ≡ Open)
       × ((heard source w monday).text
       ≡ ascii "line 2: accepted\nline 3: accepted\nline 4: refused 15 0: the desk has a draft already\n")
   unfolding heard
-  monday-heard = (refl, refl)
+  monday_heard = (refl, refl)
 
   -- ---- a call before the open
 
-  early-heard :
+  early_heard :
       ((heard source w (ascii "1 begin" ∷ [])).sitting.stage ≡ Ended)
       × ((heard source w (ascii "1 begin" ∷ [])).text ≡ ascii "line 1: no call: a journal begins with open\n")
   unfolding heard
-  early-heard = (refl, refl)
+  early_heard = (refl, refl)

@@ -9,50 +9,50 @@ use Rattle.wording.specs.declared.line.Line.{Line}
 use Rattle.wording.specs.declared.line.Line.TheVariants.{Blank, Open, Call, Wrong}
 use Rattle.wording.specs.declared.written.WrittenCall.{WrittenCall}
 use Rattle.wording.specs.declared.written.WrittenInputs.{WrittenInputs}
-use Rattle.wording.specs.Line.{lineIn}
-use Rattle.wording.specs.Written.{callWritten}
+use Rattle.wording.specs.Line.{line_in}
+use Rattle.wording.specs.Written.{call_written}
 use Rattle.listing.specs.Turn.{blank}
 use Rattle.sitting.specs.declared.Sitting.{Sitting}
 use Rattle.sitting.specs.declared.Stage.{Stage}
 use Rattle.sitting.specs.declared.Stage.TheVariants as stage
-use Rattle.sitting.specs.Sitting.{hearOpen, hearWrong, hearCall, hearLine, hearing}
-use Rattle.sitting.proofs.sources.Sheets.{step-sheet}
-use Rattle.results.specs.Heard.{heardFrom}
+use Rattle.sitting.specs.Sitting.{hear_open, hear_wrong, hear_call, hear_line, hearing}
+use Rattle.sitting.proofs.sources.Sheets.{step_sheet}
+use Rattle.results.specs.Heard.{heard_from}
 
-open-same :
-    (n m : ℕ) (o : WrittenInputs) (x : Stage) (s : Sitting) → (hearOpen n o x s).sitting ≡ (hearOpen m o x s).sitting
-open-same n m o stage.Waiting s = refl
-open-same n m o stage.Open s = refl
-open-same n m o stage.Ended s = refl
+open_same :
+    (n m : ℕ) (o : WrittenInputs) (x : Stage) (s : Sitting) → (hear_open n o x s).sitting ≡ (hear_open m o x s).sitting
+open_same n m o stage.Waiting s = refl
+open_same n m o stage.Open s = refl
+open_same n m o stage.Ended s = refl
 
-wrong-same :
-    (n m : ℕ) (f : Fault) (x : Stage) (s : Sitting) → (hearWrong n f x s).sitting ≡ (hearWrong m f x s).sitting
-wrong-same n m f stage.Waiting s = refl
-wrong-same n m f stage.Open s = refl
-wrong-same n m f stage.Ended s = refl
+wrong_same :
+    (n m : ℕ) (f : Fault) (x : Stage) (s : Sitting) → (hear_wrong n f x s).sitting ≡ (hear_wrong m f x s).sitting
+wrong_same n m f stage.Waiting s = refl
+wrong_same n m f stage.Open s = refl
+wrong_same n m f stage.Ended s = refl
 
 module _ (source other : Source) where
   call_same :
       (n m : ℕ) (c : WrittenCall) (x : Stage) (s : Sitting) →
-      (hearCall source n c x s).sitting ≡ (hearCall other m c x s).sitting
+      (hear_call source n c x s).sitting ≡ (hear_call other m c x s).sitting
   call_same n m c stage.Waiting s = refl
   call_same n m c stage.Open s =
-      let e = step-sheet source other blank (callWritten c) s.sheet in
+      let e = step_sheet source other blank (call_written c) s.sheet in
       λ t. record { stage = stage.Open; sheet = e t }
   call_same n m c stage.Ended s = refl
 
   line_same :
-      (n m : ℕ) (s : Sitting) (l : Line) → (hearLine source n s l).sitting ≡ (hearLine other m s l).sitting
+      (n m : ℕ) (s : Sitting) (l : Line) → (hear_line source n s l).sitting ≡ (hear_line other m s l).sitting
   line_same n m s Blank = refl
-  line_same n m s (Open o) = open-same n m o s.stage s
+  line_same n m s (Open o) = open_same n m o s.stage s
   line_same n m s (Call c) = call_same n m c s.stage s
-  line_same n m s (Wrong f) = wrong-same n m f s.stage s
+  line_same n m s (Wrong f) = wrong_same n m f s.stage s
 
-  pub silent-same :
+  pub silent_same :
       (n m : ℕ) (s : Sitting) (ls : List (List ℕ)) →
-      (heardFrom source n s ls).sitting ≡ (heardFrom other m s ls).sitting
-  unfolding heardFrom hearing
-  silent-same n m s [] = refl
-  silent-same n m s (l ∷ ls) =
-      silent-same (suc n) (suc m) (hearing source n s l).sitting ls
-      ∙ ap (λ (t : Sitting). (heardFrom other (suc m) t ls).sitting) (line_same n m s (lineIn l))
+      (heard_from source n s ls).sitting ≡ (heard_from other m s ls).sitting
+  unfolding heard_from hearing
+  silent_same n m s [] = refl
+  silent_same n m s (l ∷ ls) =
+      silent_same (suc n) (suc m) (hearing source n s l).sitting ls
+      ∙ ap (λ (t : Sitting). (heard_from other (suc m) t ls).sitting) (line_same n m s (line_in l))

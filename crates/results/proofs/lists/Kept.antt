@@ -9,7 +9,7 @@ use mathlib.Core.Logic.{◌⊎◌, inl, inr}
 use mathlib.Core.Path.{◌≡◌, refl, sym, ap, ap₂, subst, ◌∙◌}
 use Rattle.worksheet.specs.declared.desks.Worksheet.{Worksheet}
 use Rattle.worksheet.specs.Showing.{Source}
-use Rattle.worksheet.specs.Journal.{Call, commit, Role, beginning, ending, settling, belonging, returning, showing, roleOf, Entry, accepted, roleIn, good, run, isBegin, isOwn, begins, belongs, own, keptFor, shorter, keptOf, keep, none, isKeptByItself, keptByItself, OwnCall}
+use Rattle.worksheet.specs.Journal.{Call, commit, Role, beginning, ending, settling, belonging, returning, showing, role_of, Entry, accepted, role_in, good, run, is_begin, is_own, begins, belongs, own, kept_for, shorter, kept_of, keep, none, is_kept_by_itself, kept_by_itself, OwnCall}
 
 -- ---- lists
 
@@ -27,9 +27,9 @@ keep_append p (x ∷ l) m = go (p x) (keep_append p l m)
 abbrev only_if : Bool → Entry → List Entry
 only_if b x = cond b (x ∷ []) []
 
-keep-first : (b : Bool) (x : Entry) (l : List Entry) → cond b (x ∷ l) l ≡ only_if b x ++ l
-keep-first true x l = refl
-keep-first false x l = refl
+keep_first : (b : Bool) (x : Entry) (l : List Entry) → cond b (x ∷ l) l ≡ only_if b x ++ l
+keep_first true x l = refl
+keep_first false x l = refl
 
 keep_one : (p : Entry → Bool) (b : Bool) (x : Entry) → p x ≡ b → keep p (x ∷ []) ≡ only_if b x
 unfolding keep
@@ -37,88 +37,88 @@ keep_one p b x e = ap (λ (z : Bool). only_if z x) e
 
 -- ---- own calls are no settled ones
 
-begin-unsettled : (n : ℕ) (r : Role) (b : Bool) → isBegin n r b ≡ true → isKeptByItself r b ≡ false
-begin-unsettled n (beginning m) b e = refl
-begin-unsettled n (ending m) b e = refl
-begin-unsettled n (settling m) b e = absurd (false≢true e)
-begin-unsettled n (belonging m even es) b e = refl
-begin-unsettled n returning b e = absurd (false≢true e)
-begin-unsettled n showing b e = absurd (false≢true e)
+begin_unsettled : (n : ℕ) (r : Role) (b : Bool) → is_begin n r b ≡ true → is_kept_by_itself r b ≡ false
+begin_unsettled n (beginning m) b e = refl
+begin_unsettled n (ending m) b e = refl
+begin_unsettled n (settling m) b e = absurd (false≢true e)
+begin_unsettled n (belonging m even es) b e = refl
+begin_unsettled n returning b e = absurd (false≢true e)
+begin_unsettled n showing b e = absurd (false≢true e)
 
-own-call-unsettled : (n : ℕ) (r : Role) (b : Bool) → isOwn n r b ≡ true → isKeptByItself r b ≡ false
-own-call-unsettled n (beginning m) b e = refl
-own-call-unsettled n (ending m) b e = refl
-own-call-unsettled n (settling m) b e = absurd (false≢true e)
-own-call-unsettled n (belonging m even es) b e = refl
-own-call-unsettled n returning b e = absurd (false≢true e)
-own-call-unsettled n showing b e = absurd (false≢true e)
+own_call_unsettled : (n : ℕ) (r : Role) (b : Bool) → is_own n r b ≡ true → is_kept_by_itself r b ≡ false
+own_call_unsettled n (beginning m) b e = refl
+own_call_unsettled n (ending m) b e = refl
+own_call_unsettled n (settling m) b e = absurd (false≢true e)
+own_call_unsettled n (belonging m even es) b e = refl
+own_call_unsettled n returning b e = absurd (false≢true e)
+own_call_unsettled n showing b e = absurd (false≢true e)
 
-own-unsettled : (n : ℕ) (past : List Entry) → keep keptByItself (own n past) ≡ []
+own_unsettled : (n : ℕ) (past : List Entry) → keep kept_by_itself (own n past) ≡ []
 unfolding own keep
-own-unsettled n [] = refl
-own-unsettled n (x ∷ past) = go (begins n x) (belongs n x) refl refl (own-unsettled n past)
+own_unsettled n [] = refl
+own_unsettled n (x ∷ past) = go (begins n x) (belongs n x) refl refl (own_unsettled n past)
   where
-    go : (b o : Bool) → begins n x ≡ b → belongs n x ≡ o → keep keptByItself (own n past) ≡ []
-        → keep keptByItself (cond b (x ∷ []) (cond o (own n past ++ (x ∷ [])) (own n past))) ≡ []
-    go true o p q h = keep_one keptByItself false x (begin-unsettled n (roleIn x) (good x) p)
+    go : (b o : Bool) → begins n x ≡ b → belongs n x ≡ o → keep kept_by_itself (own n past) ≡ []
+        → keep kept_by_itself (cond b (x ∷ []) (cond o (own n past ++ (x ∷ [])) (own n past))) ≡ []
+    go true o p q h = keep_one kept_by_itself false x (begin_unsettled n (role_in x) (good x) p)
     go false true p q h =
-        keep_append keptByItself (own n past) (x ∷ [])
-        ∙ ap₂ ◌++◌ h (keep_one keptByItself false x (own-call-unsettled n (roleIn x) (good x) q))
+        keep_append kept_by_itself (own n past) (x ∷ [])
+        ∙ ap₂ ◌++◌ h (keep_one kept_by_itself false x (own_call_unsettled n (role_in x) (good x) q))
     go false false p q h = h
 
 -- ---- KEPT IN ORDER: of the accepted commits and take-backs and the showings of the worksheet, the
 -- shorter list has all, in their order
 
-block : (past : List Entry) (x : Entry) (r : Role) → roleIn x ≡ r → keep keptByItself (keptFor past r x) ≡ only_if (isKeptByItself r (good x)) x
-unfolding keptFor keep
+block : (past : List Entry) (x : Entry) (r : Role) → role_in x ≡ r → keep kept_by_itself (kept_for past r x) ≡ only_if (is_kept_by_itself r (good x)) x
+unfolding kept_for keep
 block past x (beginning n) e = refl
 block past x (ending n) e = refl
 block past x (belonging n even es) e = refl
-block past x showing e = keep_one keptByItself true x (ap (λ (r : Role). isKeptByItself r (good x)) e)
+block past x showing e = keep_one kept_by_itself true x (ap (λ (r : Role). is_kept_by_itself r (good x)) e)
 block past x returning e = go (good x) refl
   where
-    go : (b : Bool) → good x ≡ b → keep keptByItself (only_if b x) ≡ only_if b x
-    go true g = keep_one keptByItself true x (ap (λ (r : Role). isKeptByItself r (good x)) e ∙ g)
+    go : (b : Bool) → good x ≡ b → keep kept_by_itself (only_if b x) ≡ only_if b x
+    go true g = keep_one kept_by_itself true x (ap (λ (r : Role). is_kept_by_itself r (good x)) e ∙ g)
     go false g = refl
 block past x (settling n) e = go (good x) refl
   where
-    go : (b : Bool) → good x ≡ b → keep keptByItself (cond b (own n past ++ (x ∷ [])) []) ≡ only_if b x
+    go : (b : Bool) → good x ≡ b → keep kept_by_itself (cond b (own n past ++ (x ∷ [])) []) ≡ only_if b x
     go true g =
-        keep_append keptByItself (own n past) (x ∷ [])
-        ∙ ap₂ ◌++◌ (own-unsettled n past) (keep_one keptByItself true x (ap (λ (r : Role). isKeptByItself r (good x)) e ∙ g))
+        keep_append kept_by_itself (own n past) (x ∷ [])
+        ∙ ap₂ ◌++◌ (own_unsettled n past) (keep_one kept_by_itself true x (ap (λ (r : Role). is_kept_by_itself r (good x)) e ∙ g))
     go false g = refl
 
-in_order : (past l : List Entry) → keep keptByItself (shorter past l) ≡ keep keptByItself l
+in_order : (past l : List Entry) → keep kept_by_itself (shorter past l) ≡ keep kept_by_itself l
 unfolding shorter keep
 in_order past [] = refl
 in_order past (x ∷ l) =
-    keep_append keptByItself (keptFor past (roleIn x) x) (shorter (x ∷ past) l)
-    ∙ ap₂ ◌++◌ (block past x (roleIn x) refl) (in_order (x ∷ past) l)
-    ∙ sym (keep-first (keptByItself x) x (keep keptByItself l))
+    keep_append kept_by_itself (kept_for past (role_in x) x) (shorter (x ∷ past) l)
+    ∙ ap₂ ◌++◌ (block past x (role_in x) refl) (in_order (x ∷ past) l)
+    ∙ sym (keep_first (kept_by_itself x) x (keep kept_by_itself l))
 
-pub kept-in-order : (source : Source) (w : Worksheet) (cs : List Call) → keep keptByItself (keptOf source w cs) ≡ keep keptByItself (run source cs w).entries
-unfolding keptOf
-kept-in-order source w cs = in_order [] (run source cs w).entries
+pub kept_in_order : (source : Source) (w : Worksheet) (cs : List Call) → keep kept_by_itself (kept_of source w cs) ≡ keep kept_by_itself (run source cs w).entries
+unfolding kept_of
+kept_in_order source w cs = in_order [] (run source cs w).entries
 
 -- ---- JUST BEFORE: the shorter list goes entry by entry, and own calls stand just before their
 -- commit
 
-pub shorter-append : (past l m : List Entry) → shorter past (l ++ m) ≡ shorter past l ++ shorter (reverse_aux l past) m
+pub shorter_append : (past l m : List Entry) → shorter past (l ++ m) ≡ shorter past l ++ shorter (reverse_aux l past) m
 unfolding shorter
-shorter-append past [] m = refl
-shorter-append past (x ∷ l) m =
-    ap (λ (k : List Entry). keptFor past (roleIn x) x ++ k) (shorter-append (x ∷ past) l m)
-    ∙ sym (append_assoc (keptFor past (roleIn x) x) (shorter (x ∷ past) l) (shorter (reverse_aux l (x ∷ past)) m))
+shorter_append past [] m = refl
+shorter_append past (x ∷ l) m =
+    ap (λ (k : List Entry). kept_for past (role_in x) x ++ k) (shorter_append (x ∷ past) l m)
+    ∙ sym (append_assoc (kept_for past (role_in x) x) (shorter (x ∷ past) l) (shorter (reverse_aux l (x ∷ past)) m))
 
-pub just-before : (n : ℕ) (before after : List Entry) (x : Entry) → x.call ≡ commit n → accepted x.answer ≡ true
+pub just_before : (n : ℕ) (before after : List Entry) (x : Entry) → x.call ≡ commit n → accepted x.answer ≡ true
     → shorter [] (before ++ (x ∷ after)) ≡ shorter [] before ++ (own n (reverse before) ++ (x ∷ shorter (x ∷ reverse before) after))
-unfolding shorter keptFor
-just-before n before after x c good =
+unfolding shorter kept_for
+just_before n before after x c good =
     let past = reverse before in
     let later = shorter (x ∷ past) after in
-    shorter-append [] before (x ∷ after)
+    shorter_append [] before (x ∷ after)
     ∙ ap (λ (k : List Entry). shorter [] before ++ k)
-    (ap (λ (z : Call). keptFor past (roleOf z) x ++ later) c
+    (ap (λ (z : Call). kept_for past (role_of z) x ++ later) c
     ∙ ap (λ (z : Bool). cond z (own n past ++ (x ∷ [])) [] ++ later) good
     ∙ append_assoc (own n past) (x ∷ []) later)
 
@@ -129,10 +129,10 @@ abbrev pub ◌∈◌ : Entry → List Entry → Type 0
 y ∈ l = Memᴰ y l
 
 -- an own call is an accepted begin of its desk, or belongs to it
-pub own-member : (n : ℕ) (y : Entry) (past : List Entry) → y ∈ (own n past) → (begins n y ≡ true) ⊎ (belongs n y ≡ true)
+pub own_member : (n : ℕ) (y : Entry) (past : List Entry) → y ∈ (own n past) → (begins n y ≡ true) ⊎ (belongs n y ≡ true)
 unfolding own
-own-member n y [] h = absurd (Memᴰ.not-nil h)
-own-member n y (x ∷ past) h = go (begins n x) (belongs n x) refl refl (own-member n y past) h
+own_member n y [] h = absurd (Memᴰ.not-nil h)
+own_member n y (x ∷ past) h = go (begins n x) (belongs n x) refl refl (own_member n y past) h
   where
     is_x : y ∈ (x ∷ []) → y ≡ x
     is_x m = Memᴰ.eq_of_singleton m
@@ -149,10 +149,10 @@ own-member n y (x ∷ past) h = go (begins n x) (belongs n x) refl refl (own-mem
     go false false p q below m = below m
 
 -- and it stands before the commit
-own-among : (n : ℕ) (y : Entry) (past : List Entry) → y ∈ (own n past) → y ∈ past
+own_among : (n : ℕ) (y : Entry) (past : List Entry) → y ∈ (own n past) → y ∈ past
 unfolding own
-own-among n y [] h = absurd (Memᴰ.not-nil h)
-own-among n y (x ∷ past) h = go (begins n x) (belongs n x) (own-among n y past) h
+own_among n y [] h = absurd (Memᴰ.not-nil h)
+own_among n y (x ∷ past) h = go (begins n x) (belongs n x) (own_among n y past) h
   where
     first : y ∈ (x ∷ []) → y ∈ (x ∷ past)
     first m = Memᴰ.head (Memᴰ.eq_of_singleton m)
@@ -166,10 +166,10 @@ own-among n y (x ∷ past) h = go (begins n x) (belongs n x) (own-among n y past
         either (inr k) = first k
     go false false below m = Memᴰ.tail (below m)
 
-among-reverse : (y : Entry) (l r : List Entry) → (y ∈ l) ⊎ (y ∈ r) → y ∈ (reverse_aux l r)
-among-reverse y [] r (inl m) = absurd (Memᴰ.not-nil m)
-among-reverse y [] r (inr m) = m
-among-reverse y (x ∷ l) r h = among-reverse y l (x ∷ r) (shift h)
+among_reverse : (y : Entry) (l r : List Entry) → (y ∈ l) ⊎ (y ∈ r) → y ∈ (reverse_aux l r)
+among_reverse y [] r (inl m) = absurd (Memᴰ.not-nil m)
+among_reverse y [] r (inr m) = m
+among_reverse y (x ∷ l) r h = among_reverse y l (x ∷ r) (shift h)
   where
     of : (y ≡ x) ⊎ (y ∈ l) → (y ∈ l) ⊎ (y ∈ (x ∷ r))
     of (inl e) = inr (Memᴰ.head e)
@@ -179,62 +179,62 @@ among-reverse y (x ∷ l) r h = among-reverse y l (x ∷ r) (shift h)
     shift (inl m) = of (Memᴰ.cases_cons m)
     shift (inr m) = inr (Memᴰ.tail m)
 
-in_block : (past later : List Entry) (x y : Entry) → y ∈ (keptFor past (roleIn x) x) → (keptByItself y ≡ true) ⊎ OwnCall (reverse past ++ (x ∷ later)) y
-unfolding keptFor
-in_block past later x y h = of (roleIn x) refl h
+in_block : (past later : List Entry) (x y : Entry) → y ∈ (kept_for past (role_in x) x) → (kept_by_itself y ≡ true) ⊎ OwnCall (reverse past ++ (x ∷ later)) y
+unfolding kept_for
+in_block past later x y h = of (role_in x) refl h
   where
     Good : Type 0
-    Good = (keptByItself y ≡ true) ⊎ OwnCall (reverse past ++ (x ∷ later)) y
+    Good = (kept_by_itself y ≡ true) ⊎ OwnCall (reverse past ++ (x ∷ later)) y
 
-    as-x : keptByItself x ≡ true → y ∈ (x ∷ []) → Good
-    as-x e m = inl (ap keptByItself (Memᴰ.eq_of_singleton m) ∙ e)
+    as_x : kept_by_itself x ≡ true → y ∈ (x ∷ []) → Good
+    as_x e m = inl (ap kept_by_itself (Memᴰ.eq_of_singleton m) ∙ e)
 
-    if-x : (b : Bool) → (b ≡ true → keptByItself x ≡ true) → y ∈ (only_if b x) → Good
-    if-x true e m = as-x (e refl) m
-    if-x false e m = absurd (Memᴰ.not-nil m)
+    if_x : (b : Bool) → (b ≡ true → kept_by_itself x ≡ true) → y ∈ (only_if b x) → Good
+    if_x true e m = as_x (e refl) m
+    if_x false e m = absurd (Memᴰ.not-nil m)
 
-    committed-by : (n : ℕ) → roleIn x ≡ settling n → (b : Bool) → good x ≡ b → y ∈ (cond b (own n past ++ (x ∷ [])) []) → Good
-    committed-by n c true e m = either (Memᴰ.append_cases (own n past) m)
+    committed_by : (n : ℕ) → role_in x ≡ settling n → (b : Bool) → good x ≡ b → y ∈ (cond b (own n past ++ (x ∷ [])) []) → Good
+    committed_by n c true e m = either (Memᴰ.append_cases (own n past) m)
       where
         either : y ∈ (own n past) ⊎ y ∈ (x ∷ []) → Good
         either (inl k) = inr (record {
           desk = n;
           before = reverse past;
-          its-commit = x;
+          its_commit = x;
           after = later;
           split = refl;
-          is-commit = c;
+          is_commit = c;
           committed = e;
-          is-own = subst (λ (l : List Entry). y ∈ (own n l)) (sym (reverse-reverse past)) k;
-          stands-before = among-reverse y past [] (inl (own-among n y past k));
-          begins-or-belongs = own-member n y past k;
+          is_own_law = subst (λ (l : List Entry). y ∈ (own n l)) (sym (reverse-reverse past)) k;
+          stands_before = among_reverse y past [] (inl (own_among n y past k));
+          begins_or_belongs = own_member n y past k;
         })
-        either (inr k) = as-x (ap (λ (r : Role). isKeptByItself r (good x)) c ∙ e) k
-    committed-by n c false e m = absurd (Memᴰ.not-nil m)
+        either (inr k) = as_x (ap (λ (r : Role). is_kept_by_itself r (good x)) c ∙ e) k
+    committed_by n c false e m = absurd (Memᴰ.not-nil m)
 
-    of : (r : Role) → roleIn x ≡ r → y ∈ (keptFor past r x) → Good
+    of : (r : Role) → role_in x ≡ r → y ∈ (kept_for past r x) → Good
     of (beginning n) e m = absurd (Memᴰ.not-nil m)
     of (ending n) e m = absurd (Memᴰ.not-nil m)
     of (belonging n even es) e m = absurd (Memᴰ.not-nil m)
-    of returning e m = if-x (good x) (λ g. ap (λ (r : Role). isKeptByItself r (good x)) e ∙ g) m
-    of showing e m = as-x (ap (λ (r : Role). isKeptByItself r (good x)) e) m
-    of (settling n) e m = committed-by n e (good x) refl m
+    of returning e m = if_x (good x) (λ g. ap (λ (r : Role). is_kept_by_itself r (good x)) e ∙ g) m
+    of showing e m = as_x (ap (λ (r : Role). is_kept_by_itself r (good x)) e) m
+    of (settling n) e m = committed_by n e (good x) refl m
 
-all_blocks : (past l : List Entry) (y : Entry) → y ∈ (shorter past l) → (keptByItself y ≡ true) ⊎ OwnCall (reverse past ++ l) y
+all_blocks : (past l : List Entry) (y : Entry) → y ∈ (shorter past l) → (kept_by_itself y ≡ true) ⊎ OwnCall (reverse past ++ l) y
 unfolding shorter
 all_blocks past [] y h = absurd (Memᴰ.not-nil h)
-all_blocks past (x ∷ later) y h = go (all_blocks (x ∷ past) later y) (Memᴰ.append_cases (keptFor past (roleIn x) x) h)
+all_blocks past (x ∷ later) y h = go (all_blocks (x ∷ past) later y) (Memᴰ.append_cases (kept_for past (role_in x) x) h)
   where
     same : reverse (x ∷ past) ++ later ≡ reverse past ++ (x ∷ later)
     same = ap (λ (k : List Entry). k ++ later) (reverse-cons x past) ∙ append_assoc (reverse past) (x ∷ []) later
 
-    go : (y ∈ (shorter (x ∷ past) later) → (keptByItself y ≡ true) ⊎ OwnCall (reverse (x ∷ past) ++ later) y)
-        → y ∈ (keptFor past (roleIn x) x) ⊎ y ∈ (shorter (x ∷ past) later) → (keptByItself y ≡ true) ⊎ OwnCall (reverse past ++ (x ∷ later)) y
+    go : (y ∈ (shorter (x ∷ past) later) → (kept_by_itself y ≡ true) ⊎ OwnCall (reverse (x ∷ past) ++ later) y)
+        → y ∈ (kept_for past (role_in x) x) ⊎ y ∈ (shorter (x ∷ past) later) → (kept_by_itself y ≡ true) ⊎ OwnCall (reverse past ++ (x ∷ later)) y
     go below (inl m) = in_block past later x y m
-    go below (inr m) = subst (λ (k : List Entry). (keptByItself y ≡ true) ⊎ OwnCall k y) same (below m)
+    go below (inr m) = subst (λ (k : List Entry). (kept_by_itself y ≡ true) ⊎ OwnCall k y) same (below m)
 
-pub nothing-else : (full : List Entry) (y : Entry) → y ∈ (shorter [] full) → (keptByItself y ≡ true) ⊎ OwnCall full y
-nothing-else full y h = all_blocks [] full y h
+pub nothing_else : (full : List Entry) (y : Entry) → y ∈ (shorter [] full) → (kept_by_itself y ≡ true) ⊎ OwnCall full y
+nothing_else full y h = all_blocks [] full y h
 
 -- ---- OWN CALLS: the last accepted begin, and what belongs to the desk since
 
@@ -246,14 +246,14 @@ none_first p x l h = go (p x) (none p l) h
     go true b e = absurd (false≢true e)
     go false b e = (refl, e)
 
-pub own-calls : (n : ℕ) (late : List Entry) (b : Entry) (front : List Entry) → begins n b ≡ true → none (begins n) late ≡ true
+pub own_calls : (n : ℕ) (late : List Entry) (b : Entry) (front : List Entry) → begins n b ≡ true → none (begins n) late ≡ true
     → own n (late ++ (b ∷ front)) ≡ b ∷ keep (belongs n) (reverse late)
 unfolding own keep
-own-calls n [] b front h q = ap (λ (z : Bool). cond z (b ∷ []) (cond (belongs n b) (own n front ++ (b ∷ [])) (own n front))) h
-own-calls n (x ∷ late) b front h q =
+own_calls n [] b front h q = ap (λ (z : Bool). cond z (b ∷ []) (cond (belongs n b) (own n front ++ (b ∷ [])) (own n front))) h
+own_calls n (x ∷ late) b front h q =
     let f = none_first (begins n) x late q in
     ap (λ (z : Bool). cond z (x ∷ []) (cond (belongs n x) (own n l ++ (x ∷ [])) (own n l))) f.0
-    ∙ ap (λ (k : List Entry). cond (belongs n x) (k ++ (x ∷ [])) k) (own-calls n late b front h f.1)
+    ∙ ap (λ (k : List Entry). cond (belongs n x) (k ++ (x ∷ [])) k) (own_calls n late b front h f.1)
     ∙ pull (belongs n x) refl
   where
     l : List Entry

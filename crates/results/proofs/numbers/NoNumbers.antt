@@ -4,99 +4,99 @@
 use mathlib.Core.Path.{◌≡◌, refl, ap}
 use lib.Ieee.{Float, nan, inf, fin, Format, neg, add, sub, mul, div, lt, le, eq, round}
 use Rattle.base.specs.Double.{fraction}
-use Rattle.base.specs.Number.{negative, absOf, with_sign, narrowOf, sqrtOf}
-use Rattle.base.specs.Elementary.{horner, factorial, up_from, expTerms, halfAngle, atanSeries, atanWithin, atanFrom, sinOf, cosOf, atanOf, acosOf, expWithin, expOf, lnOf, sin32Of, cos32Of, atan32Of, acos32Of, exp32Of, ln32Of, elementaryFunctions}
+use Rattle.base.specs.Number.{negative, abs_of, with_sign, narrow_of, sqrt_of}
+use Rattle.base.specs.Elementary.{horner, factorial, up_from, exp_terms, half_angle, atan_series, atan_within, atan_from, sin_of, cos_of, atan_of, acos_of, exp_within, exp_of, ln_of, sin32_of, cos32_of, atan32_of, acos32_of, exp32_of, ln32_of, elementary_functions}
 use Rattle.results.specs.ElementarySteps.{NanToNan}
 
 -- ---- the operations: a NaN on the left, and on the right
 
 module _ (f : Format) (x : Float) where
-  pub nan-add : add f nan x ≡ nan
+  pub nan_add : add f nan x ≡ nan
   unfolding add
-  nan-add = refl
+  nan_add = refl
 
-  pub nan-mul : mul f nan x ≡ nan
+  pub nan_mul : mul f nan x ≡ nan
   unfolding mul
-  nan-mul = refl
+  nan_mul = refl
 
-pub add-nan : (f : Format) (x : Float) → add f x nan ≡ nan
+pub add_nan : (f : Format) (x : Float) → add f x nan ≡ nan
 unfolding add
-add-nan f nan = refl
-add-nan f (inf s) = refl
-add-nan f (fin s m e) = refl
+add_nan f nan = refl
+add_nan f (inf s) = refl
+add_nan f (fin s m e) = refl
 
-pub mul-nan : (f : Format) (x : Float) → mul f x nan ≡ nan
+pub mul_nan : (f : Format) (x : Float) → mul f x nan ≡ nan
 unfolding mul
-mul-nan f nan = refl
-mul-nan f (inf s) = refl
-mul-nan f (fin s m e) = refl
+mul_nan f nan = refl
+mul_nan f (inf s) = refl
+mul_nan f (fin s m e) = refl
 
-pub div-nan : (f : Format) (x : Float) → div f x nan ≡ nan
+pub div_nan : (f : Format) (x : Float) → div f x nan ≡ nan
 unfolding div
-div-nan f nan = refl
-div-nan f (inf s) = refl
-div-nan f (fin s m e) = refl
+div_nan f nan = refl
+div_nan f (inf s) = refl
+div_nan f (fin s m e) = refl
 
 -- ---- the functions
 
-pub sin-nan : sinOf nan ≡ nan
-unfolding sinOf absOf negative le lt eq
-sin-nan = refl
+pub sin_nan : sin_of nan ≡ nan
+unfolding sin_of abs_of negative le lt eq
+sin_nan = refl
 
-pub cos-nan : cosOf nan ≡ nan
-unfolding cosOf absOf negative le lt eq
-cos-nan = refl
+pub cos_nan : cos_of nan ≡ nan
+unfolding cos_of abs_of negative le lt eq
+cos_nan = refl
 
-pub atan-nan : atanOf nan ≡ nan
-unfolding atanOf with_sign atanFrom absOf negative atanWithin atanSeries halfAngle fraction round lt mul div
-atan-nan = refl
+pub atan_nan : atan_of nan ≡ nan
+unfolding atan_of with_sign atan_from abs_of negative atan_within atan_series half_angle fraction round lt mul div
+atan_nan = refl
 
-pub acos-nan : acosOf nan ≡ nan
-unfolding acosOf absOf negative le lt eq
-acos-nan = refl
+pub acos_nan : acos_of nan ≡ nan
+unfolding acos_of abs_of negative le lt eq
+acos_nan = refl
 
-pub exp-nan : expOf nan ≡ nan
-unfolding expOf expWithin horner expTerms up_from factorial fraction round neg lt add sub mul
-exp-nan = refl
+pub exp_nan : exp_of nan ≡ nan
+unfolding exp_of exp_within horner exp_terms up_from factorial fraction round neg lt add sub mul
+exp_nan = refl
 
-pub ln-nan : lnOf nan ≡ nan
-unfolding lnOf
-ln-nan = refl
+pub ln_nan : ln_of nan ≡ nan
+unfolding ln_of
+ln_nan = refl
 
-pub root-nan : (f : Format) → sqrtOf f nan ≡ nan
-unfolding sqrtOf
-root-nan f = refl
+pub root_nan : (f : Format) → sqrt_of f nan ≡ nan
+unfolding sqrt_of
+root_nan f = refl
 
 -- an f32 call narrows
-narrow-nan : (x : Float) → x ≡ nan → narrowOf x ≡ nan
-unfolding narrowOf
-narrow-nan x e = ap narrowOf e
+narrow_nan : (x : Float) → x ≡ nan → narrow_of x ≡ nan
+unfolding narrow_of
+narrow_nan x e = ap narrow_of e
 
-pub sin32-nan : sin32Of nan ≡ nan
-unfolding sin32Of
-sin32-nan = narrow-nan _ sin-nan
+pub sin32_nan : sin32_of nan ≡ nan
+unfolding sin32_of
+sin32_nan = narrow_nan _ sin_nan
 
-pub cos32-nan : cos32Of nan ≡ nan
-unfolding cos32Of
-cos32-nan = narrow-nan _ cos-nan
+pub cos32_nan : cos32_of nan ≡ nan
+unfolding cos32_of
+cos32_nan = narrow_nan _ cos_nan
 
-pub atan32-nan : atan32Of nan ≡ nan
-unfolding atan32Of
-atan32-nan = narrow-nan _ atan-nan
+pub atan32_nan : atan32_of nan ≡ nan
+unfolding atan32_of
+atan32_nan = narrow_nan _ atan_nan
 
-pub acos32-nan : acos32Of nan ≡ nan
-unfolding acos32Of
-acos32-nan = narrow-nan _ acos-nan
+pub acos32_nan : acos32_of nan ≡ nan
+unfolding acos32_of
+acos32_nan = narrow_nan _ acos_nan
 
-pub exp32-nan : exp32Of nan ≡ nan
-unfolding exp32Of
-exp32-nan = narrow-nan _ exp-nan
+pub exp32_nan : exp32_of nan ≡ nan
+unfolding exp32_of
+exp32_nan = narrow_nan _ exp_nan
 
-pub ln32-nan : ln32Of nan ≡ nan
-unfolding ln32Of
-ln32-nan = narrow-nan _ ln-nan
+pub ln32_nan : ln32_of nan ≡ nan
+unfolding ln32_of
+ln32_nan = narrow_nan _ ln_nan
 
 -- 'Any NaN gives NaN'
-pub nan-all : NanToNan elementaryFunctions
-nan-all =
-    (sin-nan, (cos-nan, (atan-nan, (acos-nan, (exp-nan, (ln-nan, (root-nan _, (sin32-nan, (cos32-nan, (atan32-nan, (acos32-nan, (exp32-nan, (ln32-nan, (root-nan _, tt))))))))))))))
+pub nan_all : NanToNan elementary_functions
+nan_all =
+    (sin_nan, (cos_nan, (atan_nan, (acos_nan, (exp_nan, (ln_nan, (root_nan _, (sin32_nan, (cos32_nan, (atan32_nan, (acos32_nan, (exp32_nan, (ln32_nan, (root_nan _, tt))))))))))))))

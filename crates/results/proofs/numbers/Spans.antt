@@ -14,12 +14,12 @@ use lib.Ieee.{Float, nan, Format, binary64, add, sub, mul, neg, le, is_nan}
 use lib.Ieee.Fits.{and_l, and_r}
 use lib.Ieee.Scale.{finite}
 use lib.Ieee.Positive.{den_pos}
-use Rattle.base.specs.Number.{absOf, sqrtOf, narrowOf}
+use Rattle.base.specs.Number.{abs_of, sqrt_of, narrow_of}
 use Rattle.base.specs.Elementary.{horner}
-use Rattle.base.proofs.order.Order.{nought, Between, wider, between-finite, le_left, le_right, le-abs, abs_neg, neg-neg, trans_le, refl-le, total-le, no-nan-finite, neg-le, neg-finite}
-use Rattle.base.proofs.order.Monotone.{Rounds, rounds-mono, mul-rounds, add-mono, sub-mono, mul_left, mul-anti, mul-turn, narrow-mono}
+use Rattle.base.proofs.order.Order.{nought, Between, wider, between_finite, le_left, le_right, le_abs, abs_neg, neg_neg, trans_le, refl_le, total_le, no_nan_finite, neg_le, neg_finite}
+use Rattle.base.proofs.order.Monotone.{Rounds, rounds_mono, mul_rounds, add_mono, sub_mono, mul_left, mul_anti, mul_turn, narrow_mono}
 use Rattle.base.proofs.order.Intervals.{exactly}
-use Rattle.base.proofs.roots.RootsOrder.{sqrt-mono}
+use Rattle.base.proofs.roots.RootsOrder.{sqrt_mono}
 
 pub data Span : Type 0 where
   any : Span
@@ -54,16 +54,16 @@ made_in lo hi x b = go (finite lo) (finite hi) refl refl
     go true false u v = unknown
     go true true u v = record { is = record { from = subst T (sym u) tt; to = subst T (sym v) tt; between = b } }
 
-held-finite : {lo hi x : Float} → In (span lo hi) x → T (finite x)
-held-finite h = between-finite h.is.from h.is.to h.is.between
+held_finite : {lo hi x : Float} → In (span lo hi) x → T (finite x)
+held_finite h = between_finite h.is.from h.is.to h.is.between
 
 -- one number
 unfoldable pub point : Float → Span
 point c = cond (finite c) (span c c) any
 
-pub point-in : (c : Float) → In (point c) c
+pub point_in : (c : Float) → In (point c) c
 unfolding point
-point-in c = go (finite c) refl
+point_in c = go (finite c) refl
   where
     go : (p : Bool) → finite c ≡ p → In (cond p (span c c) any) c
     go false e = unknown
@@ -86,28 +86,28 @@ unfoldable pub negated : Span → Span
 negated any = any
 negated (span a b) = span (neg b) (neg a)
 
-pub plus-in : (f : Format) (i j : Span) {x y : Float} → In i x → In j y → In (plus f i j) (add f x y)
+pub plus_in : (f : Format) (i j : Span) {x y : Float} → In i x → In j y → In (plus f i j) (add f x y)
 unfolding plus
-plus-in f any j h k = unknown
-plus-in f (span a b) any h k = unknown
-plus-in f (span a b) (span c d) {x} {y} h k =
-    let X = held-finite h in
-    let Y = held-finite k in
-    made_in (add f a c) (add f b d) (add f x y) (record { low = add-mono f a x c y h.is.from X k.is.from Y h.is.between.low k.is.between.low; high = add-mono f x b y d X h.is.to Y k.is.to h.is.between.high k.is.between.high })
+plus_in f any j h k = unknown
+plus_in f (span a b) any h k = unknown
+plus_in f (span a b) (span c d) {x} {y} h k =
+    let X = held_finite h in
+    let Y = held_finite k in
+    made_in (add f a c) (add f b d) (add f x y) (record { low = add_mono f a x c y h.is.from X k.is.from Y h.is.between.low k.is.between.low; high = add_mono f x b y d X h.is.to Y k.is.to h.is.between.high k.is.between.high })
 
-pub minus-in : (f : Format) (i j : Span) {x y : Float} → In i x → In j y → In (minus f i j) (sub f x y)
+pub minus_in : (f : Format) (i j : Span) {x y : Float} → In i x → In j y → In (minus f i j) (sub f x y)
 unfolding minus
-minus-in f any j h k = unknown
-minus-in f (span a b) any h k = unknown
-minus-in f (span a b) (span c d) {x} {y} h k =
-    let X = held-finite h in
-    let Y = held-finite k in
-    made_in (sub f a d) (sub f b c) (sub f x y) (record { low = sub-mono f a x d y h.is.from X k.is.to Y h.is.between.low k.is.between.high; high = sub-mono f x b y c X h.is.to Y k.is.from h.is.between.high k.is.between.low })
+minus_in f any j h k = unknown
+minus_in f (span a b) any h k = unknown
+minus_in f (span a b) (span c d) {x} {y} h k =
+    let X = held_finite h in
+    let Y = held_finite k in
+    made_in (sub f a d) (sub f b c) (sub f x y) (record { low = sub_mono f a x d y h.is.from X k.is.to Y h.is.between.low k.is.between.high; high = sub_mono f x b y c X h.is.to Y k.is.from h.is.between.high k.is.between.low })
 
-pub negated-in : (i : Span) {x : Float} → In i x → In (negated i) (neg x)
+pub negated_in : (i : Span) {x : Float} → In i x → In (negated i) (neg x)
 unfolding negated
-negated-in any h = unknown
-negated-in (span a b) {x} h = record { is = record { from = neg-finite b h.is.to; to = neg-finite a h.is.from; between = record { low = neg-le x b h.is.between.high; high = neg-le a x h.is.between.low } } }
+negated_in any h = unknown
+negated_in (span a b) {x} h = record { is = record { from = neg_finite b h.is.to; to = neg_finite a h.is.from; between = record { low = neg_le x b h.is.between.high; high = neg_le a x h.is.between.low } } }
 
 -- ---- products: between the least and the greatest of the ends' four
 unfoldable pub lesser : Float → Float → Float
@@ -130,23 +130,23 @@ record Greatest (g a b : Float) : Type 0 where
   pub right : T (le b g)
 
 other : (a b : Float) → Number a → Number b → le a b ≡ false → T (le b a)
-other a b p q e = elim (total-le a b p q) [ inl h ↦ absurd (subst T e h) | inr h ↦ h ]
+other a b p q e = elim (total_le a b p q) [ inl h ↦ absurd (subst T e h) | inr h ↦ h ]
 
 least : (a b : Float) → Number a → Number b → Least (lesser a b) a b
 unfolding lesser
 least a b p q = go (le a b) refl
   where
     go : (c : Bool) → le a b ≡ c → Least (cond c a b) a b
-    go true e = record { number = p; left = refl-le a p; right = subst T (sym e) tt }
-    go false e = record { number = q; left = other a b p q e; right = refl-le b q }
+    go true e = record { number = p; left = refl_le a p; right = subst T (sym e) tt }
+    go false e = record { number = q; left = other a b p q e; right = refl_le b q }
 
 greatest : (a b : Float) → Number a → Number b → Greatest (greater a b) a b
 unfolding greater
 greatest a b p q = go (le a b) refl
   where
     go : (c : Bool) → le a b ≡ c → Greatest (cond c b a) a b
-    go true e = record { number = q; left = subst T (sym e) tt; right = refl-le b q }
-    go false e = record { number = p; left = refl-le a p; right = other a b p q e }
+    go true e = record { number = q; left = subst T (sym e) tt; right = refl_le b q }
+    go false e = record { number = p; left = refl_le a p; right = other a b p q e }
 
 unfoldable pub hull : Float → Float → Float → Float → Span
 unfolding made lesser greater
@@ -158,8 +158,8 @@ record Hull (lo hi p q u v : Float) : Type 0 where
   pub third : Between lo hi u
   pub fourth : Between lo hi v
 
-hull-is : (p q u v : Float) → Number p → Number q → Number u → Number v → Hull (lesser (lesser p q) (lesser u v)) (greater (greater p q) (greater u v)) p q u v
-hull-is p q u v P Q U W =
+hull_is : (p q u v : Float) → Number p → Number q → Number u → Number v → Hull (lesser (lesser p q) (lesser u v)) (greater (greater p q) (greater u v)) p q u v
+hull_is p q u v P Q U W =
     let l = least p q P Q in
     let m = least u v U W in
     let k = least (lesser p q) (lesser u v) l.number m.number in
@@ -181,79 +181,79 @@ times f any j = any
 times f (span a b) any = any
 times f (span a b) (span c d) = hull (mul f a c) (mul f a d) (mul f b c) (mul f b d)
 
-pub rounds-number : (f : Format) (z : Float) (p n c : ℕ) → 0 < c → Rounds f z p n c → Number z
-rounds-number f z p n c C r = le_left z z (rounds-mono f z z p n c p n c C C r r (omega arith))
+pub rounds_number : (f : Format) (z : Float) (p n c : ℕ) → 0 < c → Rounds f z p n c → Number z
+rounds_number f z p n c C r = le_left z z (rounds_mono f z z p n c p n c C C r r (omega arith))
 
-product-number : (f : Format) (x y : Float) → T (finite x) → T (finite y) → Number (mul f x y)
-product-number f x y p q = rounds-number f (mul f x y) _ _ _ (mul-pos (den_pos x) (den_pos y)) (mul-rounds f x y p q)
+product_number : (f : Format) (x y : Float) → T (finite x) → T (finite y) → Number (mul f x y)
+product_number f x y p q = rounds_number f (mul f x y) _ _ _ (mul-pos (den_pos x) (den_pos y)) (mul_rounds f x y p q)
 
 -- a times y is between a times c and a times d, where y is between c and d
 side : (f : Format) (lo hi a c d y : Float) → T (finite a) → T (finite c) → T (finite d) → Between c d y → Between lo hi (mul f a c) → Between lo hi (mul f a d) → Between lo hi (mul f a y)
 side f lo hi a c d y A C D b p q =
-    let Y = between-finite C D b in
-    elim (total-le nought a (no-nan-finite nought tt) (no-nan-finite a A)) [
+    let Y = between_finite C D b in
+    elim (total_le nought a (no_nan_finite nought tt) (no_nan_finite a A)) [
       | inl n ↦ record { low = trans_le lo (mul f a c) (mul f a y) p.low (mul_left f a c y A C Y n b.low); high = trans_le (mul f a y) (mul f a d) hi (mul_left f a y d A Y D n b.high) q.high }
-      | inr n ↦ record { low = trans_le lo (mul f a d) (mul f a y) q.low (mul-anti f a y d A Y D n b.high); high = trans_le (mul f a y) (mul f a c) hi (mul-anti f a c y A C Y n b.low) p.high }
+      | inr n ↦ record { low = trans_le lo (mul f a d) (mul f a y) q.low (mul_anti f a y d A Y D n b.high); high = trans_le (mul f a y) (mul f a c) hi (mul_anti f a c y A C Y n b.low) p.high }
     ]
 
 turned : (f : Format) {lo hi : Float} (x y : Float) → Between lo hi (mul f x y) → Between lo hi (mul f y x)
-turned f {lo} {hi} x y b = subst (Between lo hi) (mul-turn f x y) b
+turned f {lo} {hi} x y b = subst (Between lo hi) (mul_turn f x y) b
 
-pub times-in : (f : Format) (i j : Span) {x y : Float} → In i x → In j y → In (times f i j) (mul f x y)
+pub times_in : (f : Format) (i j : Span) {x y : Float} → In i x → In j y → In (times f i j) (mul f x y)
 unfolding times hull
-times-in f any j h k = unknown
-times-in f (span a b) any h k = unknown
-times-in f (span a b) (span c d) {x} {y} h k =
+times_in f any j h k = unknown
+times_in f (span a b) any h k = unknown
+times_in f (span a b) (span c d) {x} {y} h k =
     let A = h.is.from in
     let B = h.is.to in
     let C = k.is.from in
     let D = k.is.to in
-    let w = hull-is (mul f a c) (mul f a d) (mul f b c) (mul f b d) (product-number f a c A C) (product-number f a d A D) (product-number f b c B C) (product-number f b d B D) in
+    let w = hull_is (mul f a c) (mul f a d) (mul f b c) (mul f b d) (product_number f a c A C) (product_number f a d A D) (product_number f b c B C) (product_number f b d B D) in
     let l = lesser (lesser (mul f a c) (mul f a d)) (lesser (mul f b c) (mul f b d)) in
     let g = greater (greater (mul f a c) (mul f a d)) (greater (mul f b c) (mul f b d)) in
     let u = turned f a y (side f l g a c d y A C D k.is.between w.first w.second) in
     let v = turned f b y (side f l g b c d y B C D k.is.between w.third w.fourth) in
-    made_in l g (mul f x y) (turned f y x (side f l g y a b x (held-finite k) A B h.is.between u v))
+    made_in l g (mul f x y) (turned f y x (side f l g y a b x (held_finite k) A B h.is.between u v))
 
 -- ---- roots and narrowing
 unfoldable pub rooted : Format → Span → Span
 unfolding made
 rooted f any = any
-rooted f (span a b) = cond (le nought a) (made (sqrtOf f a) (sqrtOf f b)) any
+rooted f (span a b) = cond (le nought a) (made (sqrt_of f a) (sqrt_of f b)) any
 
-pub rooted-in : (f : Format) (i : Span) {x : Float} → In i x → In (rooted f i) (sqrtOf f x)
+pub rooted_in : (f : Format) (i : Span) {x : Float} → In i x → In (rooted f i) (sqrt_of f x)
 unfolding rooted
-rooted-in f any h = unknown
-rooted-in f (span a b) {x} h = go (le nought a) refl
+rooted_in f any h = unknown
+rooted_in f (span a b) {x} h = go (le nought a) refl
   where
-    go : (c : Bool) → le nought a ≡ c → In (cond c (made (sqrtOf f a) (sqrtOf f b)) any) (sqrtOf f x)
+    go : (c : Bool) → le nought a ≡ c → In (cond c (made (sqrt_of f a) (sqrt_of f b)) any) (sqrt_of f x)
     go false e = unknown
     go true e =
         let n : T (le nought a) = subst T (sym e) tt in
-        made_in (sqrtOf f a) (sqrtOf f b) (sqrtOf f x) (record { low = sqrt-mono f a x n h.is.between.low; high = sqrt-mono f x b (trans_le nought a x n h.is.between.low) h.is.between.high })
+        made_in (sqrt_of f a) (sqrt_of f b) (sqrt_of f x) (record { low = sqrt_mono f a x n h.is.between.low; high = sqrt_mono f x b (trans_le nought a x n h.is.between.low) h.is.between.high })
 
 unfoldable pub narrowed : Span → Span
 unfolding made
 narrowed any = any
-narrowed (span a b) = made (narrowOf a) (narrowOf b)
+narrowed (span a b) = made (narrow_of a) (narrow_of b)
 
-pub narrowed-in : (i : Span) {x : Float} → In i x → In (narrowed i) (narrowOf x)
+pub narrowed_in : (i : Span) {x : Float} → In i x → In (narrowed i) (narrow_of x)
 unfolding narrowed
-narrowed-in any h = unknown
-narrowed-in (span a b) {x} h = made_in (narrowOf a) (narrowOf b) (narrowOf x) (record { low = narrow-mono a x h.is.between.low; high = narrow-mono x b h.is.between.high })
+narrowed_in any h = unknown
+narrowed_in (span a b) {x} h = made_in (narrow_of a) (narrow_of b) (narrow_of x) (record { low = narrow_mono a x h.is.between.low; high = narrow_mono x b h.is.between.high })
 
 -- ---- Horner's scheme
-unfoldable pub hornerIn : List Float → Span → Span
+unfoldable pub horner_in : List Float → Span → Span
 unfolding plus times point
-hornerIn [] x = any
-hornerIn (c ∷ []) x = point c
-hornerIn (c ∷ (d ∷ cs)) x = plus binary64 (times binary64 (hornerIn (d ∷ cs) x) x) (point c)
+horner_in [] x = any
+horner_in (c ∷ []) x = point c
+horner_in (c ∷ (d ∷ cs)) x = plus binary64 (times binary64 (horner_in (d ∷ cs) x) x) (point c)
 
-pub horner-held : (t : List Float) (i : Span) {x : Float} → In i x → In (hornerIn t i) (horner t x)
-unfolding hornerIn horner
-horner-held [] i h = unknown
-horner-held (c ∷ []) i h = point-in c
-horner-held (c ∷ (d ∷ cs)) i h = plus-in binary64 (times binary64 (hornerIn (d ∷ cs) i) i) (point c) (times-in binary64 (hornerIn (d ∷ cs) i) i (horner-held (d ∷ cs) i h) h) (point-in c)
+pub horner_held : (t : List Float) (i : Span) {x : Float} → In i x → In (horner_in t i) (horner t x)
+unfolding horner_in horner
+horner_held [] i h = unknown
+horner_held (c ∷ []) i h = point_in c
+horner_held (c ∷ (d ∷ cs)) i h = plus_in binary64 (times binary64 (horner_in (d ∷ cs) i) i) (point c) (times_in binary64 (horner_in (d ∷ cs) i) i (horner_held (d ∷ cs) i h) h) (point_in c)
 
 -- ---- where an interval lies
 -- between l and h
@@ -261,10 +261,10 @@ unfoldable pub inside : Float → Float → Span → Bool
 inside l h any = false
 inside l h (span a b) = le l a && le b h
 
-pub inside-between : (l h : Float) (i : Span) {x : Float} → T (inside l h i) → In i x → Between l h x
+pub inside_between : (l h : Float) (i : Span) {x : Float} → T (inside l h i) → In i x → Between l h x
 unfolding inside
-inside-between l h any t k = absurd t
-inside-between l h (span a b) t k = wider l h (and_l (le l a) (le b h) t) (and_r (le l a) (le b h) t) k.is.between
+inside_between l h any t k = absurd t
+inside_between l h (span a b) t k = wider l h (and_l (le l a) (le b h) t) (and_r (le l a) (le b h) t) k.is.between
 
 -- ---- lists
 abbrev pub Each : List Span → List Float → Type 0
@@ -293,7 +293,7 @@ unfolding point
 points [] = []
 points (x ∷ xs) = point x ∷ points xs
 
-pub points-in : (l : List Float) → Each (points l) l
+pub points_in : (l : List Float) → Each (points l) l
 unfolding points
-points-in [] = tt
-points-in (x ∷ xs) = (point-in x, points-in xs)
+points_in [] = tt
+points_in (x ∷ xs) = (point_in x, points_in xs)

@@ -11,11 +11,11 @@ use Rattle.auditing.specs.declared.marks.Origin.TheVariants.{Set}
 use Rattle.auditing.specs.declared.marks.Fate.TheVariants.{Stands, TakenBack, Cancelled}
 use Rattle.auditing.specs.declared.marks.Refused.{Refused}
 use Rattle.auditing.specs.declared.marks.Refused.TheVariants.{At}
-use Rattle.auditing.specs.Marks.{markSort, markDesk, isDone, isDoneBy, isOwnMark, isRefusedCommit, markAt, changeBefore, originBefore, settledFrom, fateFrom, refusedFrom, ownPlaces, kept_at, keptPlaces}
+use Rattle.auditing.specs.Marks.{mark_sort, mark_desk, is_done, is_done_by, is_own_mark, is_refused_commit, mark_at, change_before, origin_before, settled_from, fate_from, refused_from, own_places, kept_at, kept_places}
 
 -- the same marks at the places below n
 abbrev pub Alike : List ℕ → List ℕ → ℕ → Type 0
-Alike ms ns n = (i : ℕ) → i < n → markAt ms i ≡ markAt ns i
+Alike ms ns n = (i : ℕ) → i < n → mark_at ms i ≡ mark_at ns i
 
 module _ (ms ns : List ℕ) where
   fewer : (m n : ℕ) → m ≤ n → Alike ms ns n → Alike ms ns m
@@ -23,105 +23,105 @@ module _ (ms ns : List ℕ) where
 
   -- ---- backwards
 
-  change-alike :
+  change_alike :
       (part n settled : ℕ) (other : Origin) (j : ℕ) → Alike ms ns j →
-      changeBefore ms part n settled other j ≡ changeBefore ns part n settled other j
-  unfolding changeBefore
-  change-alike part n settled other zero same = refl
-  change-alike part n settled other (suc j) same =
-      let rest = change-alike part n settled other j (fewer j (suc j) (omega arith) same) in
+      change_before ms part n settled other j ≡ change_before ns part n settled other j
+  unfolding change_before
+  change_alike part n settled other zero same = refl
+  change_alike part n settled other (suc j) same =
+      let rest = change_alike part n settled other j (fewer j (suc j) (omega arith) same) in
       λ t.
       let m = same j (omega arith) t in
-      cond (isDoneBy 8 n m) other (cond (isDoneBy part n m) (Set j settled) (rest t))
+      cond (is_done_by 8 n m) other (cond (is_done_by part n m) (Set j settled) (rest t))
 
-  pub origin-alike :
-      (part : ℕ) (back : Bool) (j : ℕ) → Alike ms ns j → originBefore ms part back j ≡ originBefore ns part back j
-  unfolding originBefore
-  origin-alike part back zero same = refl
-  origin-alike part back (suc j) same =
+  pub origin_alike :
+      (part : ℕ) (back : Bool) (j : ℕ) → Alike ms ns j → origin_before ms part back j ≡ origin_before ns part back j
+  unfolding origin_before
+  origin_alike part back zero same = refl
+  origin_alike part back (suc j) same =
       let less = fewer j (suc j) (omega arith) same in
-      let d = markDesk (markAt ns j) in
-      let none = origin-alike part false j less in
+      let d = mark_desk (mark_at ns j) in
+      let none = origin_alike part false j less in
       let change =
-      change-alike part d j (originBefore ms part false j) j less
-      ∙ ap (λ (o : Origin). changeBefore ns part d j o j) none in
+      change_alike part d j (origin_before ms part false j) j less
+      ∙ ap (λ (o : Origin). change_before ns part d j o j) none in
       (λ t.
       let m = same j (omega arith) t in
-      cond (isDone 11 m) (originBefore ms part true j)
-      (cond (isDone 9 m)
-      (cond back (originBefore ms part false j) (changeBefore ms part (markDesk m) j (originBefore ms part false j) j))
-      (originBefore ms part back j)))
+      cond (is_done 11 m) (origin_before ms part true j)
+      (cond (is_done 9 m)
+      (cond back (origin_before ms part false j) (change_before ms part (mark_desk m) j (origin_before ms part false j) j))
+      (origin_before ms part back j)))
       ∙ (λ t.
-      let m = markAt ns j in
-      cond (isDone 11 m) (origin-alike part true j less t)
-      (cond (isDone 9 m) (cond back (none t) (change t)) (origin-alike part back j less t)))
+      let m = mark_at ns j in
+      cond (is_done 11 m) (origin_alike part true j less t)
+      (cond (is_done 9 m) (cond back (none t) (change t)) (origin_alike part back j less t)))
 
   -- ---- forwards
 
-  settled-alike :
-      (settled at k : ℕ) → Alike ms ns (at + k) → settledFrom ms settled at k ≡ settledFrom ns settled at k
-  unfolding settledFrom
-  settled-alike settled at zero same = refl
-  settled-alike settled at (suc k) same =
-      let rest = settled-alike settled (suc at) k (fewer (suc at + k) (at + suc k) (omega arith) same) in
+  settled_alike :
+      (settled at k : ℕ) → Alike ms ns (at + k) → settled_from ms settled at k ≡ settled_from ns settled at k
+  unfolding settled_from
+  settled_alike settled at zero same = refl
+  settled_alike settled at (suc k) same =
+      let rest = settled_alike settled (suc at) k (fewer (suc at + k) (at + suc k) (omega arith) same) in
       λ t.
       let m = same at (omega arith) t in
-      cond (isDone 9 m) (Stands settled) (cond (isDone 11 m) (TakenBack settled at) (rest t))
+      cond (is_done 9 m) (Stands settled) (cond (is_done 11 m) (TakenBack settled at) (rest t))
 
-  pub fate-alike : (n at k : ℕ) → Alike ms ns (at + k) → fateFrom ms n at k ≡ fateFrom ns n at k
-  unfolding fateFrom
-  fate-alike n at zero same = refl
-  fate-alike n at (suc k) same =
+  pub fate_alike : (n at k : ℕ) → Alike ms ns (at + k) → fate_from ms n at k ≡ fate_from ns n at k
+  unfolding fate_from
+  fate_alike n at zero same = refl
+  fate_alike n at (suc k) same =
       let less = fewer (suc at + k) (at + suc k) (omega arith) same in
-      let settled = settled-alike at (suc at) k less in
-      let rest = fate-alike n (suc at) k less in
+      let settled = settled_alike at (suc at) k less in
+      let rest = fate_alike n (suc at) k less in
       λ t.
       let m = same at (omega arith) t in
-      cond (isDoneBy 10 n m) (Cancelled at) (cond (isDoneBy 9 n m) (settled t) (rest t))
+      cond (is_done_by 10 n m) (Cancelled at) (cond (is_done_by 9 n m) (settled t) (rest t))
 
-  pub refused-alike :
+  pub refused_alike :
       (n : ℕ) (last : Refused) (at k : ℕ) → Alike ms ns (at + k) →
-      refusedFrom ms n last at k ≡ refusedFrom ns n last at k
-  unfolding refusedFrom
-  refused-alike n last at zero same = refl
-  refused-alike n last at (suc k) same =
+      refused_from ms n last at k ≡ refused_from ns n last at k
+  unfolding refused_from
+  refused_alike n last at zero same = refl
+  refused_alike n last at (suc k) same =
       let less = fewer (suc at + k) (at + suc k) (omega arith) same in
       (λ t.
       let m = same at (omega arith) t in
-      cond (isDoneBy 10 n m || isDoneBy 9 n m) last
-      (refusedFrom ms n (cond (isRefusedCommit n m) (At at) last) (suc at) k))
+      cond (is_done_by 10 n m || is_done_by 9 n m) last
+      (refused_from ms n (cond (is_refused_commit n m) (At at) last) (suc at) k))
       ∙ (λ t.
-      let m = markAt ns at in
-      cond (isDoneBy 10 n m || isDoneBy 9 n m) last
-      (refused-alike n (cond (isRefusedCommit n m) (At at) last) (suc at) k less t))
+      let m = mark_at ns at in
+      cond (is_done_by 10 n m || is_done_by 9 n m) last
+      (refused_alike n (cond (is_refused_commit n m) (At at) last) (suc at) k less t))
 
   -- ---- the places kept
 
-  own-alike : (n j : ℕ) → Alike ms ns j → ownPlaces ms n j ≡ ownPlaces ns n j
-  unfolding ownPlaces
-  own-alike n zero same = refl
-  own-alike n (suc j) same =
-      let rest = own-alike n j (fewer j (suc j) (omega arith) same) in
+  own_alike : (n j : ℕ) → Alike ms ns j → own_places ms n j ≡ own_places ns n j
+  unfolding own_places
+  own_alike n zero same = refl
+  own_alike n (suc j) same =
+      let rest = own_alike n j (fewer j (suc j) (omega arith) same) in
       λ t.
       let m = same j (omega arith) t in
-      cond (isDoneBy 8 n m) (j ∷ []) (cond (isOwnMark n m) (rest t ++ (j ∷ [])) (rest t))
+      cond (is_done_by 8 n m) (j ∷ []) (cond (is_own_mark n m) (rest t ++ (j ∷ [])) (rest t))
 
-  kept-at-alike : (j : ℕ) → Alike ms ns (suc j) → kept_at ms j ≡ kept_at ns j
+  kept_at_alike : (j : ℕ) → Alike ms ns (suc j) → kept_at ms j ≡ kept_at ns j
   unfolding kept_at
-  kept-at-alike j same =
+  kept_at_alike j same =
       let less = fewer j (suc j) (omega arith) same in
-      let own = own-alike (markDesk (markAt ns j)) j less in
+      let own = own_alike (mark_desk (mark_at ns j)) j less in
       (λ t.
       let m = same j (omega arith) t in
-      cond (isDone 9 m) (ownPlaces ms (markDesk m) j ++ (j ∷ []))
-      (cond (isDone 11 m || (eqb (markSort m) 12 && eqb (markDesk m) 0)) (j ∷ []) []))
+      cond (is_done 9 m) (own_places ms (mark_desk m) j ++ (j ∷ []))
+      (cond (is_done 11 m || (eqb (mark_sort m) 12 && eqb (mark_desk m) 0)) (j ∷ []) []))
       ∙ (λ t.
-      let m = markAt ns j in
-      cond (isDone 9 m) (own t ++ (j ∷ []))
-      (cond (isDone 11 m || (eqb (markSort m) 12 && eqb (markDesk m) 0)) (j ∷ []) []))
+      let m = mark_at ns j in
+      cond (is_done 9 m) (own t ++ (j ∷ []))
+      (cond (is_done 11 m || (eqb (mark_sort m) 12 && eqb (mark_desk m) 0)) (j ∷ []) []))
 
-  pub kept-alike : (j : ℕ) → Alike ms ns j → keptPlaces ms j ≡ keptPlaces ns j
-  unfolding keptPlaces
-  kept-alike zero same = refl
-  kept-alike (suc j) same =
-      λ t. kept-alike j (fewer j (suc j) (omega arith) same) t ++ kept-at-alike j same t
+  pub kept_alike : (j : ℕ) → Alike ms ns j → kept_places ms j ≡ kept_places ns j
+  unfolding kept_places
+  kept_alike zero same = refl
+  kept_alike (suc j) same =
+      λ t. kept_alike j (fewer j (suc j) (omega arith) same) t ++ kept_at_alike j same t

@@ -7,61 +7,61 @@ use native.Mathlib.Omega.{arith}
 use lib.ListN.{length, get_or, take}
 use lib.Seq.{get_or-take, take_all, take-suc}
 use Rattle.listing.specs.Fields.{in_turn}
-use Rattle.auditing.specs.Accounts.{number_at, lineAccount}
-use Rattle.results.specs.AuditPage.{Audited, linesAt, placesKept}
-use Rattle.results.proofs.pages.Room.{page-room}
+use Rattle.auditing.specs.Accounts.{number_at, line_account}
+use Rattle.results.specs.AuditPage.{Audited, lines_at, places_kept}
+use Rattle.results.proofs.pages.Room.{page_room}
 
 -- ---- texts in turn
 
-pub turn-same : (f g : ℕ → List ℕ) (n : ℕ) → ((j : ℕ) → j < n → f j ≡ g j) → in_turn f n ≡ in_turn g n
+pub turn_same : (f g : ℕ → List ℕ) (n : ℕ) → ((j : ℕ) → j < n → f j ≡ g j) → in_turn f n ≡ in_turn g n
 unfolding in_turn
-turn-same f g zero h = refl
-turn-same f g (suc n) h = ap₂ ◌++◌ (turn-same f g n (λ j q. h j (omega arith))) (h n (omega arith))
+turn_same f g zero h = refl
+turn_same f g (suc n) h = ap₂ ◌++◌ (turn_same f g n (λ j q. h j (omega arith))) (h n (omega arith))
 
 module _ (text starts : List ℕ) where
   abbrev line_of : ℕ → List ℕ
-  line_of p = lineAccount text (number_at starts p)
+  line_of p = line_account text (number_at starts p)
 
-  lines-one : (p : ℕ) → linesAt text starts (p ∷ []) ≡ line_of p
-  unfolding linesAt
-  lines-one p = append-nil (line_of p)
+  lines_one : (p : ℕ) → lines_at text starts (p ∷ []) ≡ line_of p
+  unfolding lines_at
+  lines_one p = append-nil (line_of p)
 
-  lines-both : (ps qs : List ℕ) → linesAt text starts (ps ++ qs) ≡ linesAt text starts ps ++ linesAt text starts qs
-  unfolding linesAt
-  lines-both [] qs = refl
-  lines-both (p ∷ ps) qs =
-      ap (λ (l : List ℕ). line_of p ++ l) (lines-both ps qs)
-      ∙ sym (append_assoc (line_of p) (linesAt text starts ps) (linesAt text starts qs))
+  lines_both : (ps qs : List ℕ) → lines_at text starts (ps ++ qs) ≡ lines_at text starts ps ++ lines_at text starts qs
+  unfolding lines_at
+  lines_both [] qs = refl
+  lines_both (p ∷ ps) qs =
+      ap (λ (l : List ℕ). line_of p ++ l) (lines_both ps qs)
+      ∙ sym (append_assoc (line_of p) (lines_at text starts ps) (lines_at text starts qs))
 
   -- the first n of a list
   turn_lines :
       (l : List ℕ) (n : ℕ) → n ≤ length l →
-      in_turn (λ (j : ℕ). line_of (number_at l j)) n ≡ linesAt text starts (take n l)
-  unfolding in_turn linesAt
+      in_turn (λ (j : ℕ). line_of (number_at l j)) n ≡ lines_at text starts (take n l)
+  unfolding in_turn lines_at
   turn_lines l zero h = refl
   turn_lines l (suc n) h =
       ap (λ (x : List ℕ). x ++ line_of (number_at l n)) (turn_lines l n (omega arith))
-      ∙ ap (λ (x : List ℕ). linesAt text starts (take n l) ++ x) (sym (lines-one (number_at l n)))
-      ∙ sym (lines-both (take n l) (number_at l n ∷ []))
-      ∙ sym (ap (linesAt text starts) (take-suc l n 0 h))
+      ∙ ap (λ (x : List ℕ). lines_at text starts (take n l) ++ x) (sym (lines_one (number_at l n)))
+      ∙ sym (lines_both (take n l) (number_at l n ∷ []))
+      ∙ sym (ap (lines_at text starts) (take-suc l n 0 h))
 
 -- ---- THE CALLS of the page
 
-pub page-calls :
+pub page_calls :
     (a : Audited) (places : List ℕ) (size : ℕ) → length a.calls ≤ length places →
-    size ≡ min (length (placesKept a)) (suc (length places)) →
-    (let n = min size (length places) in take n places ≡ take n (placesKept a)) →
-    in_turn (λ (j : ℕ). lineAccount a.text (number_at a.starts (number_at places j))) size
-    ≡ linesAt a.text a.starts (placesKept a)
-page-calls a places size room count held =
-    let kept = placesKept a in
-    let few = page-room a in
+    size ≡ min (length (places_kept a)) (suc (length places)) →
+    (let n = min size (length places) in take n places ≡ take n (places_kept a)) →
+    in_turn (λ (j : ℕ). line_account a.text (number_at a.starts (number_at places j))) size
+    ≡ lines_at a.text a.starts (places_kept a)
+page_calls a places size room count held =
+    let kept = places_kept a in
+    let few = page_room a in
     let all : size ≡ length kept = omega arith in
     let n : min size (length places) ≡ size = omega arith in
     let same : take size places ≡ take size kept =
     ap (λ (k : ℕ). take k places) (sym n) ∙ held ∙ ap (λ (k : ℕ). take k kept) n in
     let place : (j : ℕ) → j < size → number_at places j ≡ number_at kept j =
     λ j q. sym (get_or-take size places j 0 q) ∙ ap (λ (l : List ℕ). get_or l j 0) same ∙ get_or-take size kept j 0 q in
-    turn-same _ _ size (λ j q. ap (λ (p : ℕ). lineAccount a.text (number_at a.starts p)) (place j q))
+    turn_same _ _ size (λ j q. ap (λ (p : ℕ). line_account a.text (number_at a.starts p)) (place j q))
     ∙ turn_lines a.text a.starts kept size (omega arith)
-    ∙ ap (linesAt a.text a.starts) (take_all size kept (omega arith))
+    ∙ ap (lines_at a.text a.starts) (take_all size kept (omega arith))

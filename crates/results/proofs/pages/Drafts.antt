@@ -8,29 +8,29 @@ use native.Mathlib.Omega.{arith}
 use lib.Dec.{eqb}
 use lib.ListN.{length, length-append}
 use borrow.Author.Tests.{eqb-true, eq-eqb}
-use Rattle.base.proofs.verdicts.Picks.{cond-true, cond-false}
-use Rattle.worksheet.specs.Journal.{Role, beginning, ending, settling, belonging, returning, showing, begin, Entry, roleIn, good, begins}
+use Rattle.base.proofs.verdicts.Picks.{cond_true, cond_false}
+use Rattle.worksheet.specs.Journal.{Role, beginning, ending, settling, belonging, returning, showing, begin, Entry, role_in, good, begins}
 use Rattle.worksheet.proofs.drafts.Effects.{both_true, begun}
 use Rattle.listing.specs.declared.account.Balked.{Balked}
 use Rattle.listing.specs.declared.account.Balked.TheVariants as balked
 use Rattle.listing.specs.declared.account.Became.TheVariants as became
-use Rattle.listing.specs.Account.{draftLine}
+use Rattle.listing.specs.Account.{draft_line}
 use Rattle.auditing.specs.declared.marks.Fate.{Fate}
 use Rattle.auditing.specs.declared.marks.Fate.TheVariants.{Stands, TakenBack, Cancelled, Never}
 use Rattle.auditing.specs.declared.marks.Refused.{Refused}
 use Rattle.auditing.specs.declared.marks.Refused.TheVariants as refused
-use Rattle.auditing.specs.Provenance.{settledBy, fateSettled, openBy, fateOf, endsDraft, isRefusing, refusedOf}
-use Rattle.auditing.specs.Marks.{mark_of, marksOf, markDesk, markAt, isDone, fateFrom, refusedFrom}
-use Rattle.auditing.specs.Gathered.{callsTold}
-use Rattle.auditing.specs.Accounts.{number_at, deskAt, balkedBy, fateLine, begunLine, draftAccount}
-use Rattle.results.specs.AuditPage.{Audited, openedSheet, entriesIn, linesIn}
-use Rattle.results.proofs.provenance.Marking.{begins-mark}
-use Rattle.results.proofs.provenance.Named.{begun-by}
-use Rattle.results.proofs.provenance.Fates.{fate-by-marks}
-use Rattle.results.proofs.provenance.Refusals.{refused-by-marks}
-use Rattle.results.proofs.pages.Alike.{fate-alike, refused-alike}
-use Rattle.results.proofs.pages.Held.{counted, marks-alike, lines-alike, place-below, mark-held}
-use Rattle.results.proofs.pages.Fields.{desk-small, accepted-on}
+use Rattle.auditing.specs.Provenance.{settled_by, fate_settled, open_by, fate_of, ends_draft, is_refusing, refused_of}
+use Rattle.auditing.specs.Marks.{mark_of, marks_of, mark_desk, mark_at, is_done, fate_from, refused_from}
+use Rattle.auditing.specs.Gathered.{calls_told}
+use Rattle.auditing.specs.Accounts.{number_at, desk_at, balked_by, fate_line, begun_line, draft_account}
+use Rattle.results.specs.AuditPage.{Audited, opened_sheet, entries_in, lines_in}
+use Rattle.results.proofs.provenance.Marking.{begins_mark}
+use Rattle.results.proofs.provenance.Named.{begun_by}
+use Rattle.results.proofs.provenance.Fates.{fate_by_marks}
+use Rattle.results.proofs.provenance.Refusals.{refused_by_marks}
+use Rattle.results.proofs.pages.Alike.{fate_alike, refused_alike}
+use Rattle.results.proofs.pages.Held.{counted, marks_alike, lines_alike, place_below, mark_held}
+use Rattle.results.proofs.pages.Fields.{desk_small, accepted_on}
 
 -- ---- the places of a fate are calls'
 
@@ -40,67 +40,67 @@ FateBelow k (TakenBack s t) = (s < k) × (t < k)
 FateBelow k (Cancelled s) = s < k
 FateBelow k Never = Unit
 
-settled-by-below :
+settled_by_below :
     (k commit at : ℕ) (r : Role) (b : Bool) (rest : Fate) → commit < k → at < k → FateBelow k rest →
-    FateBelow k (settledBy commit at r b rest)
-settled-by-below k commit at (beginning n) b rest c h g = g
-settled-by-below k commit at (ending n) b rest c h g = g
-settled-by-below k commit at (settling n) true rest c h g = tt
-settled-by-below k commit at (settling n) false rest c h g = g
-settled-by-below k commit at (belonging n even es) b rest c h g = g
-settled-by-below k commit at returning true rest c h g = (c, h)
-settled-by-below k commit at returning false rest c h g = g
-settled-by-below k commit at showing b rest c h g = g
+    FateBelow k (settled_by commit at r b rest)
+settled_by_below k commit at (beginning n) b rest c h g = g
+settled_by_below k commit at (ending n) b rest c h g = g
+settled_by_below k commit at (settling n) true rest c h g = tt
+settled_by_below k commit at (settling n) false rest c h g = g
+settled_by_below k commit at (belonging n even es) b rest c h g = g
+settled_by_below k commit at returning true rest c h g = (c, h)
+settled_by_below k commit at returning false rest c h g = g
+settled_by_below k commit at showing b rest c h g = g
 
-settled-below :
+settled_below :
     (k commit at : ℕ) (later : List Entry) → commit < k → at + length later ≤ k →
-    FateBelow k (fateSettled commit at later)
-unfolding fateSettled
-settled-below k commit at [] c h = tt
-settled-below k commit at (x ∷ later) c h =
-    settled-by-below k commit at (roleIn x) (good x) (fateSettled commit (suc at) later) c (omega arith)
-    (settled-below k commit (suc at) later c (omega arith))
+    FateBelow k (fate_settled commit at later)
+unfolding fate_settled
+settled_below k commit at [] c h = tt
+settled_below k commit at (x ∷ later) c h =
+    settled_by_below k commit at (role_in x) (good x) (fate_settled commit (suc at) later) c (omega arith)
+    (settled_below k commit (suc at) later c (omega arith))
 
-open-by-below :
+open_by_below :
     (k n at : ℕ) (r : Role) (b : Bool) (settled rest : Fate) → at < k → FateBelow k settled → FateBelow k rest →
-    FateBelow k (openBy n at r b settled rest)
-open-by-below k n at (beginning m) b settled rest h s g = g
-open-by-below k n at (ending m) b settled rest h s g = go (eqb m n && b)
+    FateBelow k (open_by n at r b settled rest)
+open_by_below k n at (beginning m) b settled rest h s g = g
+open_by_below k n at (ending m) b settled rest h s g = go (eqb m n && b)
   where
     go : (t : Bool) → FateBelow k (cond t (Cancelled at) rest)
     go true = h
     go false = g
-open-by-below k n at (settling m) b settled rest h s g = go (eqb m n && b)
+open_by_below k n at (settling m) b settled rest h s g = go (eqb m n && b)
   where
     go : (t : Bool) → FateBelow k (cond t settled rest)
     go true = s
     go false = g
-open-by-below k n at (belonging m even es) b settled rest h s g = g
-open-by-below k n at returning b settled rest h s g = g
-open-by-below k n at showing b settled rest h s g = g
+open_by_below k n at (belonging m even es) b settled rest h s g = g
+open_by_below k n at returning b settled rest h s g = g
+open_by_below k n at showing b settled rest h s g = g
 
-fate-below : (k n at : ℕ) (later : List Entry) → at + length later ≤ k → FateBelow k (fateOf n at later)
-unfolding fateOf
-fate-below k n at [] h = tt
-fate-below k n at (x ∷ later) h =
-    open-by-below k n at (roleIn x) (good x) (fateSettled at (suc at) later) (fateOf n (suc at) later) (omega arith)
-    (settled-below k at (suc at) later (omega arith) (omega arith))
-    (fate-below k n (suc at) later (omega arith))
+fate_below : (k n at : ℕ) (later : List Entry) → at + length later ≤ k → FateBelow k (fate_of n at later)
+unfolding fate_of
+fate_below k n at [] h = tt
+fate_below k n at (x ∷ later) h =
+    open_by_below k n at (role_in x) (good x) (fate_settled at (suc at) later) (fate_of n (suc at) later) (omega arith)
+    (settled_below k at (suc at) later (omega arith) (omega arith))
+    (fate_below k n (suc at) later (omega arith))
 
 abbrev RefusedBelow : ℕ → Refused → Type 0
 RefusedBelow k refused.Never = Unit
 RefusedBelow k (refused.At p) = p < k
 
-refused-below :
+refused_below :
     (k n : ℕ) (last : Refused) (at : ℕ) (later : List Entry) → at + length later ≤ k → RefusedBelow k last →
-    RefusedBelow k (refusedOf n last at later)
-unfolding refusedOf
-refused-below k n last at [] h g = g
-refused-below k n last at (x ∷ later) h g =
-    either (endsDraft n x)
-    (refusedOf n (cond (isRefusing n (roleIn x) (good x)) (refused.At at) last) (suc at) later)
-    (refused-below k n (cond (isRefusing n (roleIn x) (good x)) (refused.At at) last) (suc at) later (omega arith)
-    (now (isRefusing n (roleIn x) (good x))))
+    RefusedBelow k (refused_of n last at later)
+unfolding refused_of
+refused_below k n last at [] h g = g
+refused_below k n last at (x ∷ later) h g =
+    either (ends_draft n x)
+    (refused_of n (cond (is_refusing n (role_in x) (good x)) (refused.At at) last) (suc at) later)
+    (refused_below k n (cond (is_refusing n (role_in x) (good x)) (refused.At at) last) (suc at) later (omega arith)
+    (now (is_refusing n (role_in x) (good x))))
   where
     now : (t : Bool) → RefusedBelow k (cond t (refused.At at) last)
     now true = omega arith
@@ -114,98 +114,98 @@ refused-below k n last at (x ∷ later) h g =
 -- ---- lines for places
 
 module _ (numbers lines : List ℕ) (k : ℕ) (same : (p : ℕ) → p < k → number_at numbers p ≡ number_at lines p) where
-  fate-lines :
+  fate_lines :
       (n begun : ℕ) (b : Balked) (f : Fate) → FateBelow k f →
-      fateLine numbers n begun b f ≡ fateLine lines n begun b f
-  fate-lines n begun b (Stands s) h = refl
-  fate-lines n begun b (TakenBack s t) h =
-      λ i. draftLine n begun b (became.TakenBack (same s h.0 i) (same t h.1 i))
-  fate-lines n begun b (Cancelled s) h = λ i. draftLine n begun b (became.Cancelled (same s h i))
-  fate-lines n begun b Never h = refl
+      fate_line numbers n begun b f ≡ fate_line lines n begun b f
+  fate_lines n begun b (Stands s) h = refl
+  fate_lines n begun b (TakenBack s t) h =
+      λ i. draft_line n begun b (became.TakenBack (same s h.0 i) (same t h.1 i))
+  fate_lines n begun b (Cancelled s) h = λ i. draft_line n begun b (became.Cancelled (same s h i))
+  fate_lines n begun b Never h = refl
 
-  balked-lines : (r : Refused) → RefusedBelow k r → balkedBy numbers r ≡ balkedBy lines r
-  balked-lines refused.Never h = refl
-  balked-lines (refused.At p) h = ap balked.At (same p h)
+  balked_lines : (r : Refused) → RefusedBelow k r → balked_by numbers r ≡ balked_by lines r
+  balked_lines refused.Never h = refl
+  balked_lines (refused.At p) h = ap balked.At (same p h)
 
 -- ---- THE LINE of a draft
 
-module _ (a : Audited) (front later : List Entry) (b : Entry) (split : entriesIn a ≡ front ++ (b ∷ later)) where
+module _ (a : Audited) (front later : List Entry) (b : Entry) (split : entries_in a ≡ front ++ (b ∷ later)) where
   abbrev at : ℕ
   at = length front
 
   after : a.kept.count - suc at ≡ length later
   after = omega (arith, counted a, ap length split, length-append front (b ∷ later))
 
-  module _ (n : ℕ) (begun-here : begins n b ≡ true) where
-    mark-is : (isDone 8 (mark_of b) ≡ true) × (eqb (markDesk (mark_of b)) n ≡ true)
-    mark-is = both_true (isDone 8 (mark_of b)) (eqb (markDesk (mark_of b)) n) (begins-mark n b ∙ begun-here)
+  module _ (n : ℕ) (begun_here : begins n b ≡ true) where
+    mark_is : (is_done 8 (mark_of b) ≡ true) × (eqb (mark_desk (mark_of b)) n ≡ true)
+    mark_is = both_true (is_done 8 (mark_of b)) (eqb (mark_desk (mark_of b)) n) (begins_mark n b ∙ begun_here)
 
-    done-here : isDone 8 (markAt a.marks at) ≡ true
-    done-here = ap (isDone 8) (mark-held a front later b split) ∙ mark-is.0
+    done_here : is_done 8 (mark_at a.marks at) ≡ true
+    done_here = ap (is_done 8) (mark_held a front later b split) ∙ mark_is.0
 
-    desk-here : deskAt a.marks at ≡ n
-    desk-here =
-        let is = begun-by n b.call (good b) begun-here in
-        let on = accepted-on a.source (callsTold a.calls) (openedSheet a) front later b (begin n) split is.0 is.1 in
-        ap (λ (m : ℕ). markDesk m % 2 ^ 32) (mark-held a front later b split)
-        ∙ ap (λ (m : ℕ). m % 2 ^ 32) (eqb-true (markDesk (mark_of b)) n mark-is.1)
-        ∙ desk-small n (begun a.source n on.0 on.1).desk
+    desk_here : desk_at a.marks at ≡ n
+    desk_here =
+        let is = begun_by n b.call (good b) begun_here in
+        let on = accepted_on a.source (calls_told a.calls) (opened_sheet a) front later b (begin n) split is.0 is.1 in
+        ap (λ (m : ℕ). mark_desk m % 2 ^ 32) (mark_held a front later b split)
+        ∙ ap (λ (m : ℕ). m % 2 ^ 32) (eqb-true (mark_desk (mark_of b)) n mark_is.1)
+        ∙ desk_small n (begun a.source n on.0 on.1).desk
 
-    fate-here : fateFrom a.marks n (suc at) (a.kept.count - suc at) ≡ fateOf n (suc at) later
-    fate-here =
-        fate-alike a.marks (marksOf (entriesIn a)) n (suc at) (a.kept.count - suc at)
-        (λ i h. marks-alike a i (omega (arith, place-below a front later b split)))
-        ∙ ap₂ (λ (l : List Entry) (k : ℕ). fateFrom (marksOf l) n (suc at) k) split after
-        ∙ fate-by-marks n front later b
+    fate_here : fate_from a.marks n (suc at) (a.kept.count - suc at) ≡ fate_of n (suc at) later
+    fate_here =
+        fate_alike a.marks (marks_of (entries_in a)) n (suc at) (a.kept.count - suc at)
+        (λ i h. marks_alike a i (omega (arith, place_below a front later b split)))
+        ∙ ap₂ (λ (l : List Entry) (k : ℕ). fate_from (marks_of l) n (suc at) k) split after
+        ∙ fate_by_marks n front later b
 
-    refused-here :
-        refusedFrom a.marks n refused.Never (suc at) (a.kept.count - suc at)
-        ≡ refusedOf n refused.Never (suc at) later
-    refused-here =
-        refused-alike a.marks (marksOf (entriesIn a)) n refused.Never (suc at) (a.kept.count - suc at)
-        (λ i h. marks-alike a i (omega (arith, place-below a front later b split)))
-        ∙ ap₂ (λ (l : List Entry) (k : ℕ). refusedFrom (marksOf l) n refused.Never (suc at) k) split after
-        ∙ refused-by-marks n refused.Never front later b
+    refused_here :
+        refused_from a.marks n refused.Never (suc at) (a.kept.count - suc at)
+        ≡ refused_of n refused.Never (suc at) later
+    refused_here =
+        refused_alike a.marks (marks_of (entries_in a)) n refused.Never (suc at) (a.kept.count - suc at)
+        (λ i h. marks_alike a i (omega (arith, place_below a front later b split)))
+        ∙ ap₂ (λ (l : List Entry) (k : ℕ). refused_from (marks_of l) n refused.Never (suc at) k) split after
+        ∙ refused_by_marks n refused.Never front later b
 
-    begun-line :
-        begunLine a.marks a.numbers a.kept.count n at
-        ≡ fateLine (linesIn a) n (number_at (linesIn a) at)
-        (balkedBy (linesIn a) (refusedOf n refused.Never (suc at) later))
-        (fateOf n (suc at) later)
-    unfolding begunLine
-    begun-line =
+    begun_line_law :
+        begun_line a.marks a.numbers a.kept.count n at
+        ≡ fate_line (lines_in a) n (number_at (lines_in a) at)
+        (balked_by (lines_in a) (refused_of n refused.Never (suc at) later))
+        (fate_of n (suc at) later)
+    unfolding begun_line
+    begun_line_law =
         let count = a.kept.count in
-        let low : suc at + length later ≤ count = omega (arith, after, place-below a front later b split) in
-        let f = fateOf n (suc at) later in
-        let r = refusedOf n refused.Never (suc at) later in
-        let line = lines-alike a at (place-below a front later b split) in
-        let said = balked-lines a.numbers (linesIn a) count (lines-alike a) r
-        (refused-below count n refused.Never (suc at) later low tt) in
-        (λ i. fateLine a.numbers n (line i) (balkedBy a.numbers (refused-here i)) (fate-here i))
-        ∙ ap (λ (x : Balked). fateLine a.numbers n (number_at (linesIn a) at) x f) said
-        ∙ fate-lines a.numbers (linesIn a) count (lines-alike a) n (number_at (linesIn a) at)
-        (balkedBy (linesIn a) r) f (fate-below count n (suc at) later low)
+        let low : suc at + length later ≤ count = omega (arith, after, place_below a front later b split) in
+        let f = fate_of n (suc at) later in
+        let r = refused_of n refused.Never (suc at) later in
+        let line = lines_alike a at (place_below a front later b split) in
+        let said = balked_lines a.numbers (lines_in a) count (lines_alike a) r
+        (refused_below count n refused.Never (suc at) later low tt) in
+        (λ i. fate_line a.numbers n (line i) (balked_by a.numbers (refused_here i)) (fate_here i))
+        ∙ ap (λ (x : Balked). fate_line a.numbers n (number_at (lines_in a) at) x f) said
+        ∙ fate_lines a.numbers (lines_in a) count (lines_alike a) n (number_at (lines_in a) at)
+        (balked_by (lines_in a) r) f (fate_below count n (suc at) later low)
 
-    pub page-drafts :
-        draftAccount a.marks a.numbers a.kept.count at
-        ≡ fateLine (linesIn a) n (number_at (linesIn a) at)
-        (balkedBy (linesIn a) (refusedOf n refused.Never (suc at) later))
-        (fateOf n (suc at) later)
-    unfolding draftAccount
-    page-drafts =
-        cond-true _ _ done-here
-        ∙ ap (λ (m : ℕ). begunLine a.marks a.numbers a.kept.count m at) desk-here
-        ∙ begun-line
+    pub page_drafts :
+        draft_account a.marks a.numbers a.kept.count at
+        ≡ fate_line (lines_in a) n (number_at (lines_in a) at)
+        (balked_by (lines_in a) (refused_of n refused.Never (suc at) later))
+        (fate_of n (suc at) later)
+    unfolding draft_account
+    page_drafts =
+        cond_true _ _ done_here
+        ∙ ap (λ (m : ℕ). begun_line a.marks a.numbers a.kept.count m at) desk_here
+        ∙ begun_line_law
 
   -- a call that begins no draft has none
-  pub page-no-draft :
-      ((n : ℕ) → begins n b ≡ false) → draftAccount a.marks a.numbers a.kept.count at ≡ []
-  unfolding draftAccount
-  page-no-draft none =
-      let n = markDesk (mark_of b) in
-      let undone : isDone 8 (mark_of b) ≡ false =
-      sym (and-true (isDone 8 (mark_of b)))
-      ∙ ap (λ (t : Bool). isDone 8 (mark_of b) && t) (sym (eq-eqb n n refl))
-      ∙ begins-mark n b
+  pub page_no_draft :
+      ((n : ℕ) → begins n b ≡ false) → draft_account a.marks a.numbers a.kept.count at ≡ []
+  unfolding draft_account
+  page_no_draft none =
+      let n = mark_desk (mark_of b) in
+      let undone : is_done 8 (mark_of b) ≡ false =
+      sym (and-true (is_done 8 (mark_of b)))
+      ∙ ap (λ (t : Bool). is_done 8 (mark_of b) && t) (sym (eq-eqb n n refl))
+      ∙ begins_mark n b
       ∙ none n in
-      cond-false _ _ (ap (isDone 8) (mark-held a front later b split) ∙ undone)
+      cond_false _ _ (ap (is_done 8) (mark_held a front later b split) ∙ undone)

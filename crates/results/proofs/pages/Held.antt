@@ -6,15 +6,15 @@ use mathlib.Core.Path.{◌≡◌, refl, sym, ap, subst, ◌∙◌}
 use native.Mathlib.Omega.{arith}
 use lib.ListN.{length, get_or, take, length-append}
 use lib.Seq.{get_or-take}
-use Rattle.worksheet.specs.Desks.{freshSheet, openOf}
+use Rattle.worksheet.specs.Desks.{fresh_sheet, open_of}
 use Rattle.worksheet.specs.Journal.{Entry}
-use Rattle.worksheet.proofs.drafts.Drafts.{atRest}
-use Rattle.auditing.specs.Marks.{mark_of, marksOf, markAt}
+use Rattle.worksheet.proofs.drafts.Drafts.{at_rest}
+use Rattle.auditing.specs.Marks.{mark_of, marks_of, mark_at}
 use Rattle.auditing.specs.Gathered.{Told, HoldsFirst, GatheredSits, GatheredAs}
 use Rattle.auditing.specs.Accounts.{number_at}
-use Rattle.auditing.proofs.journals.Runs.{entries-length}
-use Rattle.results.specs.AuditPage.{Audited, openedSheet, entriesIn, linesIn}
-use Rattle.results.proofs.provenance.Marking.{mark-there}
+use Rattle.auditing.proofs.journals.Runs.{entries_length}
+use Rattle.results.specs.AuditPage.{Audited, opened_sheet, entries_in, lines_in}
+use Rattle.results.proofs.provenance.Marking.{mark_there}
 use Rattle.results.proofs.pages.Alike.{Alike}
 
 held :
@@ -28,43 +28,43 @@ held count xs buffer room h i below =
 
 module _ (a : Audited) where
   pub sat :
-      GatheredSits a.source a.text a.opening a.openedAt a.calls a.kept a.marks a.numbers a.starts
+      GatheredSits a.source a.text a.opening a.opened_at a.calls a.kept a.marks a.numbers a.starts
   unfolding GatheredAs
   sat =
       subst (λ (t : Told). GatheredAs a.source a.text t a.kept a.marks a.numbers a.starts)
       a.told a.gathered
 
   -- as many entries as calls
-  pub counted : a.kept.count ≡ length (entriesIn a)
-  counted = sat.count ∙ sym (entries-length a.source a.opening a.calls)
+  pub counted : a.kept.count ≡ length (entries_in a)
+  counted = sat.count ∙ sym (entries_length a.source a.opening a.calls)
 
-  pub marks-alike : Alike a.marks (marksOf (entriesIn a)) a.kept.count
-  marks-alike =
-      let room = a.marks-room in
+  pub marks_alike : Alike a.marks (marks_of (entries_in a)) a.kept.count
+  marks_alike =
+      let room = a.marks_room in
       let count = sat.count in
-      held a.kept.count (marksOf (entriesIn a)) a.marks (omega arith) sat.marked
+      held a.kept.count (marks_of (entries_in a)) a.marks (omega arith) sat.marked
 
-  pub lines-alike : (p : ℕ) → p < a.kept.count → number_at a.numbers p ≡ number_at (linesIn a) p
-  lines-alike =
-      let room = a.numbers-room in
+  pub lines_alike : (p : ℕ) → p < a.kept.count → number_at a.numbers p ≡ number_at (lines_in a) p
+  lines_alike =
+      let room = a.numbers_room in
       let count = sat.count in
-      held a.kept.count (linesIn a) a.numbers (omega arith) sat.numbered
+      held a.kept.count (lines_in a) a.numbers (omega arith) sat.numbered
 
   -- a place among the entries is a call's
-  pub place-below :
-      (front later : List Entry) (x : Entry) → entriesIn a ≡ front ++ (x ∷ later) → length front < a.kept.count
-  place-below front later x e = omega (arith, counted, ap length e, length-append front (x ∷ later))
+  pub place_below :
+      (front later : List Entry) (x : Entry) → entries_in a ≡ front ++ (x ∷ later) → length front < a.kept.count
+  place_below front later x e = omega (arith, counted, ap length e, length-append front (x ∷ later))
 
   -- the mark there is the entry's
-  pub mark-held :
-      (front later : List Entry) (x : Entry) → entriesIn a ≡ front ++ (x ∷ later) →
-      markAt a.marks (length front) ≡ mark_of x
-  mark-held front later x e =
-      marks-alike (length front) (place-below front later x e)
-      ∙ ap (λ (l : List Entry). markAt (marksOf l) (length front)) e
-      ∙ mark-there front later x
+  pub mark_held :
+      (front later : List Entry) (x : Entry) → entries_in a ≡ front ++ (x ∷ later) →
+      mark_at a.marks (length front) ≡ mark_of x
+  mark_held front later x e =
+      marks_alike (length front) (place_below front later x e)
+      ∙ ap (λ (l : List Entry). mark_at (marks_of l) (length front)) e
+      ∙ mark_there front later x
 
   -- the desks of a worksheet that was just opened are closed
-  pub opened-rest : atRest (openedSheet a) ≡ openedSheet a
-  unfolding openOf freshSheet
-  opened-rest = refl
+  pub opened_rest : at_rest (opened_sheet a) ≡ opened_sheet a
+  unfolding open_of fresh_sheet
+  opened_rest = refl

@@ -6,59 +6,59 @@ use mathlib.Core.Path.{◌≡◌, sym, ap, subst, ◌∙◌}
 use Rattle.maps.specs.declared.figures.Shown.TheVariants.{Points}
 use Rattle.maps.specs.declared.inputs.Inputs.{Inputs}
 use Rattle.worksheet.specs.declared.desks.Worksheet.{Worksheet}
-use Rattle.worksheet.specs.Showing.{inputsShown}
+use Rattle.worksheet.specs.Showing.{inputs_shown}
 use Rattle.worksheet.specs.Journal.{shown, show, Entry, step}
-use Rattle.worksheet.specs.InForce.{inForce, FiguresOf}
+use Rattle.worksheet.specs.InForce.{in_force, FiguresOf}
 use Rattle.wording.specs.declared.written.WrittenCall.TheVariants.{Show}
-use Rattle.wording.specs.Written.{callWritten}
-use Rattle.listing.specs.Columns.{columnsText}
+use Rattle.wording.specs.Written.{call_written}
+use Rattle.listing.specs.Columns.{columns_text}
 use Rattle.listing.specs.Turn.{blank}
-use Rattle.auditing.specs.Gathered.{Numbered, runTold}
-use Rattle.auditing.specs.Accounts.{answerPage, sheetAccount}
-use Rattle.auditing.proofs.journals.Runs.{sheet-more}
-use Rattle.results.specs.AuditPage.{Audited, openedSheet, entriesIn, ShownLast}
-use Rattle.results.proofs.force.Insured.{shown-figures}
+use Rattle.auditing.specs.Gathered.{Numbered, run_told}
+use Rattle.auditing.specs.Accounts.{answer_page, sheet_account}
+use Rattle.auditing.proofs.journals.Runs.{sheet_more}
+use Rattle.results.specs.AuditPage.{Audited, opened_sheet, entries_in, ShownLast}
+use Rattle.results.proofs.force.Insured.{shown_figures}
 use Rattle.results.proofs.pages.Held.{sat}
-use Rattle.results.proofs.pages.Fields.{inputs-as}
-use Rattle.results.proofs.pages.Last.{last-same, entries-end}
+use Rattle.results.proofs.pages.Fields.{inputs_as}
+use Rattle.results.proofs.pages.Last.{last_same, entries_end}
 
 module _ (a : Audited) (line : ℕ) (s : ShownLast a line) where
   -- the worksheet that is shown
-  abbrev pub sheetShown : Worksheet
-  sheetShown = (runTold a.source a.opening s.before).sheet
+  abbrev pub sheet_shown : Worksheet
+  sheet_shown = (run_told a.source a.opening s.before).sheet
 
   abbrev last : Numbered
   last = record { call = Show 0; line = line }
 
-  pub answered-there : (step a.source (show 0 blank) sheetShown).answer ≡ shown (Points s.points s.uses) s.figures
-  unfolding callWritten
-  answered-there =
-      let front = (runTold a.source a.opening s.before).entries in
+  pub answered_there : (step a.source (show 0 blank) sheet_shown).answer ≡ shown (Points s.points s.uses) s.figures
+  unfolding call_written
+  answered_there =
+      let front = (run_told a.source a.opening s.before).entries in
       ap (λ (y : Entry). y.answer)
-      (last-same front front _ _ (sym (entries-end a s.before last s.split) ∙ s.answered))
+      (last_same front front _ _ (sym (entries_end a s.before last s.split) ∙ s.answered))
 
-  sheet-left : a.kept.sheet ≡ sheetShown
-  unfolding callWritten step
-  sheet-left =
+  sheet_left : a.kept.sheet ≡ sheet_shown
+  unfolding call_written step
+  sheet_left =
       (sat a).sheet
-      ∙ ap (λ (cs : List Numbered). (runTold a.source a.opening cs).sheet) s.split
-      ∙ sheet-more a.source a.opening s.before last
+      ∙ ap (λ (cs : List Numbered). (run_told a.source a.opening cs).sheet) s.split
+      ∙ sheet_more a.source a.opening s.before last
 
-  inputs-there : sheetShown.inputs ≡ inForce (openedSheet a) (entriesIn a)
-  inputs-there = sym (ap (λ (w : Worksheet). w.inputs) sheet-left) ∙ inputs-as a
+  inputs_there : sheet_shown.inputs ≡ in_force (opened_sheet a) (entries_in a)
+  inputs_there = sym (ap (λ (w : Worksheet). w.inputs) sheet_left) ∙ inputs_as a
 
   -- THE SHEET
-  pub sheet-page :
-      sheetAccount a.source a.kept.sheet
-      ≡ columnsText (inForce (openedSheet a) (entriesIn a)) s.points s.uses s.figures
-  unfolding sheetAccount
-  sheet-page =
-      ap (λ (w : Worksheet). answerPage w.inputs (step a.source (show 0 blank) w).answer) sheet-left
-      ∙ (λ t. answerPage (inputs-there t) (answered-there t))
+  pub sheet_page :
+      sheet_account a.source a.kept.sheet
+      ≡ columns_text (in_force (opened_sheet a) (entries_in a)) s.points s.uses s.figures
+  unfolding sheet_account
+  sheet_page =
+      ap (λ (w : Worksheet). answer_page w.inputs (step a.source (show 0 blank) w).answer) sheet_left
+      ∙ (λ t. answer_page (inputs_there t) (answered_there t))
 
   -- ITS FIGURES are those of the inputs in force
-  pub sheet-figures : FiguresOf a.source (inForce (openedSheet a) (entriesIn a)) s.points s.uses s.figures
-  unfolding inputsShown
-  sheet-figures =
-      subst (λ (i : Inputs). FiguresOf a.source i s.points s.uses s.figures) inputs-there
-      (shown-figures a.source 0 sheetShown blank s.figures s.points s.uses (sym answered-there))
+  pub sheet_figures : FiguresOf a.source (in_force (opened_sheet a) (entries_in a)) s.points s.uses s.figures
+  unfolding inputs_shown
+  sheet_figures =
+      subst (λ (i : Inputs). FiguresOf a.source i s.points s.uses s.figures) inputs_there
+      (shown_figures a.source 0 sheet_shown blank s.figures s.points s.uses (sym answered_there))

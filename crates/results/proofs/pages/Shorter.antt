@@ -10,7 +10,7 @@ use lib.ListN.{length}
 use Rattle.base.specs.declared.refusal.Verdict.{Verdict}
 use Rattle.base.specs.declared.refusal.Verdict.TheVariants.{Accepted, Refused}
 use Rattle.worksheet.specs.declared.desks.Worksheet.{Worksheet}
-use Rattle.worksheet.specs.Desks.{openOf}
+use Rattle.worksheet.specs.Desks.{open_of}
 use Rattle.worksheet.specs.Showing.{Source}
 use Rattle.worksheet.specs.Journal.{Call, Entry, step, run, shorter, calls_of}
 use Rattle.worksheet.specs.Calls.{called}
@@ -18,150 +18,150 @@ use Rattle.wording.specs.declared.line.Line.{Line}
 use Rattle.wording.specs.declared.line.Line.TheVariants as line
 use Rattle.wording.specs.declared.written.WrittenCall.{WrittenCall}
 use Rattle.wording.specs.declared.written.WrittenInputs.{WrittenInputs}
-use Rattle.wording.specs.Line.{lineIn}
-use Rattle.wording.specs.Written.{inputsWritten, callWritten}
+use Rattle.wording.specs.Line.{line_in}
+use Rattle.wording.specs.Written.{inputs_written, call_written}
 use Rattle.listing.specs.Turn.{blank}
-use Rattle.listing.specs.Written.{lineText}
-use Rattle.auditing.specs.Marks.{marksOf, keptPlaces}
-use Rattle.auditing.specs.Gathered.{line_at, Numbered, Told, waiting, sits, ended, openedTold, telling, toldFrom, toldBy, callsTold, callTold, ReadsAt}
+use Rattle.listing.specs.Written.{line_text}
+use Rattle.auditing.specs.Marks.{marks_of, kept_places}
+use Rattle.auditing.specs.Gathered.{line_at, Numbered, Told, waiting, sits, ended, opened_told, telling, told_from, told_by, calls_told, call_told, ReadsAt}
 use Rattle.auditing.specs.Accounts.{number_at}
 use Rattle.results.specs.ExhibitedFiles.{Below}
-use Rattle.results.specs.ReadBack.{GoodInputs, GoodCall, callLines, numberedFrom}
+use Rattle.results.specs.ReadBack.{GoodInputs, GoodCall, call_lines, numbered_from}
 use Rattle.results.specs.Audit.{entry_at, entries_at}
-use Rattle.results.specs.AuditPage.{Audited, openedSheet, entriesIn, linesAt, placesKept, calls_at, callsKept, shorterText, ShorterTold}
-use Rattle.results.proofs.provenance.Places.{kept-by-marks, kept-below}
-use Rattle.results.proofs.reading.Journals.{EachGood, journal-rewritten}
-use Rattle.results.proofs.reading.Parts.{read-open, read-call}
-use Rattle.results.proofs.pages.Alike.{kept-alike}
-use Rattle.results.proofs.pages.Held.{sat, counted, marks-alike}
+use Rattle.results.specs.AuditPage.{Audited, opened_sheet, entries_in, lines_at, places_kept, calls_at, calls_kept, shorter_text, ShorterTold}
+use Rattle.results.proofs.provenance.Places.{kept_by_marks, kept_below}
+use Rattle.results.proofs.reading.Journals.{EachGood, journal_rewritten}
+use Rattle.results.proofs.reading.Parts.{read_open, read_call}
+use Rattle.results.proofs.pages.Alike.{kept_alike}
+use Rattle.results.proofs.pages.Held.{sat, counted, marks_alike}
 
 -- ---- an open that was told was accepted
 
 abbrev WellOpened : Told → Type 0
 WellOpened waiting = Unit
-WellOpened (sits o at cs) = (openOf (inputsWritten o)).answer ≡ Accepted
+WellOpened (sits o at cs) = (open_of (inputs_written o)).answer ≡ Accepted
 WellOpened ended = Unit
 
-opened-well :
-    (n : ℕ) (o : WrittenInputs) (v : Verdict) → (openOf (inputsWritten o)).answer ≡ v → WellOpened (openedTold n o v)
-opened-well n o Accepted e = e
-opened-well n o (Refused why) e = tt
+opened_well :
+    (n : ℕ) (o : WrittenInputs) (v : Verdict) → (open_of (inputs_written o)).answer ≡ v → WellOpened (opened_told n o v)
+opened_well n o Accepted e = e
+opened_well n o (Refused why) e = tt
 
-telling-well : (n : ℕ) (t : Told) (l : Line) → WellOpened t → WellOpened (telling n t l)
-telling-well n waiting line.Blank h = tt
-telling-well n waiting (line.Open o) h = opened-well n o (openOf (inputsWritten o)).answer refl
-telling-well n waiting (line.Call c) h = tt
-telling-well n waiting (line.Wrong f) h = tt
-telling-well n (sits o at cs) line.Blank h = h
-telling-well n (sits o at cs) (line.Open p) h = tt
-telling-well n (sits o at cs) (line.Call c) h = h
-telling-well n (sits o at cs) (line.Wrong f) h = tt
-telling-well n ended l h = tt
+telling_well : (n : ℕ) (t : Told) (l : Line) → WellOpened t → WellOpened (telling n t l)
+telling_well n waiting line.Blank h = tt
+telling_well n waiting (line.Open o) h = opened_well n o (open_of (inputs_written o)).answer refl
+telling_well n waiting (line.Call c) h = tt
+telling_well n waiting (line.Wrong f) h = tt
+telling_well n (sits o at cs) line.Blank h = h
+telling_well n (sits o at cs) (line.Open p) h = tt
+telling_well n (sits o at cs) (line.Call c) h = h
+telling_well n (sits o at cs) (line.Wrong f) h = tt
+telling_well n ended l h = tt
 
-told-well : (n : ℕ) (t : Told) (ls : List (List ℕ)) → WellOpened t → WellOpened (toldFrom n t ls)
-unfolding toldFrom
-told-well n t [] h = h
-told-well n t (l ∷ ls) h = told-well (suc n) (telling n t (lineIn l)) ls (telling-well n t (lineIn l) h)
+told_well : (n : ℕ) (t : Told) (ls : List (List ℕ)) → WellOpened t → WellOpened (told_from n t ls)
+unfolding told_from
+told_well n t [] h = h
+told_well n t (l ∷ ls) h = told_well (suc n) (telling n t (line_in l)) ls (telling_well n t (line_in l) h)
 
 -- ---- the calls at some places
 
 abbrev call_by : WrittenCall → Call
-call_by c = called (callWritten c) blank
+call_by c = called (call_written c) blank
 
-told-calls : (n : ℕ) (cs : List WrittenCall) → callsTold (numberedFrom n cs) ≡ map call_by cs
-unfolding callsTold numberedFrom
-told-calls n [] = refl
-told-calls n (c ∷ cs) = ap (λ (l : List Call). call_by c ∷ l) (told-calls (suc n) cs)
+told_calls : (n : ℕ) (cs : List WrittenCall) → calls_told (numbered_from n cs) ≡ map call_by cs
+unfolding calls_told numbered_from
+told_calls n [] = refl
+told_calls n (c ∷ cs) = ap (λ (l : List Call). call_by c ∷ l) (told_calls (suc n) cs)
 
-calls-both : (l m : List Entry) → calls_of (l ++ m) ≡ calls_of l ++ calls_of m
+calls_both : (l m : List Entry) → calls_of (l ++ m) ≡ calls_of l ++ calls_of m
 unfolding calls_of
-calls-both [] m = refl
-calls-both (x ∷ l) m = ap (λ (k : List Call). x.call ∷ k) (calls-both l m)
+calls_both [] m = refl
+calls_both (x ∷ l) m = ap (λ (k : List Call). x.call ∷ k) (calls_both l m)
 
 -- in a run of them, the entries at these places have these calls
 module _ (source : Source) where
   call_at :
       (cs : List Numbered) (w : Worksheet) (p : ℕ) → p < length cs →
-      calls_of (entry_at (run source (callsTold cs) w).entries p) ≡ call_by (callTold cs p) ∷ []
-  unfolding run callsTold entry_at calls_of
+      calls_of (entry_at (run source (calls_told cs) w).entries p) ≡ call_by (call_told cs p) ∷ []
+  unfolding run calls_told entry_at calls_of
   call_at [] w p h = absurd (omega arith)
   call_at (x ∷ cs) w zero h = refl
   call_at (x ∷ cs) w (suc p) h = call_at cs (step source (call_by x.call) w).sheet p (omega arith)
 
-  calls-at :
+  calls_at_law :
       (cs : List Numbered) (w : Worksheet) (ps : List ℕ) → Below (length cs) ps →
-      calls_of (entries_at (run source (callsTold cs) w).entries ps) ≡ map call_by (calls_at cs ps)
+      calls_of (entries_at (run source (calls_told cs) w).entries ps) ≡ map call_by (calls_at cs ps)
   unfolding calls_at entries_at calls_of
-  calls-at cs w [] h = refl
-  calls-at cs w (p ∷ ps) h =
-      let entries = (run source (callsTold cs) w).entries in
-      calls-both (entry_at entries p) (entries_at entries ps)
-      ∙ ap₂ ◌++◌ (call_at cs w p h.0) (calls-at cs w ps h.1)
+  calls_at_law cs w [] h = refl
+  calls_at_law cs w (p ∷ ps) h =
+      let entries = (run source (calls_told cs) w).entries in
+      calls_both (entry_at entries p) (entries_at entries ps)
+      ∙ ap₂ ◌++◌ (call_at cs w p h.0) (calls_at_law cs w ps h.1)
 
 -- ---- the lines at some places
 
 module _
     (text starts : List ℕ) (cs : List Numbered)
-    (reads : (p : ℕ) → p < length cs → ReadsAt text (number_at starts p) (line.Call (callTold cs p))) where
-  lines_at : (ps : List ℕ) → Below (length cs) ps → linesAt text starts ps ≡ callLines (calls_at cs ps)
-  unfolding linesAt calls_at callLines
-  lines_at [] h = refl
-  lines_at (p ∷ ps) h = ap₂ ◌++◌ (ap lineText (reads p h.0).said) (lines_at ps h.1)
+    (reads : (p : ℕ) → p < length cs → ReadsAt text (number_at starts p) (line.Call (call_told cs p))) where
+  lines_at_law : (ps : List ℕ) → Below (length cs) ps → lines_at text starts ps ≡ call_lines (calls_at cs ps)
+  unfolding lines_at calls_at call_lines
+  lines_at_law [] h = refl
+  lines_at_law (p ∷ ps) h = ap₂ ◌++◌ (ap line_text (reads p h.0).said) (lines_at_law ps h.1)
 
-  each-good : (ps : List ℕ) → Below (length cs) ps → EachGood (calls_at cs ps)
+  each_good : (ps : List ℕ) → Below (length cs) ps → EachGood (calls_at cs ps)
   unfolding calls_at
-  each-good [] h c m = absurd (Memᴰ.not-nil m)
-  each-good (p ∷ ps) h c m = go (each-good ps h.1) (Memᴰ.cases_cons m)
+  each_good [] h c m = absurd (Memᴰ.not-nil m)
+  each_good (p ∷ ps) h c m = go (each_good ps h.1) (Memᴰ.cases_cons m)
     where
-      go : EachGood (calls_at cs ps) → (c ≡ callTold cs p) ⊎ Memᴰ c (calls_at cs ps) → GoodCall c
+      go : EachGood (calls_at cs ps) → (c ≡ call_told cs p) ⊎ Memᴰ c (calls_at cs ps) → GoodCall c
       go others (inl e) =
-          read-call (line_at text (number_at starts p)) c ((reads p h.0).said ∙ ap line.Call (sym e))
+          read_call (line_at text (number_at starts p)) c ((reads p h.0).said ∙ ap line.Call (sym e))
       go others (inr k) = others c k
 
 -- ---- THE SHORTER JOURNAL
 
 module _ (a : Audited) where
-  accepted-open : (openOf (inputsWritten a.opening)).answer ≡ Accepted
-  unfolding toldBy
-  accepted-open = subst WellOpened a.told (told-well 1 waiting _ tt)
+  accepted_open : (open_of (inputs_written a.opening)).answer ≡ Accepted
+  unfolding told_by
+  accepted_open = subst WellOpened a.told (told_well 1 waiting _ tt)
 
-  reads-there :
+  reads_there :
       (p : ℕ) → p < length a.calls →
-      ReadsAt a.text (number_at a.starts p) (line.Call (callTold a.calls p))
-  reads-there p h = (sat a).starts-at p (omega (arith, (sat a).count)) (omega (arith, a.starts-room))
+      ReadsAt a.text (number_at a.starts p) (line.Call (call_told a.calls p))
+  reads_there p h = (sat a).starts_at p (omega (arith, (sat a).count)) (omega (arith, a.starts_room))
 
-  places-below : Below (length a.calls) (placesKept a)
-  places-below = subst (λ (n : ℕ). Below n (placesKept a)) (sat a).count (kept-below a.marks a.kept.count)
+  places_below : Below (length a.calls) (places_kept a)
+  places_below = subst (λ (n : ℕ). Below n (places_kept a)) (sat a).count (kept_below a.marks a.kept.count)
 
-  open-good : GoodInputs a.opening
-  open-good = read-open (line_at a.text a.kept.start) a.opening (sat a).start.said
+  open_good : GoodInputs a.opening
+  open_good = read_open (line_at a.text a.kept.start) a.opening (sat a).start.said
 
-  text-as : shorterText a ≡ lineText (line.Open a.opening) ++ callLines (callsKept a)
-  text-as =
-      ap₂ ◌++◌ (ap lineText (sat a).start.said)
-      (lines_at a.text a.starts a.calls reads-there (placesKept a) places-below)
+  text_as : shorter_text a ≡ line_text (line.Open a.opening) ++ call_lines (calls_kept a)
+  text_as =
+      ap₂ ◌++◌ (ap line_text (sat a).start.said)
+      (lines_at_law a.text a.starts a.calls reads_there (places_kept a) places_below)
 
-  calls-good : EachGood (callsKept a)
-  calls-good = each-good a.text a.starts a.calls reads-there (placesKept a) places-below
+  calls_good : EachGood (calls_kept a)
+  calls_good = each_good a.text a.starts a.calls reads_there (places_kept a) places_below
 
-  places-as : placesKept a ≡ keptPlaces (marksOf (entriesIn a)) (length (entriesIn a))
-  places-as =
-      kept-alike a.marks (marksOf (entriesIn a)) a.kept.count (marks-alike a)
-      ∙ ap (keptPlaces (marksOf (entriesIn a))) (counted a)
+  places_as : places_kept a ≡ kept_places (marks_of (entries_in a)) (length (entries_in a))
+  places_as =
+      kept_alike a.marks (marks_of (entries_in a)) a.kept.count (marks_alike a)
+      ∙ ap (kept_places (marks_of (entries_in a))) (counted a)
 
-  list-as : callsTold (numberedFrom 2 (callsKept a)) ≡ calls_of (shorter [] (entriesIn a))
-  list-as =
-      told-calls 2 (callsKept a)
-      ∙ sym (calls-at a.source a.calls (openedSheet a) (placesKept a) places-below)
-      ∙ ap (λ (ps : List ℕ). calls_of (entries_at (entriesIn a) ps)) places-as
-      ∙ ap calls_of (sym (kept-by-marks a.source (openedSheet a) (callsTold a.calls)))
+  list_as : calls_told (numbered_from 2 (calls_kept a)) ≡ calls_of (shorter [] (entries_in a))
+  list_as =
+      told_calls 2 (calls_kept a)
+      ∙ sym (calls_at_law a.source a.calls (opened_sheet a) (places_kept a) places_below)
+      ∙ ap (λ (ps : List ℕ). calls_of (entries_at (entries_in a) ps)) places_as
+      ∙ ap calls_of (sym (kept_by_marks a.source (opened_sheet a) (calls_told a.calls)))
 
-  pub page-shorter : ShorterTold a
-  page-shorter =
+  pub page_shorter : ShorterTold a
+  page_shorter =
       record {
-        written = text-as;
+        written = text_as;
         told =
-            ap (λ (t : List ℕ). toldBy t (suc (length (callsKept a)))) text-as
-            ∙ journal-rewritten a.opening (callsKept a) open-good calls-good accepted-open;
-        shorter-list = list-as;
+            ap (λ (t : List ℕ). told_by t (suc (length (calls_kept a)))) text_as
+            ∙ journal_rewritten a.opening (calls_kept a) open_good calls_good accepted_open;
+        shorter_list = list_as;
       }

@@ -8,25 +8,25 @@ use native.Mathlib.Omega.{arith}
 use native.Mathlib.Nat.{add-zero}
 use lib.ListN.{length, take}
 use Rattle.worksheet.specs.Showing.{Source}
-use Rattle.listing.specs.Account.{titleText, draftsHead, noneLine, shorterHead, sheetHead}
+use Rattle.listing.specs.Account.{title_text, drafts_head, none_line, shorter_head, sheet_head}
 use Rattle.listing.specs.Fields.{in_turn}
 use Rattle.auditing.specs.declared.gathering.Gathered.{Gathered}
-use Rattle.auditing.specs.Accounts.{number_at, fieldAccount, draftAccount, lineAccount, sheetAccount}
-use Rattle.auditing.specs.Page.{draftsText, noDrafts, shorterParts, draftsParts, pageSize, fieldsPart, sheetPart, shorterPart, draftsPart, pagePart}
-use Rattle.auditing.proofs.pages.Parts.{fields-field, shorter-call, shorter-rest, drafts-line, drafts-none, drafts-rest, page-fields, page-drafts}
-use Rattle.results.specs.AuditPage.{Audited, placesKept, shorterText}
-use Rattle.results.proofs.pages.Calls.{turn-same, page-calls}
+use Rattle.auditing.specs.Accounts.{number_at, field_account, draft_account, line_account, sheet_account}
+use Rattle.auditing.specs.Page.{drafts_text, no_drafts, shorter_parts, drafts_parts, page_size, fields_part, sheet_part, shorter_part, drafts_part, page_part}
+use Rattle.auditing.proofs.pages.Parts.{fields_field, shorter_call, shorter_rest, drafts_line, drafts_none, drafts_rest, page_fields, page_drafts}
+use Rattle.results.specs.AuditPage.{Audited, places_kept, shorter_text}
+use Rattle.results.proofs.pages.Calls.{turn_same, page_calls}
 
 -- ---- texts in turn
 
-turn-both :
+turn_both :
     (f : ℕ → List ℕ) (m n : ℕ) → in_turn f (m + n) ≡ in_turn f m ++ in_turn (λ (j : ℕ). f (m + j)) n
 unfolding in_turn
-turn-both f m zero = ap (in_turn f) (add-zero m) ∙ sym (append-nil (in_turn f m))
-turn-both f m (suc n) =
+turn_both f m zero = ap (in_turn f) (add-zero m) ∙ sym (append-nil (in_turn f m))
+turn_both f m (suc n) =
     let next : m + suc n ≡ suc (m + n) = omega arith in
     ap (in_turn f) next
-    ∙ ap (λ (l : List ℕ). l ++ f (m + n)) (turn-both f m n)
+    ∙ ap (λ (l : List ℕ). l ++ f (m + n)) (turn_both f m n)
     ∙ append_assoc (in_turn f m) (in_turn (λ (j : ℕ). f (m + j)) n) (f (m + n))
 
 turn_one : (f : ℕ → List ℕ) → in_turn f 1 ≡ f 0
@@ -38,167 +38,167 @@ unfolding in_turn
 turn_two f = refl
 
 -- one text, and then others
-turn-first : (f : ℕ → List ℕ) (n : ℕ) → in_turn f (1 + n) ≡ f 0 ++ in_turn (λ (j : ℕ). f (1 + j)) n
-turn-first f n = turn-both f 1 n ∙ ap (λ (l : List ℕ). l ++ in_turn (λ (j : ℕ). f (1 + j)) n) (turn_one f)
+turn_first : (f : ℕ → List ℕ) (n : ℕ) → in_turn f (1 + n) ≡ f 0 ++ in_turn (λ (j : ℕ). f (1 + j)) n
+turn_first f n = turn_both f 1 n ∙ ap (λ (l : List ℕ). l ++ in_turn (λ (j : ℕ). f (1 + j)) n) (turn_one f)
 
 -- ---- the sections, from the last on
 
 module _ (source : Source) (text : List ℕ) (g : Gathered) (marks numbers starts places : List ℕ) (size : ℕ) where
   abbrev sheet : ℕ → List ℕ
-  sheet k = sheetPart source g k
+  sheet k = sheet_part source g k
 
-  sheet-whole : in_turn sheet 2 ≡ sheetHead ++ sheetAccount source g.sheet
-  unfolding sheetPart
-  sheet-whole = turn_two sheet
+  sheet_whole : in_turn sheet 2 ≡ sheet_head ++ sheet_account source g.sheet
+  unfolding sheet_part
+  sheet_whole = turn_two sheet
 
   abbrev shorter : ℕ → List ℕ
-  shorter k = shorterPart source text g starts places size k
+  shorter k = shorter_part source text g starts places size k
 
   abbrev call : ℕ → List ℕ
-  call j = lineAccount text (number_at starts (number_at places j))
+  call j = line_account text (number_at starts (number_at places j))
 
-  calls-here : (j : ℕ) → j < size → shorter (2 + j) ≡ call j
-  calls-here j h =
+  calls_here : (j : ℕ) → j < size → shorter (2 + j) ≡ call j
+  calls_here j h =
       let e : 2 + j - 2 ≡ j = omega arith in
-      sym (shorter-call source text g starts places size (2 + j) (omega arith) (omega arith)) ∙ ap call e
+      sym (shorter_call source text g starts places size (2 + j) (omega arith) (omega arith)) ∙ ap call e
 
-  sheet-here : (j : ℕ) → j < 2 → shorter (2 + size + j) ≡ sheet j
-  sheet-here j h =
+  sheet_here : (j : ℕ) → j < 2 → shorter (2 + size + j) ≡ sheet j
+  sheet_here j h =
       let e : 2 + size + j - 2 - size ≡ j = omega arith in
-      sym (shorter-rest source text g starts places size (2 + size + j) (omega arith) (omega arith)) ∙ ap sheet e
+      sym (shorter_rest source text g starts places size (2 + size + j) (omega arith) (omega arith)) ∙ ap sheet e
 
-  shorter-start : in_turn shorter 2 ≡ shorterHead ++ lineAccount text g.start
-  unfolding shorterPart
-  shorter-start = turn_two shorter
+  shorter_start : in_turn shorter 2 ≡ shorter_head ++ line_account text g.start
+  unfolding shorter_part
+  shorter_start = turn_two shorter
 
-  abbrev sheetSection : List ℕ
-  sheetSection = sheetHead ++ sheetAccount source g.sheet
+  abbrev sheet_section : List ℕ
+  sheet_section = sheet_head ++ sheet_account source g.sheet
 
-  abbrev shorterSection : List ℕ
-  shorterSection = shorterHead ++ ((lineAccount text g.start ++ in_turn call size) ++ sheetSection)
+  abbrev shorter_section : List ℕ
+  shorter_section = shorter_head ++ ((line_account text g.start ++ in_turn call size) ++ sheet_section)
 
-  shorter-whole : in_turn shorter (shorterParts size) ≡ shorterSection
-  shorter-whole =
-      let open-line = lineAccount text g.start in
+  shorter_whole : in_turn shorter (shorter_parts size) ≡ shorter_section
+  shorter_whole =
+      let open_line_law = line_account text g.start in
       let calls = in_turn call size in
-      turn-both shorter (2 + size) 2
+      turn_both shorter (2 + size) 2
       ∙ ap₂ ◌++◌
-      (turn-both shorter 2 size
-      ∙ ap₂ ◌++◌ shorter-start (turn-same _ call size calls-here)
-      ∙ append_assoc shorterHead open-line calls)
-      (turn-same _ sheet 2 sheet-here ∙ sheet-whole)
-      ∙ append_assoc shorterHead (open-line ++ calls) sheetSection
+      (turn_both shorter 2 size
+      ∙ ap₂ ◌++◌ shorter_start (turn_same _ call size calls_here)
+      ∙ append_assoc shorter_head open_line_law calls)
+      (turn_same _ sheet 2 sheet_here ∙ sheet_whole)
+      ∙ append_assoc shorter_head (open_line_law ++ calls) sheet_section
 
   abbrev drafts : ℕ → List ℕ
-  drafts k = draftsPart source text g marks numbers starts places size k
+  drafts k = drafts_part source text g marks numbers starts places size k
 
   abbrev draft : ℕ → List ℕ
-  draft p = draftAccount marks numbers g.count p
+  draft p = draft_account marks numbers g.count p
 
-  abbrev noneSection : List ℕ
-  noneSection = cond (noDrafts marks numbers g.count) noneLine []
+  abbrev none_section : List ℕ
+  none_section = cond (no_drafts marks numbers g.count) none_line []
 
-  draft-here : (j : ℕ) → j < g.count → drafts (1 + j) ≡ draft j
-  draft-here j h =
+  draft_here : (j : ℕ) → j < g.count → drafts (1 + j) ≡ draft j
+  draft_here j h =
       let e : 1 + j - 1 ≡ j = omega arith in
-      sym (drafts-line source text g marks numbers starts places size (1 + j) (omega arith) (omega arith)) ∙ ap draft e
+      sym (drafts_line source text g marks numbers starts places size (1 + j) (omega arith) (omega arith)) ∙ ap draft e
 
-  none_here : drafts (1 + g.count + 0) ≡ noneSection
+  none_here : drafts (1 + g.count + 0) ≡ none_section
   none_here =
       sym (
-      drafts-none source text g marks numbers starts places size (1 + g.count + 0) (omega arith) (omega arith)
+      drafts_none source text g marks numbers starts places size (1 + g.count + 0) (omega arith) (omega arith)
       (omega arith)
       )
 
-  shorter-here : (j : ℕ) → j < shorterParts size → drafts (1 + g.count + 1 + j) ≡ shorter j
-  shorter-here j h =
+  shorter_here_law : (j : ℕ) → j < shorter_parts size → drafts (1 + g.count + 1 + j) ≡ shorter j
+  shorter_here_law j h =
       let e : 1 + g.count + 1 + j - 1 - g.count - 1 ≡ j = omega arith in
       sym (
-      drafts-rest source text g marks numbers starts places size (1 + g.count + 1 + j) (omega arith) (omega arith)
+      drafts_rest source text g marks numbers starts places size (1 + g.count + 1 + j) (omega arith) (omega arith)
       (λ q. omega arith)
       )
       ∙ ap shorter e
 
-  drafts-head-here : drafts 0 ≡ draftsHead
-  unfolding draftsPart
-  drafts-head-here = refl
+  drafts_head_here : drafts 0 ≡ drafts_head
+  unfolding drafts_part
+  drafts_head_here = refl
 
-  abbrev draftsSection : List ℕ
-  draftsSection = draftsHead ++ (in_turn draft g.count ++ (noneSection ++ shorterSection))
+  abbrev drafts_section : List ℕ
+  drafts_section = drafts_head ++ (in_turn draft g.count ++ (none_section ++ shorter_section))
 
-  drafts-whole : in_turn drafts (draftsParts g.count size) ≡ draftsSection
-  drafts-whole =
+  drafts_whole : in_turn drafts (drafts_parts g.count size) ≡ drafts_section
+  drafts_whole =
       let lines = in_turn draft g.count in
-      turn-both drafts (1 + g.count + 1) (shorterParts size)
+      turn_both drafts (1 + g.count + 1) (shorter_parts size)
       ∙ ap₂ ◌++◌
-      (turn-both drafts (1 + g.count) 1
+      (turn_both drafts (1 + g.count) 1
       ∙ ap₂ ◌++◌
-      (turn-first drafts g.count ∙ ap₂ ◌++◌ drafts-head-here (turn-same _ draft g.count draft-here))
+      (turn_first drafts g.count ∙ ap₂ ◌++◌ drafts_head_here (turn_same _ draft g.count draft_here))
       (turn_one _ ∙ none_here))
-      (turn-same _ shorter (shorterParts size) shorter-here ∙ shorter-whole)
-      ∙ append_assoc (draftsHead ++ lines) noneSection shorterSection
-      ∙ append_assoc draftsHead lines (noneSection ++ shorterSection)
+      (turn_same _ shorter (shorter_parts size) shorter_here_law ∙ shorter_whole)
+      ∙ append_assoc (drafts_head ++ lines) none_section shorter_section
+      ∙ append_assoc drafts_head lines (none_section ++ shorter_section)
 
   -- ---- all of them
 
   module _ (line : ℕ) where
     abbrev part : ℕ → List ℕ
-    part k = pagePart source text g marks numbers starts places size line k
+    part k = page_part source text g marks numbers starts places size line k
 
     abbrev field : ℕ → List ℕ
-    field k = fieldAccount g.sheet.inputs g.opened marks numbers g.count k
+    field k = field_account g.sheet.inputs g.opened marks numbers g.count k
 
-    field-here : (k : ℕ) → k < 15 → part (1 + k) ≡ field (suc k)
-    field-here k h =
+    field_here : (k : ℕ) → k < 15 → part (1 + k) ≡ field (suc k)
+    field_here k h =
         let e : 1 + k ≡ suc k = omega arith in
-        sym (page-fields source text g marks numbers starts places size (1 + k) line (omega arith))
-        ∙ sym (fields-field line g marks numbers (1 + k) (λ q. omega arith))
+        sym (page_fields source text g marks numbers starts places size (1 + k) line (omega arith))
+        ∙ sym (fields_field line g marks numbers (1 + k) (λ q. omega arith))
         ∙ ap field e
 
-    title-here : part 0 ≡ titleText line
-    unfolding pagePart fieldsPart
-    title-here = refl
+    title_here : part 0 ≡ title_text line
+    unfolding page_part fields_part
+    title_here = refl
 
-    drafts-here : (j : ℕ) → j < draftsParts g.count size → part (16 + j) ≡ drafts j
-    drafts-here j h =
+    drafts_here_law : (j : ℕ) → j < drafts_parts g.count size → part (16 + j) ≡ drafts j
+    drafts_here_law j h =
         let e : 16 + j - 16 ≡ j = omega arith in
-        sym (page-drafts source text g marks numbers starts places size (16 + j) line (omega arith)) ∙ ap drafts e
+        sym (page_drafts source text g marks numbers starts places size (16 + j) line (omega arith)) ∙ ap drafts e
 
     pub parts_whole :
-        in_turn part (pageSize g.count size)
-        ≡ titleText line ++ (in_turn (λ (k : ℕ). field (suc k)) 15 ++ draftsSection)
+        in_turn part (page_size g.count size)
+        ≡ title_text line ++ (in_turn (λ (k : ℕ). field (suc k)) 15 ++ drafts_section)
     parts_whole =
-        turn-both part 16 (draftsParts g.count size)
+        turn_both part 16 (drafts_parts g.count size)
         ∙ ap₂ ◌++◌
-        (turn-first part 15 ∙ ap₂ ◌++◌ title-here (turn-same _ (λ (k : ℕ). field (suc k)) 15 field-here))
-        (turn-same _ drafts (draftsParts g.count size) drafts-here ∙ drafts-whole)
-        ∙ append_assoc (titleText line) (in_turn (λ (k : ℕ). field (suc k)) 15) draftsSection
+        (turn_first part 15 ∙ ap₂ ◌++◌ title_here (turn_same _ (λ (k : ℕ). field (suc k)) 15 field_here))
+        (turn_same _ drafts (drafts_parts g.count size) drafts_here_law ∙ drafts_whole)
+        ∙ append_assoc (title_text line) (in_turn (λ (k : ℕ). field (suc k)) 15) drafts_section
 
 -- THE PAGE
-pub page-whole :
+pub page_whole :
     (a : Audited) (places : List ℕ) (size line : ℕ) → length a.calls ≤ length places →
-    size ≡ min (length (placesKept a)) (suc (length places)) →
-    (let n = min size (length places) in take n places ≡ take n (placesKept a)) →
+    size ≡ min (length (places_kept a)) (suc (length places)) →
+    (let n = min size (length places) in take n places ≡ take n (places_kept a)) →
     let g = a.kept in
-    in_turn (pagePart a.source a.text g a.marks a.numbers a.starts places size line)
-    (pageSize g.count size)
-    ≡ titleText line
-    ++ (in_turn (λ (k : ℕ). fieldAccount g.sheet.inputs g.opened a.marks a.numbers g.count (suc k)) 15
-    ++ (draftsHead
-    ++ (draftsText a.marks a.numbers g.count g.count
-    ++ (cond (noDrafts a.marks a.numbers g.count) noneLine []
-    ++ (shorterHead ++ (shorterText a ++ (sheetHead ++ sheetAccount a.source g.sheet)))))))
-unfolding draftsText
-page-whole a places size line room count held =
+    in_turn (page_part a.source a.text g a.marks a.numbers a.starts places size line)
+    (page_size g.count size)
+    ≡ title_text line
+    ++ (in_turn (λ (k : ℕ). field_account g.sheet.inputs g.opened a.marks a.numbers g.count (suc k)) 15
+    ++ (drafts_head
+    ++ (drafts_text a.marks a.numbers g.count g.count
+    ++ (cond (no_drafts a.marks a.numbers g.count) none_line []
+    ++ (shorter_head ++ (shorter_text a ++ (sheet_head ++ sheet_account a.source g.sheet)))))))
+unfolding drafts_text
+page_whole a places size line room count held =
     let g = a.kept in
-    let title = titleText line in
-    let fields = in_turn (λ (k : ℕ). fieldAccount g.sheet.inputs g.opened a.marks a.numbers g.count (suc k)) 15 in
-    let lines = in_turn (λ (p : ℕ). draftAccount a.marks a.numbers g.count p) g.count in
-    let none = cond (noDrafts a.marks a.numbers g.count) noneLine [] in
-    let end = sheetHead ++ sheetAccount a.source g.sheet in
+    let title = title_text line in
+    let fields = in_turn (λ (k : ℕ). field_account g.sheet.inputs g.opened a.marks a.numbers g.count (suc k)) 15 in
+    let lines = in_turn (λ (p : ℕ). draft_account a.marks a.numbers g.count p) g.count in
+    let none = cond (no_drafts a.marks a.numbers g.count) none_line [] in
+    let end = sheet_head ++ sheet_account a.source g.sheet in
     parts_whole a.source a.text g a.marks a.numbers a.starts places size line
     ∙ ap
     (λ (calls : List ℕ).
     title
-    ++ (fields ++ (draftsHead ++ (lines ++ (none ++ (shorterHead ++ ((lineAccount a.text g.start ++ calls) ++ end)))))))
-    (page-calls a places size room count held)
+    ++ (fields ++ (drafts_head ++ (lines ++ (none ++ (shorter_head ++ ((line_account a.text g.start ++ calls) ++ end)))))))
+    (page_calls a places size room count held)

@@ -19,38 +19,38 @@ use lib.Ieee.Positive.{positive}
 use lib.ListN.{length, get_or}
 use Rattle.base.specs.declared.angle.Degrees.{Degrees}
 use Rattle.maps.specs.declared.inputs.MagneticPole.{MagneticPole}
-use Rattle.base.specs.Single.{◌⊕◌, ◌⊖◌, ◌⊗◌, ◌⊘◌, decimal, minusDecimal}
+use Rattle.base.specs.Single.{◌⊕◌, ◌⊖◌, ◌⊗◌, ◌⊘◌, decimal, minus_decimal}
 use Rattle.base.specs.Double.{fraction}
-use Rattle.base.specs.Number.{negative, absOf, narrowOf}
+use Rattle.base.specs.Number.{negative, abs_of, narrow_of}
 use Rattle.base.specs.Constants.{D2R, PI, PI2, PIO2, RZ}
-use Rattle.base.specs.Angle.{radiansOf}
-use Rattle.base.specs.Elementary.{acosOf, sin32Of, cos32Of, acos32Of}
-use Rattle.base.proofs.order.Order.{nought, Between, wider, trans_le, neg-le, le→abs, abs_neg, abs-no-nan, abs-not-below, le_left, le_right, not-lt→le, total-le, no-nan-finite, finite-between, between-finite, size-between}
-use Rattle.base.proofs.order.Monotone.{sub-mono, add-size, sub-size, mul-size, div-size, abs-finite}
-use Rattle.base.proofs.order.Intervals.{every, all, exactly, sub_in, div-in}
-use Rattle.results.proofs.numbers.Bounds.{sin32-size, cos32-size}
-use Rattle.results.proofs.numbers.Sizes.{Sized, plus-sized, less-sized, times-sized, between-sized, larger, sized-number}
+use Rattle.base.specs.Angle.{radians_of}
+use Rattle.base.specs.Elementary.{acos_of, sin32_of, cos32_of, acos32_of}
+use Rattle.base.proofs.order.Order.{nought, Between, wider, trans_le, neg_le, le→abs, abs_neg, abs_no_nan, abs_not_below, le_left, le_right, not-lt→le, total_le, no_nan_finite, finite_between, between_finite, size_between}
+use Rattle.base.proofs.order.Monotone.{sub_mono, add_size, sub_size, mul_size, div_size, abs_finite}
+use Rattle.base.proofs.order.Intervals.{every, all, exactly, sub_in, div_in}
+use Rattle.results.proofs.numbers.Bounds.{sin32_size, cos32_size}
+use Rattle.results.proofs.numbers.Sizes.{Sized, plus_sized, less_sized, times_sized, between_sized, larger, sized_number}
 use Rattle.maps.specs.declared.geometry.Use.{Use}
 use Rattle.maps.specs.declared.geometry.Place.{Place}
 use Rattle.maps.specs.declared.geometry.Track.{Track}
-use Rattle.maps.specs.Geometry.{EPSLON, DDX, R1, latitudeOf, distancesOf, clampedCosine, cosBetween, dlongOf, atLeastMinimum, gcdOf, fromNorth, circleOf, close, nudgeOf, nudgedOf, sign_of, acosClamped, turnedOf, foldedOf, otherWay, polar, place_of, endLongitude, end_of, downMeridian, circleLongitude, onCircle, sampleOf, point_of, absent, controlPointIf, controlRow, rows_of, trackOf, pathOf, nowhere}
-use Rattle.maps.specs.Layers.{clockOf}
-use Rattle.results.proofs.path.SignRules.{acos-clamped-in}
-use Rattle.results.proofs.field.Sines.{Away, faint, above-away, mul-away, sine-not-zero}
-use Rattle.results.proofs.clock.Clock.{lt_not_le, not-le→lt, farthest, Hour, Longitude, OnClock, typed-longitude, clock-range}
+use Rattle.maps.specs.Geometry.{EPSLON, DDX, R1, latitude_of, distances_of, clamped_cosine, cos_between, dlong_of, at_least_minimum, gcd_of, from_north, circle_of, close, nudge_of, nudged_of, sign_of, acos_clamped, turned_of, folded_of, other_way, polar, place_of, end_longitude, end_of, down_meridian, circle_longitude, on_circle, sample_of, point_of, absent, control_point_if, control_row, rows_of, track_of, path_of, nowhere}
+use Rattle.maps.specs.Layers.{clock_of}
+use Rattle.results.proofs.path.SignRules.{acos_clamped_in}
+use Rattle.results.proofs.field.Sines.{Away, faint, above_away, mul_away, sine_not_zero}
+use Rattle.results.proofs.clock.Clock.{lt_not_le, not-le→lt, farthest, Hour, Longitude, OnClock, typed_longitude, clock_range}
 
 -- ---- the ends
-pub zero-longitude : Longitude (decimal 0 1)
+pub zero_longitude : Longitude (decimal 0 1)
 unfolding farthest PI PI2 decimal round neg add sub le
-zero-longitude = record { low = tt; high = tt }
+zero_longitude = record { low = tt; high = tt }
 
-pub end-longitude : (lat lon : Degrees) → Between (minusDecimal 1800 1) (decimal 1800 1) lon.0 → Longitude (endLongitude lat lon)
-unfolding endLongitude
-end-longitude lat lon b = go (lt (decimal 899 1) (absOf lat.0))
+pub end_longitude_law : (lat lon : Degrees) → Between (minus_decimal 1800 1) (decimal 1800 1) lon.0 → Longitude (end_longitude lat lon)
+unfolding end_longitude
+end_longitude_law lat lon b = go (lt (decimal 899 1) (abs_of lat.0))
   where
-    go : (c : Bool) → Longitude (cond c (decimal 0 1) (radiansOf lon).0)
-    go true = zero-longitude
-    go false = typed-longitude lon b
+    go : (c : Bool) → Longitude (cond c (decimal 0 1) (radians_of lon).0)
+    go true = zero_longitude
+    go false = typed_longitude lon b
 
 -- ---- folding
 -- one turn and a half
@@ -58,85 +58,85 @@ abbrev most : Float
 most = fin false 2470649 (negsuc 17)
 
 -- a number that is at most PI in size is not folded
-small : (x : Float) → T (le (neg PI) x) → T (le x PI) → T (lt PI (absOf x)) → ⊥
+small : (x : Float) → T (le (neg PI) x) → T (le x PI) → T (lt PI (abs_of x)) → ⊥
 unfolding PI decimal round
 small x l h t =
-    let a : T (le (absOf x) PI) = le→abs x PI l h in
-    let p : T (finite x) = finite-between (neg PI) x PI (unfold neg in tt) tt l h in
-    let q : T (finite (absOf x)) = finite-between nought (absOf x) PI tt tt (abs-not-below x (no-nan-finite x p)) a in
-    lt_not_le PI (absOf x) tt q t a
+    let a : T (le (abs_of x) PI) = le→abs x PI l h in
+    let p : T (finite x) = finite_between (neg PI) x PI (unfold neg in tt) tt l h in
+    let q : T (finite (abs_of x)) = finite_between nought (abs_of x) PI tt tt (abs_not_below x (no_nan_finite x p)) a in
+    lt_not_le PI (abs_of x) tt q t a
 
 module _ (x : Float) (b : Between (neg most) most x) where
   number : T (not (is_nan x))
   unfolding neg
-  number = no-nan-finite x (between-finite {lo = neg most} {hi = most} tt tt b)
+  number = no_nan_finite x (between_finite {lo = neg most} {hi = most} tt tt b)
 
-  turned_down : T (lt PI (absOf x)) → T (le nought x) → Longitude (x ⊖ absOf PI2)
-  unfolding farthest PI PI2 absOf negative decimal round neg add sub le
-  turned_down t s = elim (total-le PI x (no-nan-finite PI tt) number) [
+  turned_down : T (lt PI (abs_of x)) → T (le nought x) → Longitude (x ⊖ abs_of PI2)
+  unfolding farthest PI PI2 abs_of negative decimal round neg add sub le
+  turned_down t s = elim (total_le PI x (no_nan_finite PI tt) number) [
     | inl h ↦ let c : Between PI most x = record { low = h; high = b.high } in sub_in binary32 (neg farthest) farthest tt c (exactly PI2 tt)
     | inr h ↦ absurd (small x (trans_le (neg PI) nought x tt s) h t)
   ]
 
-  turned_up : T (lt PI (absOf x)) → T (le x nought) → Longitude (x ⊖ neg (absOf PI2))
-  unfolding farthest PI PI2 absOf negative decimal round neg add sub le
-  turned_up t s = elim (total-le x (neg PI) number (no-nan-finite (neg PI) tt)) [
+  turned_up : T (lt PI (abs_of x)) → T (le x nought) → Longitude (x ⊖ neg (abs_of PI2))
+  unfolding farthest PI PI2 abs_of negative decimal round neg add sub le
+  turned_up t s = elim (total_le x (neg PI) number (no_nan_finite (neg PI) tt)) [
     | inl h ↦ let c : Between (neg most) (neg PI) x = record { low = b.low; high = h } in sub_in binary32 (neg farthest) farthest tt c (exactly (neg PI2) tt)
     | inr h ↦ absurd (small x h (trans_le x nought PI s tt) t)
   ]
 
-  turned-in : T (lt PI (absOf x)) → Longitude (turnedOf x)
-  unfolding turnedOf sign_of decimal round
-  turned-in t = go (le nought x) refl
+  turned_in : T (lt PI (abs_of x)) → Longitude (turned_of x)
+  unfolding turned_of sign_of decimal round
+  turned_in t = go (le nought x) refl
     where
-      go : (c : Bool) → le nought x ≡ c → Longitude (x ⊖ cond c (absOf PI2) (neg (absOf PI2)))
+      go : (c : Bool) → le nought x ≡ c → Longitude (x ⊖ cond c (abs_of PI2) (neg (abs_of PI2)))
       go true e = turned_down t (subst T (sym e) tt)
-      go false e = turned_up t (elim (total-le nought x (no-nan-finite nought tt) number) [ inl h ↦ absurd (subst T e h) | inr h ↦ h ])
+      go false e = turned_up t (elim (total_le nought x (no_nan_finite nought tt) number) [ inl h ↦ absurd (subst T e h) | inr h ↦ h ])
 
-  kept : lt PI (absOf x) ≡ false → Longitude x
+  kept : lt PI (abs_of x) ≡ false → Longitude x
   unfolding farthest PI PI2 decimal round neg add sub le
   kept e =
-      let a : T (le (absOf x) PI) = not-lt→le PI (absOf x) (no-nan-finite PI tt) (le_right nought (absOf x) (abs-not-below x number)) e in
-      wider (neg farthest) farthest tt tt (size-between {a = PI} a)
+      let a : T (le (abs_of x) PI) = not-lt→le PI (abs_of x) (no_nan_finite PI tt) (le_right nought (abs_of x) (abs_not_below x number)) e in
+      wider (neg farthest) farthest tt tt (size_between {a = PI} a)
 
-  pub folded-in : Longitude (foldedOf x)
-  unfolding foldedOf
-  folded-in = go (lt PI (absOf x)) refl
+  pub folded_in : Longitude (folded_of x)
+  unfolding folded_of
+  folded_in = go (lt PI (abs_of x)) refl
     where
-      go : (c : Bool) → lt PI (absOf x) ≡ c → Longitude (cond c (turnedOf x) x)
-      go true e = turned-in (subst T (sym e) tt)
+      go : (c : Bool) → lt PI (abs_of x) ≡ c → Longitude (cond c (turned_of x) x)
+      go true e = turned_in (subst T (sym e) tt)
       go false e = kept e
 
 -- ---- off the transmitter's longitude
 -- a, or the rest of the turn, off a longitude, by the sign of d
 abbrev onward : Float → Bool → Float → Float → Float
-onward lon other d a = foldedOf (lon ⊖ sign_of (otherWay other a) d)
+onward lon other d a = folded_of (lon ⊖ sign_of (other_way other a) d)
 
 abbrev pub four : Float
 four = fin false 1 (pos 2)
 
-way_in : (other : Bool) (a : Float) → Between nought four a → Between nought PI2 (otherWay other a)
-unfolding otherWay PI2 decimal round neg add sub le
+way_in : (other : Bool) (a : Float) → Between nought four a → Between nought PI2 (other_way other a)
+unfolding other_way PI2 decimal round neg add sub le
 way_in true a b = sub_in binary32 nought PI2 tt (exactly PI2 tt) b
 way_in false a b = wider nought PI2 tt tt b
 
-sign-in : (a d : Float) → Between nought PI2 a → Between (neg PI2) PI2 (sign_of a d)
+sign_in : (a d : Float) → Between nought PI2 a → Between (neg PI2) PI2 (sign_of a d)
 unfolding sign_of PI2 decimal round neg le
-sign-in a d b =
+sign_in a d b =
     go (le (decimal 0 1) d)
-    (record { low = trans_le (neg PI2) nought (absOf a) tt (abs-not-below a (le_right nought a b.low)); high = le→abs a PI2 (trans_le (neg PI2) nought a tt b.low) b.high })
+    (record { low = trans_le (neg PI2) nought (abs_of a) tt (abs_not_below a (le_right nought a b.low)); high = le→abs a PI2 (trans_le (neg PI2) nought a tt b.low) b.high })
   where
-    go : (c : Bool) → Between (neg PI2) PI2 (absOf a) → Between (neg PI2) PI2 (cond c (absOf a) (neg (absOf a)))
+    go : (c : Bool) → Between (neg PI2) PI2 (abs_of a) → Between (neg PI2) PI2 (cond c (abs_of a) (neg (abs_of a)))
     go true s = s
-    go false s = record { low = neg-le (absOf a) PI2 s.high; high = neg-le (neg PI2) (absOf a) s.low }
+    go false s = record { low = neg_le (abs_of a) PI2 s.high; high = neg_le (neg PI2) (abs_of a) s.low }
 
-onward-in : (lon : Float) (other : Bool) (d a : Float) → Longitude lon → Between nought four a → Longitude (onward lon other d a)
+onward_in : (lon : Float) (other : Bool) (d a : Float) → Longitude lon → Between nought four a → Longitude (onward lon other d a)
 unfolding farthest PI PI2 decimal round neg add sub le
-onward-in lon other d a b k = folded-in (lon ⊖ sign_of (otherWay other a) d) (sub_in binary32 (neg most) most tt b (sign-in (otherWay other a) d (way_in other a k)))
+onward_in lon other d a b k = folded_in (lon ⊖ sign_of (other_way other a) d) (sub_in binary32 (neg most) most tt b (sign_in (other_way other a) d (way_in other a k)))
 
-acos-in : (q : Float) → T (not (is_nan q)) → Between nought four (acosClamped q)
+acos_in : (q : Float) → T (not (is_nan q)) → Between nought four (acos_clamped q)
 unfolding fraction round
-acos-in q h = acos-clamped-in q h
+acos_in q h = acos_clamped_in q h
 
 abbrev pub one : Float
 one = fin false 1 (pos 0)
@@ -154,11 +154,11 @@ sixteen = fin false 1 (pos 4)
 abbrev pub angle : Float
 angle = fin false 1 (pos 5)
 
-pub sines : (v : Float) → Sized angle v → Sized two (sin32Of v) × Sized two (cos32Of v)
+pub sines : (v : Float) → Sized angle v → Sized two (sin32_of v) × Sized two (cos32_of v)
 unfolding fraction round le
 sines v h =
-    let k : T (le (absOf v) (fraction 1000 1)) = trans_le (absOf v) angle (fraction 1000 1) h.size tt in
-    (record { size = sin32-size v k }, record { size = cos32-size v k })
+    let k : T (le (abs_of v) (fraction 1000 1)) = trans_le (abs_of v) angle (fraction 1000 1) h.size tt in
+    (record { size = sin32_size v k }, record { size = cos32_size v k })
 
 -- ---- the ends
 pub record Known (p : Place) : Type 0 where
@@ -167,78 +167,78 @@ pub record Known (p : Place) : Type 0 where
   pub cos : Sized two p.cos
   pub lon : Longitude p.lon
 
-pub placed-known : (lat lon : Float) → Sized angle lat → Longitude lon → Known (place_of lat lon)
+pub placed_known : (lat lon : Float) → Sized angle lat → Longitude lon → Known (place_of lat lon)
 unfolding place_of
-placed-known lat lon h b = let s = sines lat h in record { lat = h; sin = s.0; cos = s.1; lon = b }
+placed_known lat lon h b = let s = sines lat h in record { lat = h; sin = s.0; cos = s.1; lon = b }
 
 -- what a latitude in degrees is at most, nudged
 abbrev pub hundred : Float
 hundred = fin false 25 (pos 2)
 
-pub D2R-sized : Sized (fin false 1 (negsuc 4)) D2R
-unfolding D2R decimal round absOf negative le
-D2R-sized = record { size = tt }
+pub D2R_sized : Sized (fin false 1 (negsuc 4)) D2R
+unfolding D2R decimal round abs_of negative le
+D2R_sized = record { size = tt }
 
-end_known : (lat lon : Degrees) → Sized hundred lat.0 → Between (minusDecimal 1800 1) (decimal 1800 1) lon.0 → Known (end_of lat lon)
-unfolding end_of radiansOf mul le
-end_known lat lon h b = placed-known (lat.0 ⊗ D2R) (endLongitude lat lon) (times-sized angle tt h D2R-sized) (end-longitude lat lon b)
+end_known : (lat lon : Degrees) → Sized hundred lat.0 → Between (minus_decimal 1800 1) (decimal 1800 1) lon.0 → Known (end_of lat lon)
+unfolding end_of radians_of mul le
+end_known lat lon h b = placed_known (lat.0 ⊗ D2R) (end_longitude lat lon) (times_sized angle tt h D2R_sized) (end_longitude_law lat lon b)
 
-DDX-sized : (c : Bool) → Sized one (cond c (neg DDX) DDX)
-unfolding DDX decimal round absOf negative neg le
-DDX-sized true = record { size = tt }
-DDX-sized false = record { size = tt }
+DDX_sized : (c : Bool) → Sized one (cond c (neg DDX) DDX)
+unfolding DDX decimal round abs_of negative neg le
+DDX_sized true = record { size = tt }
+DDX_sized false = record { size = tt }
 
-pub typed-latitude : {lat : Float} → Between (minusDecimal 900 1) (decimal 900 1) lat → Sized (decimal 900 1) lat
-unfolding decimal minusDecimal round neg le
-typed-latitude b = between-sized (decimal 900 1) tt b
+pub typed_latitude : {lat : Float} → Between (minus_decimal 900 1) (decimal 900 1) lat → Sized (decimal 900 1) lat
+unfolding decimal minus_decimal round neg le
+typed_latitude b = between_sized (decimal 900 1) tt b
 
-pub nudged-latitude : (tlat tlong rlat rlong : Degrees) → Sized (decimal 900 1) tlat.0 → Sized (decimal 900 1) rlat.0 → Sized hundred (nudgedOf tlat tlong rlat rlong).0
-unfolding nudgedOf nudgeOf decimal round add le
-nudged-latitude tlat tlong rlat rlong h k = go (close tlat rlat && close tlong rlong)
+pub nudged_latitude : (tlat tlong rlat rlong : Degrees) → Sized (decimal 900 1) tlat.0 → Sized (decimal 900 1) rlat.0 → Sized hundred (nudged_of tlat tlong rlat rlong).0
+unfolding nudged_of nudge_of decimal round add le
+nudged_latitude tlat tlong rlat rlong h k = go (close tlat rlat && close tlong rlong)
   where
-    go : (c : Bool) → Sized hundred (cond c (record { 0 = tlat.0 ⊖ nudgeOf rlat }) rlat).0
-    go true = less-sized hundred tt h (DDX-sized (lt rlat.0 (decimal 0 1)))
+    go : (c : Bool) → Sized hundred (cond c (record { 0 = tlat.0 ⊖ nudge_of rlat }) rlat).0
+    go true = less_sized hundred tt h (DDX_sized (lt rlat.0 (decimal 0 1)))
     go false = larger hundred tt k
 
 -- ---- the circle by both ends
-turn-sized : (x : Float) → Sized eight (sign_of PI2 x)
+turn_sized : (x : Float) → Sized eight (sign_of PI2 x)
 unfolding sign_of
-turn-sized x = go (le (decimal 0 1) x)
+turn_sized x = go (le (decimal 0 1) x)
   where
-    go : (c : Bool) → Sized eight (cond c (absOf PI2) (neg (absOf PI2)))
-    go true = record { size = unfold PI2 decimal round absOf negative neg le in tt }
-    go false = record { size = unfold PI2 decimal round absOf negative neg le in tt }
+    go : (c : Bool) → Sized eight (cond c (abs_of PI2) (neg (abs_of PI2)))
+    go true = record { size = unfold PI2 decimal round abs_of negative neg le in tt }
+    go false = record { size = unfold PI2 decimal round abs_of negative neg le in tt }
 
 -- what the cosine of a place that is not near a pole is at least
 abbrev hair : Float
 hair = fin false 1 (negsuc 24)
 
-cos-off : (c : Float) → Sized two c → (T (le (c ⊖ EPSLON) (hair ⊖ EPSLON)) → ⊥) → T (le hair c)
+cos_off : (c : Float) → Sized two c → (T (le (c ⊖ EPSLON) (hair ⊖ EPSLON)) → ⊥) → T (le hair c)
 unfolding EPSLON decimal round
-cos-off c h n = elim (total-le hair c (no-nan-finite hair tt) (sized-number h)) [
+cos_off c h n = elim (total_le hair c (no_nan_finite hair tt) (sized_number h)) [
   | inl u ↦ u
-  | inr u ↦ absurd (n (sub-mono binary32 c hair EPSLON EPSLON (abs-finite c two tt h.size) tt tt tt u (exactly EPSLON tt).low))
+  | inr u ↦ absurd (n (sub_mono binary32 c hair EPSLON EPSLON (abs_finite c two tt h.size) tt tt tt u (exactly EPSLON tt).low))
 ]
 
-not-polar : (c : Float) → Sized two c → polar c ≡ false → T (le hair c)
+not_polar : (c : Float) → Sized two c → polar c ≡ false → T (le hair c)
 unfolding polar EPSLON decimal round neg add sub le
-not-polar c h e = cos-off c h (λ u. subst T e (trans_le (c ⊖ EPSLON) (hair ⊖ EPSLON) nought u tt))
+not_polar c h e = cos_off c h (λ u. subst T e (trans_le (c ⊖ EPSLON) (hair ⊖ EPSLON) nought u tt))
 
-off-pole : (c : Float) → Sized two c → lt (c ⊖ EPSLON) (decimal 0 1) ≡ false → T (le hair c)
+off_pole : (c : Float) → Sized two c → lt (c ⊖ EPSLON) (decimal 0 1) ≡ false → T (le hair c)
 unfolding EPSLON decimal round neg add sub le
-off-pole c h e = cos-off c h (λ u. subst T e (not-le→lt (c ⊖ EPSLON) nought (le_left (c ⊖ EPSLON) (hair ⊖ EPSLON) u) (no-nan-finite nought tt) (λ w. trans_le nought (c ⊖ EPSLON) (hair ⊖ EPSLON) w u)))
+off_pole c h e = cos_off c h (λ u. subst T e (not-le→lt (c ⊖ EPSLON) nought (le_left (c ⊖ EPSLON) (hair ⊖ EPSLON) u) (no_nan_finite nought tt) (λ w. trans_le nought (c ⊖ EPSLON) (hair ⊖ EPSLON) w u)))
 
 -- a quotient by a divisor that is not near zero is a number
-pub quotient-number : (x y k : Float) → Sized sixteen x → T (positive k) → T (le k (absOf y)) → T (not (is_nan (x ⊘ y)))
-quotient-number x y k h p q = abs-no-nan (x ⊘ y) (sixteen ⊘ k) (div-size binary32 x y sixteen k tt p h.size q)
+pub quotient_number : (x y k : Float) → Sized sixteen x → T (positive k) → T (le k (abs_of y)) → T (not (is_nan (x ⊘ y)))
+quotient_number x y k h p q = abs_no_nan (x ⊘ y) (sixteen ⊘ k) (div_size binary32 x y sixteen k tt p h.size q)
 
-pub cos-between : (a b : Place) (d : Float) → Known a → Known b → Sized angle d → Sized sixteen (cosBetween a b d)
-unfolding cosBetween add mul le
-cos-between a b d h k s = plus-sized sixteen tt (times-sized four tt h.sin k.sin) (times-sized eight tt (times-sized four tt h.cos k.cos) (sines d s).1)
+pub cos_between_law : (a b : Place) (d : Float) → Known a → Known b → Sized angle d → Sized sixteen (cos_between a b d)
+unfolding cos_between add mul le
+cos_between_law a b d h k s = plus_sized sixteen tt (times_sized four tt h.sin k.sin) (times_sized eight tt (times_sized four tt h.cos k.cos) (sines d s).1)
 
-least-in : (a : Float) → Between nought four a → Between (decimal 1 6) four (atLeastMinimum a)
-unfolding atLeastMinimum
-least-in a b = go (lt a (decimal 1 6)) refl
+least_in : (a : Float) → Between nought four a → Between (decimal 1 6) four (at_least_minimum a)
+unfolding at_least_minimum
+least_in a b = go (lt a (decimal 1 6)) refl
   where
     go : (c : Bool) → lt a (decimal 1 6) ≡ c → Between (decimal 1 6) four (cond c (decimal 1 6) a)
     go true e = record { low = unfold decimal round le in tt; high = unfold decimal round le in tt }
@@ -248,86 +248,86 @@ least-in a b = go (lt a (decimal 1 6)) refl
 abbrev pub farther : Float
 farther = PI2 ⊖ decimal 1 6
 
-length-in : (long : Bool) (a : Float) → Between (decimal 1 6) four a → Between (decimal 1 6) farther (otherWay long a)
-unfolding otherWay PI2 decimal round neg add sub le
-length-in true a b = sub_in binary32 (decimal 1 6) farther tt (exactly PI2 tt) b
-length-in false a b = wider (decimal 1 6) farther tt tt b
+length_in : (long : Bool) (a : Float) → Between (decimal 1 6) four a → Between (decimal 1 6) farther (other_way long a)
+unfolding other_way PI2 decimal round neg add sub le
+length_in true a b = sub_in binary32 (decimal 1 6) farther tt (exactly PI2 tt) b
+length_in false a b = wider (decimal 1 6) farther tt tt b
 
-narrow-fits : (x : Float) → T (fits binary32 (narrowOf x))
-unfolding narrowOf
-narrow-fits nan = unfold fits in tt
-narrow-fits (inf s) = unfold fits in tt
-narrow-fits (fin s m e) = round-fits binary32 s (m * up e) (down e)
+narrow_fits : (x : Float) → T (fits binary32 (narrow_of x))
+unfolding narrow_of
+narrow_fits nan = unfold fits in tt
+narrow_fits (inf s) = unfold fits in tt
+narrow_fits (fin s m e) = round-fits binary32 s (m * up e) (down e)
 
-least_fits : (a : Float) → T (fits binary32 a) → T (fits binary32 (atLeastMinimum a))
-unfolding atLeastMinimum
+least_fits : (a : Float) → T (fits binary32 a) → T (fits binary32 (at_least_minimum a))
+unfolding at_least_minimum
 least_fits a h = go (lt a (decimal 1 6))
   where
     go : (c : Bool) → T (fits binary32 (cond c (decimal 1 6) a))
     go true = unfold decimal in round-fits binary32 false 1 (10 ^ 6)
     go false = h
 
-length-fits : (long : Bool) (q : Float) → T (fits binary32 (otherWay long (atLeastMinimum (acosClamped q))))
-unfolding otherWay acosClamped acos32Of
-length-fits true q = sub-fits binary32 PI2 (atLeastMinimum (acosClamped q))
-length-fits false q = least_fits (acosClamped q) (narrow-fits (acosOf (clampedCosine q)))
+length_fits : (long : Bool) (q : Float) → T (fits binary32 (other_way long (at_least_minimum (acos_clamped q))))
+unfolding other_way acos_clamped acos32_of
+length_fits true q = sub-fits binary32 PI2 (at_least_minimum (acos_clamped q))
+length_fits false q = least_fits (acos_clamped q) (narrow_fits (acos_of (clamped_cosine q)))
 
-pub lon-sized : {x : Float} → Longitude x → Sized four x
+pub lon_sized : {x : Float} → Longitude x → Sized four x
 unfolding farthest PI PI2 decimal round neg add sub le
-lon-sized b = between-sized four tt b
+lon_sized b = between_sized four tt b
 
 -- the bearing at the transmitter
-pole-bearing : (c : Bool) → Between nought four (cond c (decimal 0 1) PI)
+pole_bearing : (c : Bool) → Between nought four (cond c (decimal 0 1) PI)
 unfolding PI decimal round le
-pole-bearing true = record { low = tt; high = tt }
-pole-bearing false = record { low = tt; high = tt }
+pole_bearing true = record { low = tt; high = tt }
+pole_bearing false = record { low = tt; high = tt }
 
-north-in : (tx rx : Place) (s c : Float) → Known tx → Known rx → Sized two s → Sized two c → Away faint s → Between nought four (fromNorth tx rx s c)
-unfolding fromNorth
-north-in tx rx s c h k a b w = go (polar tx.cos) refl
+north_in : (tx rx : Place) (s c : Float) → Known tx → Known rx → Sized two s → Sized two c → Away faint s → Between nought four (from_north tx rx s c)
+unfolding from_north
+north_in tx rx s c h k a b w = go (polar tx.cos) refl
   where
     off : polar tx.cos ≡ false → T (not (is_nan ((rx.sin ⊖ tx.sin ⊗ c) ⊘ (tx.cos ⊗ s))))
     off e =
-        let n : Sized sixteen (rx.sin ⊖ tx.sin ⊗ c) = unfold add mul le in less-sized sixteen tt k.sin (times-sized four tt h.sin b) in
-        let d : Away (fin false 1 (negsuc 74)) (tx.cos ⊗ s) = unfold mul le in mul-away binary32 tx.cos s hair faint (abs-finite tx.cos two tt h.cos.size) (abs-finite s two tt a.size) tt tt (above-away hair tx.cos (not-polar tx.cos h.cos e)) w in
-        quotient-number (rx.sin ⊖ tx.sin ⊗ c) (tx.cos ⊗ s) (fin false 1 (negsuc 74)) n tt d
+        let n : Sized sixteen (rx.sin ⊖ tx.sin ⊗ c) = unfold add mul le in less_sized sixteen tt k.sin (times_sized four tt h.sin b) in
+        let d : Away (fin false 1 (negsuc 74)) (tx.cos ⊗ s) = unfold mul le in mul_away binary32 tx.cos s hair faint (abs_finite tx.cos two tt h.cos.size) (abs_finite s two tt a.size) tt tt (above_away hair tx.cos (not_polar tx.cos h.cos e)) w in
+        quotient_number (rx.sin ⊖ tx.sin ⊗ c) (tx.cos ⊗ s) (fin false 1 (negsuc 74)) n tt d
 
-    go : (p : Bool) → polar tx.cos ≡ p → Between nought four (cond p (cond (le tx.lat (decimal 0 1)) (decimal 0 1) PI) (acosClamped ((rx.sin ⊖ tx.sin ⊗ c) ⊘ (tx.cos ⊗ s))))
-    go true e = pole-bearing (le tx.lat (decimal 0 1))
-    go false e = acos-in ((rx.sin ⊖ tx.sin ⊗ c) ⊘ (tx.cos ⊗ s)) (off e)
+    go : (p : Bool) → polar tx.cos ≡ p → Between nought four (cond p (cond (le tx.lat (decimal 0 1)) (decimal 0 1) PI) (acos_clamped ((rx.sin ⊖ tx.sin ⊗ c) ⊘ (tx.cos ⊗ s))))
+    go true e = pole_bearing (le tx.lat (decimal 0 1))
+    go false e = acos_in ((rx.sin ⊖ tx.sin ⊗ c) ⊘ (tx.cos ⊗ s)) (off e)
 
-way-sized : (other : Bool) (a : Float) → Between nought four a → Sized angle (otherWay other a)
-way-sized other a b = unfold PI2 decimal round neg le in between-sized {lo = nought} {hi = PI2} angle tt (way_in other a b)
+way_sized : (other : Bool) (a : Float) → Between nought four a → Sized angle (other_way other a)
+way_sized other a b = unfold PI2 decimal round neg le in between_sized {lo = nought} {hi = PI2} angle tt (way_in other a b)
 
 module _ (tx rx : Place) (h : Known tx) (k : Known rx) (long : Bool) where
-  between_in : Longitude (foldedOf (tx.lon ⊖ rx.lon))
+  between_in : Longitude (folded_of (tx.lon ⊖ rx.lon))
   unfolding farthest PI PI2 decimal round neg add sub le
-  between_in = folded-in (tx.lon ⊖ rx.lon) (sub_in binary32 (neg most) most tt h.lon k.lon)
+  between_in = folded_in (tx.lon ⊖ rx.lon) (sub_in binary32 (neg most) most tt h.lon k.lon)
 
-  dlong-sized : Sized angle (dlongOf tx.lon rx.lon long)
-  unfolding dlongOf turnedOf add le
-  dlong-sized = go long
+  dlong_sized : Sized angle (dlong_of tx.lon rx.lon long)
+  unfolding dlong_of turned_of add le
+  dlong_sized = go long
     where
-      go : (c : Bool) → Sized angle (cond c (turnedOf (foldedOf (tx.lon ⊖ rx.lon))) (foldedOf (tx.lon ⊖ rx.lon)))
-      go true = less-sized angle tt (lon-sized between_in) (turn-sized (foldedOf (tx.lon ⊖ rx.lon)))
-      go false = larger angle tt (lon-sized between_in)
+      go : (c : Bool) → Sized angle (cond c (turned_of (folded_of (tx.lon ⊖ rx.lon))) (folded_of (tx.lon ⊖ rx.lon)))
+      go true = less_sized angle tt (lon_sized between_in) (turn_sized (folded_of (tx.lon ⊖ rx.lon)))
+      go false = larger angle tt (lon_sized between_in)
 
-  pub gcd-in : Between (decimal 1 6) farther (circleOf tx rx long).gcd
-  unfolding circleOf gcdOf
-  gcd-in = length-in long _ (least-in _ (acos-in _ (sized-number (cos-between tx rx (dlongOf tx.lon rx.lon long) h k dlong-sized))))
+  pub gcd_in : Between (decimal 1 6) farther (circle_of tx rx long).gcd
+  unfolding circle_of gcd_of
+  gcd_in = length_in long _ (least_in _ (acos_in _ (sized_number (cos_between_law tx rx (dlong_of tx.lon rx.lon long) h k dlong_sized))))
 
-  gcd-sine : Away faint (sin32Of (circleOf tx rx long).gcd)
-  gcd-sine = sine-not-zero (circleOf tx rx long).gcd (unfold circleOf gcdOf in length-fits long _) gcd-in
+  gcd_sine : Away faint (sin32_of (circle_of tx rx long).gcd)
+  gcd_sine = sine_not_zero (circle_of tx rx long).gcd (unfold circle_of gcd_of in length_fits long _) gcd_in
 
-  gcd-sines : Sized two (sin32Of (circleOf tx rx long).gcd) × Sized two (cos32Of (circleOf tx rx long).gcd)
-  gcd-sines = sines (circleOf tx rx long).gcd (unfold PI2 decimal round neg add sub le in between-sized {lo = decimal 1 6} {hi = farther} angle tt gcd-in)
+  gcd_sines : Sized two (sin32_of (circle_of tx rx long).gcd) × Sized two (cos32_of (circle_of tx rx long).gcd)
+  gcd_sines = sines (circle_of tx rx long).gcd (unfold PI2 decimal round neg add sub le in between_sized {lo = decimal 1 6} {hi = farther} angle tt gcd_in)
 
-  pub bearings : Sized angle (circleOf tx rx long).btr × Sized angle (circleOf tx rx long).brt
-  unfolding circleOf
-  bearings = (way-sized _ _ (north-in tx rx _ _ h k gcd-sines.0 gcd-sines.1 gcd-sine), way-sized _ _ (north-in rx tx _ _ k h gcd-sines.0 gcd-sines.1 gcd-sine))
+  pub bearings : Sized angle (circle_of tx rx long).btr × Sized angle (circle_of tx rx long).brt
+  unfolding circle_of
+  bearings = (way_sized _ _ (north_in tx rx _ _ h k gcd_sines.0 gcd_sines.1 gcd_sine), way_sized _ _ (north_in rx tx _ _ k h gcd_sines.0 gcd_sines.1 gcd_sine))
 
-  btr-cos : Sized two (cos32Of (circleOf tx rx long).btr)
-  btr-cos = (sines (circleOf tx rx long).btr bearings.0).1
+  btr_cos : Sized two (cos32_of (circle_of tx rx long).btr)
+  btr_cos = (sines (circle_of tx rx long).btr bearings.0).1
 
 -- ---- a sample area
 pub record Tracked (t : Track) : Type 0 where
@@ -335,78 +335,78 @@ pub record Tracked (t : Track) : Type 0 where
   pub rlong : Longitude t.rlong
   pub btr : Sized two t.btr_cos
 
-pub latitude-sized : (q : Float) → T (not (is_nan q)) → Sized angle (latitudeOf q)
-unfolding latitudeOf PIO2 decimal round neg add sub le
-latitude-sized q h = between-sized angle tt (sub_in binary32 (neg four) four tt (exactly PIO2 tt) (acos-in q h))
+pub latitude_sized : (q : Float) → T (not (is_nan q)) → Sized angle (latitude_of q)
+unfolding latitude_of PIO2 decimal round neg add sub le
+latitude_sized q h = between_sized angle tt (sub_in binary32 (neg four) four tt (exactly PIO2 tt) (acos_in q h))
 
 -- straight down the meridian of a transmitter near a pole
-abs-abs : (x : Float) → absOf (absOf x) ≡ absOf x
-unfolding absOf negative neg
-abs-abs nan = refl
-abs-abs (inf true) = refl
-abs-abs (inf false) = refl
-abs-abs (fin true m e) = refl
-abs-abs (fin false m e) = refl
+abs_abs : (x : Float) → abs_of (abs_of x) ≡ abs_of x
+unfolding abs_of negative neg
+abs_abs nan = refl
+abs_abs (inf true) = refl
+abs_abs (inf false) = refl
+abs_abs (fin true m e) = refl
+abs_abs (fin false m e) = refl
 
-pub abs-sized : {a : Float} (x : Float) → Sized a x → Sized a (absOf x)
-abs-sized {a} x h = record { size = subst (λ (z : Float). T (le z a)) (sym (abs-abs x)) h.size }
+pub abs_sized : {a : Float} (x : Float) → Sized a x → Sized a (abs_of x)
+abs_sized {a} x h = record { size = subst (λ (z : Float). T (le z a)) (sym (abs_abs x)) h.size }
 
-pub neg-sized : {a : Float} (x : Float) → Sized a x → Sized a (neg x)
-neg-sized {a} x h = record { size = subst (λ (z : Float). T (le z a)) (sym (abs_neg x)) h.size }
+pub neg_sized : {a : Float} (x : Float) → Sized a x → Sized a (neg x)
+neg_sized {a} x h = record { size = subst (λ (z : Float). T (le z a)) (sym (abs_neg x)) h.size }
 
-sign-sized : {a : Float} (x d : Float) → Sized a x → Sized a (sign_of x d)
+sign_sized : {a : Float} (x d : Float) → Sized a x → Sized a (sign_of x d)
 unfolding sign_of
-sign-sized {a} x d h = go (le (decimal 0 1) d)
+sign_sized {a} x d h = go (le (decimal 0 1) d)
   where
-    go : (c : Bool) → Sized a (cond c (absOf x) (neg (absOf x)))
-    go true = abs-sized x h
-    go false = neg-sized (absOf x) (abs-sized x h)
+    go : (c : Bool) → Sized a (cond c (abs_of x) (neg (abs_of x)))
+    go true = abs_sized x h
+    go false = neg_sized (abs_of x) (abs_sized x h)
 
-quarter-sized : Sized two PIO2 × Sized one (decimal 10 1) × T (le PIO2 angle) × T (not (is_nan PIO2))
-unfolding PIO2 decimal round absOf negative le is_nan
-quarter-sized = (record { size = tt }, record { size = tt }, tt, tt)
+quarter_sized : Sized two PIO2 × Sized one (decimal 10 1) × T (le PIO2 angle) × T (not (is_nan PIO2))
+unfolding PIO2 decimal round abs_of negative le is_nan
+quarter_sized = (record { size = tt }, record { size = tt }, tt, tt)
 
-kept-sized : (rflt : Float) → T (not (is_nan rflt)) → Sized angle (cond (lt PIO2 (absOf rflt)) (PIO2 ⊗ sign_of (decimal 10 1) rflt) rflt)
-kept-sized rflt n = go (lt PIO2 (absOf rflt)) refl
+kept_sized : (rflt : Float) → T (not (is_nan rflt)) → Sized angle (cond (lt PIO2 (abs_of rflt)) (PIO2 ⊗ sign_of (decimal 10 1) rflt) rflt)
+kept_sized rflt n = go (lt PIO2 (abs_of rflt)) refl
   where
-    go : (c : Bool) → lt PIO2 (absOf rflt) ≡ c → Sized angle (cond c (PIO2 ⊗ sign_of (decimal 10 1) rflt) rflt)
-    go true e = unfold mul le in times-sized angle tt quarter-sized.0 (sign-sized (decimal 10 1) rflt quarter-sized.1)
-    go false e = record { size = trans_le (absOf rflt) PIO2 angle (not-lt→le PIO2 (absOf rflt) quarter-sized.3 (le_right nought (absOf rflt) (abs-not-below rflt n)) e) quarter-sized.2 }
+    go : (c : Bool) → lt PIO2 (abs_of rflt) ≡ c → Sized angle (cond c (PIO2 ⊗ sign_of (decimal 10 1) rflt) rflt)
+    go true e = unfold mul le in times_sized angle tt quarter_sized.0 (sign_sized (decimal 10 1) rflt quarter_sized.1)
+    go false e = record { size = trans_le (abs_of rflt) PIO2 angle (not-lt→le PIO2 (abs_of rflt) quarter_sized.3 (le_right nought (abs_of rflt) (abs_not_below rflt n)) e) quarter_sized.2 }
 
-meridian-sized : (tlat drf : Float) → Sized angle tlat → Sized angle drf → Sized angle (downMeridian tlat drf)
-unfolding downMeridian
-meridian-sized tlat drf h k = kept-sized (tlat ⊖ sign_of drf tlat) (unfold add le in sized-number (less-sized (fin false 1 (pos 6)) tt h (sign-sized drf tlat k)))
+meridian_sized : (tlat drf : Float) → Sized angle tlat → Sized angle drf → Sized angle (down_meridian tlat drf)
+unfolding down_meridian
+meridian_sized tlat drf h k = kept_sized (tlat ⊖ sign_of drf tlat) (unfold add le in sized_number (less_sized (fin false 1 (pos 6)) tt h (sign_sized drf tlat k)))
 
 module _ (t : Track) (k : Tracked t) (drf : Float) (s : Sized angle drf) where
-  circle-in : (sin cos : Float) → Sized two sin → Sized two cos → T (le hair t.tx.cos) → Longitude (circleLongitude t drf (cos32Of drf) sin cos)
-  unfolding circleLongitude
-  circle-in sin cos a b w = go (polar cos) refl
+  circle_in : (sin cos : Float) → Sized two sin → Sized two cos → T (le hair t.tx.cos) → Longitude (circle_longitude t drf (cos32_of drf) sin cos)
+  unfolding circle_longitude
+  circle_in sin cos a b w = go (polar cos) refl
     where
-      off : polar cos ≡ false → T (not (is_nan ((cos32Of drf ⊖ sin ⊗ t.tx.sin) ⊘ (cos ⊗ t.tx.cos))))
+      off : polar cos ≡ false → T (not (is_nan ((cos32_of drf ⊖ sin ⊗ t.tx.sin) ⊘ (cos ⊗ t.tx.cos))))
       off e =
-          let n : Sized sixteen (cos32Of drf ⊖ sin ⊗ t.tx.sin) = unfold add mul le in less-sized sixteen tt (sines drf s).1 (times-sized four tt a k.tx.sin) in
-          let d : Away (fin false 1 (negsuc 49)) (cos ⊗ t.tx.cos) = unfold mul le in mul-away binary32 cos t.tx.cos hair hair (abs-finite cos two tt b.size) (abs-finite t.tx.cos two tt k.tx.cos.size) tt tt (above-away hair cos (not-polar cos b e)) (above-away hair t.tx.cos w) in
-          quotient-number (cos32Of drf ⊖ sin ⊗ t.tx.sin) (cos ⊗ t.tx.cos) (fin false 1 (negsuc 49)) n tt d
+          let n : Sized sixteen (cos32_of drf ⊖ sin ⊗ t.tx.sin) = unfold add mul le in less_sized sixteen tt (sines drf s).1 (times_sized four tt a k.tx.sin) in
+          let d : Away (fin false 1 (negsuc 49)) (cos ⊗ t.tx.cos) = unfold mul le in mul_away binary32 cos t.tx.cos hair hair (abs_finite cos two tt b.size) (abs_finite t.tx.cos two tt k.tx.cos.size) tt tt (above_away hair cos (not_polar cos b e)) (above_away hair t.tx.cos w) in
+          quotient_number (cos32_of drf ⊖ sin ⊗ t.tx.sin) (cos ⊗ t.tx.cos) (fin false 1 (negsuc 49)) n tt d
 
-      go : (p : Bool) → polar cos ≡ p → Longitude (cond p t.tx.lon (onward t.tx.lon (le PI drf) t.dlong (acosClamped ((cos32Of drf ⊖ sin ⊗ t.tx.sin) ⊘ (cos ⊗ t.tx.cos)))))
+      go : (p : Bool) → polar cos ≡ p → Longitude (cond p t.tx.lon (onward t.tx.lon (le PI drf) t.dlong (acos_clamped ((cos32_of drf ⊖ sin ⊗ t.tx.sin) ⊘ (cos ⊗ t.tx.cos)))))
       go true e = k.tx.lon
-      go false e = onward-in t.tx.lon (le PI drf) t.dlong _ k.tx.lon (acos-in _ (off e))
+      go false e = onward_in t.tx.lon (le PI drf) t.dlong _ k.tx.lon (acos_in _ (off e))
 
-  on-circle-known : T (le hair t.tx.cos) → Known (onCircle t drf)
-  unfolding onCircle
-  on-circle-known w =
-      let q : Sized sixteen (cos32Of drf ⊗ t.tx.sin ⊕ sin32Of drf ⊗ t.tx.cos ⊗ t.btr_cos) = unfold add mul le in plus-sized sixteen tt (times-sized four tt (sines drf s).1 k.tx.sin) (times-sized eight tt (times-sized four tt (sines drf s).0 k.tx.cos) k.btr) in
-      let h = latitude-sized _ (sized-number q) in
+  on_circle_known : T (le hair t.tx.cos) → Known (on_circle t drf)
+  unfolding on_circle
+  on_circle_known w =
+      let q : Sized sixteen (cos32_of drf ⊗ t.tx.sin ⊕ sin32_of drf ⊗ t.tx.cos ⊗ t.btr_cos) = unfold add mul le in plus_sized sixteen tt (times_sized four tt (sines drf s).1 k.tx.sin) (times_sized eight tt (times_sized four tt (sines drf s).0 k.tx.cos) k.btr) in
+      let h = latitude_sized _ (sized_number q) in
       let l = sines _ h in
-      placed-known _ _ h (circle-in _ _ l.0 l.1 w)
+      placed_known _ _ h (circle_in _ _ l.0 l.1 w)
 
-  pub sample-known : Known (sampleOf t drf)
-  unfolding sampleOf
-  sample-known = go (lt (t.tx.cos ⊖ EPSLON) (decimal 0 1)) refl
+  pub sample_known : Known (sample_of t drf)
+  unfolding sample_of
+  sample_known = go (lt (t.tx.cos ⊖ EPSLON) (decimal 0 1)) refl
     where
-      go : (p : Bool) → lt (t.tx.cos ⊖ EPSLON) (decimal 0 1) ≡ p → Known (cond p (place_of (downMeridian t.tx.lat drf) t.rlong) (onCircle t drf))
-      go true e = placed-known (downMeridian t.tx.lat drf) t.rlong (meridian-sized t.tx.lat drf k.tx.lat s) k.rlong
-      go false e = on-circle-known (off-pole t.tx.cos k.tx.cos e)
+      go : (p : Bool) → lt (t.tx.cos ⊖ EPSLON) (decimal 0 1) ≡ p → Known (cond p (place_of (down_meridian t.tx.lat drf) t.rlong) (on_circle t drf))
+      go true e = placed_known (down_meridian t.tx.lat drf) t.rlong (meridian_sized t.tx.lat drf k.tx.lat s) k.rlong
+      go false e = on_circle_known (off_pole t.tx.cos k.tx.cos e)
 
 -- ---- the distances
 abbrev Each : List Float → Type 0
@@ -418,13 +418,13 @@ each_at [] h i k = absurd (not-suc-le-zero k)
 each_at (x ∷ xs) h zero k = h.0
 each_at (x ∷ xs) h (suc i) k = each_at xs h.1 i (le_of_suc-le-suc k)
 
-pub zero-sized : Sized angle (decimal 0 1)
-unfolding decimal round absOf negative le
-zero-sized = record { size = tt }
+pub zero_sized : Sized angle (decimal 0 1)
+unfolding decimal round abs_of negative le
+zero_sized = record { size = tt }
 
-R1-sized : Sized one R1 × Sized one (R1 ⊕ R1)
-unfolding R1 RZ decimal round absOf negative add div le
-R1-sized = (record { size = tt }, record { size = tt })
+R1_sized : Sized one R1 × Sized one (R1 ⊕ R1)
+unfolding R1 RZ decimal round abs_of negative add div le
+R1_sized = (record { size = tt }, record { size = tt })
 
 -- those of one point, of three and of five
 abbrev of_one : Float → List Float
@@ -433,72 +433,72 @@ of_one gcd = gcd ⊘ decimal 20 1 ∷ decimal 0 1 ∷ decimal 0 1 ∷ decimal 0 
 abbrev of_three : Float → List Float
 of_three gcd = R1 ∷ gcd ⊘ decimal 20 1 ∷ (gcd ⊖ R1) ∷ decimal 0 1 ∷ decimal 0 1 ∷ []
 
-abbrev of-five : Float → List Float
-of-five gcd = R1 ∷ (R1 ⊕ R1) ∷ gcd ⊘ decimal 20 1 ∷ (gcd ⊖ (R1 ⊕ R1)) ∷ (gcd ⊖ R1) ∷ []
+abbrev of_five : Float → List Float
+of_five gcd = R1 ∷ (R1 ⊕ R1) ∷ gcd ⊘ decimal 20 1 ∷ (gcd ⊖ (R1 ⊕ R1)) ∷ (gcd ⊖ R1) ∷ []
 
 module _ (gcd : Float) (b : Between (decimal 1 6) farther gcd) where
-  pub whole-sized : Sized eight gcd
+  pub whole_sized : Sized eight gcd
   unfolding PI2 decimal round neg add sub le
-  whole-sized = between-sized {lo = decimal 1 6} {hi = farther} eight tt b
+  whole_sized = between_sized {lo = decimal 1 6} {hi = farther} eight tt b
 
-  half-sized : Sized angle (gcd ⊘ decimal 20 1)
+  half_sized : Sized angle (gcd ⊘ decimal 20 1)
   unfolding PI2 decimal round neg add sub div le
-  half-sized = between-sized angle tt (div-in binary32 {a = decimal 1 6} {b = farther} nought eight tt b (exactly (decimal 20 1) tt))
+  half_sized = between_sized angle tt (div_in binary32 {a = decimal 1 6} {b = farther} nought eight tt b (exactly (decimal 20 1) tt))
 
   less_one : (x : Float) → Sized one x → Sized angle (gcd ⊖ x)
   unfolding add le
-  less_one x k = less-sized angle tt whole-sized k
+  less_one x k = less_sized angle tt whole_sized k
 
   more : (x : Float) → Sized one x → Sized angle x
   unfolding le
   more x k = larger angle tt k
 
-  pub distance-sized : (n i : ℕ) → i < 5 → Sized angle (get_or (distancesOf gcd n) i nan)
-  unfolding distancesOf
-  distance-sized n i h = go (eqb n 1) (eqb n 3)
+  pub distance_sized : (n i : ℕ) → i < 5 → Sized angle (get_or (distances_of gcd n) i nan)
+  unfolding distances_of
+  distance_sized n i h = go (eqb n 1) (eqb n 3)
     where
-      go : (a c : Bool) → Sized angle (get_or (cond a (of_one gcd) (cond c (of_three gcd) (of-five gcd))) i nan)
-      go true c = each_at (of_one gcd) (half-sized, (zero-sized, (zero-sized, (zero-sized, (zero-sized, tt))))) i h
-      go false true = each_at (of_three gcd) (more R1 R1-sized.0, (half-sized, (less_one R1 R1-sized.0, (zero-sized, (zero-sized, tt))))) i h
-      go false false = each_at (of-five gcd) (more R1 R1-sized.0, (more (R1 ⊕ R1) R1-sized.1, (half-sized, (less_one (R1 ⊕ R1) R1-sized.1, (less_one R1 R1-sized.0, tt))))) i h
+      go : (a c : Bool) → Sized angle (get_or (cond a (of_one gcd) (cond c (of_three gcd) (of_five gcd))) i nan)
+      go true c = each_at (of_one gcd) (half_sized, (zero_sized, (zero_sized, (zero_sized, (zero_sized, tt))))) i h
+      go false true = each_at (of_three gcd) (more R1 R1_sized.0, (half_sized, (less_one R1 R1_sized.0, (zero_sized, (zero_sized, tt))))) i h
+      go false false = each_at (of_five gcd) (more R1 R1_sized.0, (more (R1 ⊕ R1) R1_sized.1, (half_sized, (less_one (R1 ⊕ R1) R1_sized.1, (less_one R1 R1_sized.0, tt))))) i h
 
 -- ---- the rows
-row_in : (t : Track) (p : Place) (drf : Float) (present : Bool) (u : Use) → Tracked t → Sized angle drf → Longitude (controlPointIf t p drf present u).lon.0
-unfolding controlPointIf point_of absent
-row_in t p drf true u k s = (sample-known t k drf s).lon
-row_in t p drf false u k s = zero-longitude
+row_in : (t : Track) (p : Place) (drf : Float) (present : Bool) (u : Use) → Tracked t → Sized angle drf → Longitude (control_point_if t p drf present u).lon.0
+unfolding control_point_if point_of absent
+row_in t p drf true u k s = (sample_known t k drf s).lon
+row_in t p drf false u k s = zero_longitude
 
 rows_in : (t : Track) (p : Place) (gcd : Float) (n : ℕ) → Tracked t → Between (decimal 1 6) farther gcd → (i : ℕ) → i < 5 → Longitude (get_or (rows_of t p gcd n) i nowhere).lon.0
-unfolding rows_of controlRow
-rows_in t p gcd n k b zero h = row_in t p _ _ _ k (distance-sized gcd b n 0 h)
-rows_in t p gcd n k b (suc zero) h = row_in t p _ _ _ k (distance-sized gcd b n 1 h)
-rows_in t p gcd n k b (suc (suc zero)) h = row_in t p _ _ _ k (distance-sized gcd b n 2 h)
-rows_in t p gcd n k b (suc (suc (suc zero))) h = row_in t p _ _ _ k (distance-sized gcd b n 3 h)
-rows_in t p gcd n k b (suc (suc (suc (suc zero)))) h = row_in t p _ _ _ k (distance-sized gcd b n 4 h)
+unfolding rows_of control_row
+rows_in t p gcd n k b zero h = row_in t p _ _ _ k (distance_sized gcd b n 0 h)
+rows_in t p gcd n k b (suc zero) h = row_in t p _ _ _ k (distance_sized gcd b n 1 h)
+rows_in t p gcd n k b (suc (suc zero)) h = row_in t p _ _ _ k (distance_sized gcd b n 2 h)
+rows_in t p gcd n k b (suc (suc (suc zero))) h = row_in t p _ _ _ k (distance_sized gcd b n 3 h)
+rows_in t p gcd n k b (suc (suc (suc (suc zero)))) h = row_in t p _ _ _ k (distance_sized gcd b n 4 h)
 rows_in t p gcd n k b (suc (suc (suc (suc (suc i))))) h = absurd (omega arith)
 
 -- ---- a path whose ends are in range
 -- latitude and longitude as typed
 pub record Typed (lat lon : Degrees) : Type 0 where
-  pub latitude : Between (minusDecimal 900 1) (decimal 900 1) lat.0
-  pub longitude : Between (minusDecimal 1800 1) (decimal 1800 1) lon.0
+  pub latitude : Between (minus_decimal 900 1) (decimal 900 1) lat.0
+  pub longitude : Between (minus_decimal 1800 1) (decimal 1800 1) lon.0
 
 module _ (tlat tlong rlat rlong : Degrees) (a : Typed tlat tlong) (b : Typed rlat rlong) (long : Bool) (pole : MagneticPole) where
   pub transmitter : Known (end_of tlat tlong)
   unfolding decimal round le
-  transmitter = end_known tlat tlong (larger hundred tt (typed-latitude a.latitude)) a.longitude
+  transmitter = end_known tlat tlong (larger hundred tt (typed_latitude a.latitude)) a.longitude
 
-  pub receiver : Known (end_of (nudgedOf tlat tlong rlat rlong) rlong)
-  receiver = end_known (nudgedOf tlat tlong rlat rlong) rlong (nudged-latitude tlat tlong rlat rlong (typed-latitude a.latitude) (typed-latitude b.latitude)) b.longitude
+  pub receiver : Known (end_of (nudged_of tlat tlong rlat rlong) rlong)
+  receiver = end_known (nudged_of tlat tlong rlat rlong) rlong (nudged_latitude tlat tlong rlat rlong (typed_latitude a.latitude) (typed_latitude b.latitude)) b.longitude
 
-  pub tracked : Tracked (trackOf (end_of tlat tlong) (end_of (nudgedOf tlat tlong rlat rlong) rlong) long)
-  unfolding trackOf
-  tracked = record { tx = transmitter; rlong = receiver.lon; btr = btr-cos _ _ transmitter receiver long }
+  pub tracked : Tracked (track_of (end_of tlat tlong) (end_of (nudged_of tlat tlong rlat rlong) rlong) long)
+  unfolding track_of
+  tracked = record { tx = transmitter; rlong = receiver.lon; btr = btr_cos _ _ transmitter receiver long }
 
-  pub point-longitude : (i : ℕ) → i < 5 → Longitude (get_or (pathOf tlat tlong rlat rlong long pole).points i nowhere).lon.0
-  unfolding pathOf
-  point-longitude i h = rows_in _ _ _ _ tracked (gcd-in _ _ transmitter receiver long) i h
+  pub point_longitude : (i : ℕ) → i < 5 → Longitude (get_or (path_of tlat tlong rlat rlong long pole).points i nowhere).lon.0
+  unfolding path_of
+  point_longitude i h = rows_in _ _ _ _ tracked (gcd_in _ _ transmitter receiver long) i h
 
   -- so document 01's bound of the clock holds at every control point
-  pub point-clock : (gmt : Float) → Hour gmt → (i : ℕ) → i < 5 → OnClock (clockOf gmt (get_or (pathOf tlat tlong rlat rlong long pole).points i nowhere).lon)
-  point-clock gmt g i h = clock-range gmt _ g (point-longitude i h)
+  pub point_clock : (gmt : Float) → Hour gmt → (i : ℕ) → i < 5 → OnClock (clock_of gmt (get_or (path_of tlat tlong rlat rlong long pole).points i nowhere).lon)
+  point_clock gmt g i h = clock_range gmt _ g (point_longitude i h)

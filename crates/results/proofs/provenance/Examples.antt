@@ -10,13 +10,13 @@ use Rattle.base.specs.declared.refusal.Verdict.TheVariants.{Accepted, Refused}
 use Rattle.maps.specs.declared.figures.Shown.TheVariants.{Refused as NotShown}
 use Rattle.worksheet.specs.declared.inputs.Edit.TheVariants.{Sunspot, Hour}
 use Rattle.worksheet.specs.declared.desks.Worksheet.{Worksheet}
-use Rattle.worksheet.specs.Journal.{Call, begin, commit, cancel, change, takeBack, show, told, shown, Entry}
-use Rattle.worksheet.specs.InForce.{forceAfter, commitsInForce}
+use Rattle.worksheet.specs.Journal.{Call, begin, commit, cancel, change, take_back, show, told, shown, Entry}
+use Rattle.worksheet.specs.InForce.{force_after, commits_in_force}
 use Rattle.auditing.specs.declared.marks.Origin.TheVariants.{Opened, Set}
 use Rattle.auditing.specs.declared.marks.Fate.TheVariants.{Stands, TakenBack, Cancelled, Never}
 use Rattle.auditing.specs.declared.marks.Refused.TheVariants.{At, Never as NeverRefused}
-use Rattle.auditing.specs.Provenance.{standingIn, ownChanges, standingBy, last_of, origin_of, editsNamed, namedChanges}
-use Rattle.auditing.specs.Marks.{mark_of, marksOf, changeBefore, originBefore, settledFrom, fateFrom, refusedFrom, ownPlaces, kept_at, keptPlaces}
+use Rattle.auditing.specs.Provenance.{standing_in, own_changes, standing_by, last_of, origin_of, edits_named, named_changes}
+use Rattle.auditing.specs.Marks.{mark_of, marks_of, change_before, origin_before, settled_from, fate_from, refused_from, own_places, kept_at, kept_places}
 
 abbrev done : Call → Entry
 done c = record { call = c; answer = told Accepted }
@@ -36,7 +36,7 @@ module _ (w : Worksheet) (h i : Float) (s : Float) where
       ∷ done (change 3 (Hour i))
       ∷ record { call = show 3 []; answer = shown (NotShown Figures) [] }
       ∷ done (commit 3)
-      ∷ done takeBack
+      ∷ done take_back
       ∷ record { call = show 0 []; answer = shown (NotShown Figures) [] }
       ∷ done (begin 4)
       ∷ []
@@ -44,46 +44,46 @@ module _ (w : Worksheet) (h i : Float) (s : Float) where
   abbrev marks : List ℕ
   marks = 56 ∷ 88 ∷ 51 ∷ 82 ∷ 57 ∷ 73 ∷ 90 ∷ 120 ∷ 115 ∷ 108 ∷ 121 ∷ 27 ∷ 12 ∷ 152 ∷ []
 
-  the-marks : marksOf entries ≡ marks
-  unfolding marksOf mark_of
-  the-marks = refl
+  the_marks : marks_of entries ≡ marks
+  unfolding marks_of mark_of
+  the_marks = refl
 
-  hour-origin : origin_of 3 w entries ≡ Set 2 4
-  unfolding commitsInForce forceAfter standingBy ownChanges standingIn last_of
-  hour-origin = refl
+  hour_origin : origin_of 3 w entries ≡ Set 2 4
+  unfolding commits_in_force force_after standing_by own_changes standing_in last_of
+  hour_origin = refl
 
-  sunspot-origin : origin_of 2 w entries ≡ Opened
-  unfolding commitsInForce forceAfter standingBy ownChanges standingIn last_of
-  sunspot-origin = refl
+  sunspot_origin : origin_of 2 w entries ≡ Opened
+  unfolding commits_in_force force_after standing_by own_changes standing_in last_of
+  sunspot_origin = refl
 
-  changes-named : namedChanges w entries ≡ Hour h ∷ []
-  unfolding namedChanges editsNamed commitsInForce forceAfter standingBy ownChanges standingIn last_of
-  changes-named = refl
+  changes_named : named_changes w entries ≡ Hour h ∷ []
+  unfolding named_changes edits_named commits_in_force force_after standing_by own_changes standing_in last_of
+  changes_named = refl
 
-  by-marks : (originBefore marks 3 false 14 ≡ Set 2 4) × (originBefore marks 2 false 14 ≡ Opened)
-  unfolding originBefore changeBefore
-  by-marks = (refl, refl)
+  by_marks : (origin_before marks 3 false 14 ≡ Set 2 4) × (origin_before marks 2 false 14 ≡ Opened)
+  unfolding origin_before change_before
+  by_marks = (refl, refl)
 
-  first-fate : fateFrom marks 1 1 13 ≡ Stands 4
-  unfolding fateFrom settledFrom
-  first-fate = refl
+  first_fate : fate_from marks 1 1 13 ≡ Stands 4
+  unfolding fate_from settled_from
+  first_fate = refl
 
-  second-fate : fateFrom marks 2 2 12 ≡ Cancelled 6
-  unfolding fateFrom settledFrom
-  second-fate = refl
+  second_fate : fate_from marks 2 2 12 ≡ Cancelled 6
+  unfolding fate_from settled_from
+  second_fate = refl
 
-  third-fate : fateFrom marks 3 8 6 ≡ TakenBack 10 11
-  unfolding fateFrom settledFrom
-  third-fate = refl
+  third_fate : fate_from marks 3 8 6 ≡ TakenBack 10 11
+  unfolding fate_from settled_from
+  third_fate = refl
 
-  fourth-fate : fateFrom marks 4 14 0 ≡ Never
-  unfolding fateFrom settledFrom
-  fourth-fate = refl
+  fourth_fate : fate_from marks 4 14 0 ≡ Never
+  unfolding fate_from settled_from
+  fourth_fate = refl
 
-  second-refused : refusedFrom marks 2 NeverRefused 2 12 ≡ At 5
-  unfolding refusedFrom
-  second-refused = refl
+  second_refused : refused_from marks 2 NeverRefused 2 12 ≡ At 5
+  unfolding refused_from
+  second_refused = refl
 
-  kept : keptPlaces marks 14 ≡ 0 ∷ 2 ∷ 4 ∷ 7 ∷ 8 ∷ 9 ∷ 10 ∷ 11 ∷ 12 ∷ []
-  unfolding keptPlaces kept_at ownPlaces
+  kept : kept_places marks 14 ≡ 0 ∷ 2 ∷ 4 ∷ 7 ∷ 8 ∷ 9 ∷ 10 ∷ 11 ∷ 12 ∷ []
+  unfolding kept_places kept_at own_places
   kept = refl

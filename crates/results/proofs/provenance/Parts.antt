@@ -11,38 +11,38 @@ use Rattle.worksheet.specs.declared.inputs.Edit.{Edit}
 use Rattle.worksheet.specs.declared.inputs.Edit.TheVariants.{Sunspot, Hour, Path, Psc, Pole, Month, Model}
 use Rattle.worksheet.specs.Inputs.{edited}
 use Rattle.worksheet.specs.InForce.{changed}
-use Rattle.auditing.specs.Provenance.{editPart, StandingChange, last_of, editsNamed}
+use Rattle.auditing.specs.Provenance.{edit_part, StandingChange, last_of, edits_named}
 
 -- ---- the last change of a part, over changes alone
 
-lastEdit : ℕ → List Edit → List Edit → List Edit
-lastEdit part o [] = o
-lastEdit part o (e ∷ l) = lastEdit part (cond (eqb (editPart e) part) (e ∷ []) o) l
+last_edit : ℕ → List Edit → List Edit → List Edit
+last_edit part o [] = o
+last_edit part o (e ∷ l) = last_edit part (cond (eqb (edit_part e) part) (e ∷ []) o) l
 
-last-edit : (part : ℕ) (o l : List StandingChange) → editsNamed (last_of part o l) ≡ lastEdit part (editsNamed o) (editsNamed l)
-unfolding last_of lastEdit editsNamed
-last-edit part o [] = refl
-last-edit part o (x ∷ l) =
-    last-edit part (cond (eqb (editPart x.edit) part) (x ∷ []) o) l
-    ∙ ap (λ (z : List Edit). lastEdit part z (editsNamed l)) (either (eqb (editPart x.edit) part))
+last_edit_law : (part : ℕ) (o l : List StandingChange) → edits_named (last_of part o l) ≡ last_edit part (edits_named o) (edits_named l)
+unfolding last_of last_edit edits_named
+last_edit_law part o [] = refl
+last_edit_law part o (x ∷ l) =
+    last_edit_law part (cond (eqb (edit_part x.edit) part) (x ∷ []) o) l
+    ∙ ap (λ (z : List Edit). last_edit part z (edits_named l)) (either (eqb (edit_part x.edit) part))
   where
-    either : (b : Bool) → editsNamed (cond b (x ∷ []) o) ≡ cond b (x.edit ∷ []) (editsNamed o)
+    either : (b : Bool) → edits_named (cond b (x ∷ []) o) ≡ cond b (x.edit ∷ []) (edits_named o)
     either true = refl
     either false = refl
 
 -- one change of this part, or none
 abbrev Of : ℕ → List Edit → Type 0
 Of part [] = Unit
-Of part (e ∷ []) = editPart e ≡ part
+Of part (e ∷ []) = edit_part e ≡ part
 Of part (e ∷ f ∷ l) = ⊥
 
-last-of : (part : ℕ) (o l : List Edit) → Of part o → Of part (lastEdit part o l)
-unfolding lastEdit
-last-of part o [] h = h
-last-of part o (e ∷ l) h = last-of part (cond (eqb (editPart e) part) (e ∷ []) o) l (either (eqb (editPart e) part) refl)
+last_of_law : (part : ℕ) (o l : List Edit) → Of part o → Of part (last_edit part o l)
+unfolding last_edit
+last_of_law part o [] h = h
+last_of_law part o (e ∷ l) h = last_of_law part (cond (eqb (edit_part e) part) (e ∷ []) o) l (either (eqb (edit_part e) part) refl)
   where
-    either : (b : Bool) → eqb (editPart e) part ≡ b → Of part (cond b (e ∷ []) o)
-    either true q = eqb-true (editPart e) part q
+    either : (b : Bool) → eqb (edit_part e) part ≡ b → Of part (cond b (e ∷ []) o)
+    either true q = eqb-true (edit_part e) part q
     either false q = h
 
 -- ---- parts
@@ -63,15 +63,15 @@ mixed p i j = record {
 abbrev put : ℕ → Inputs → Inputs → Inputs
 put part i j = mixed (eqb part) i j
 
-pub edited-part : (e : Edit) (i j : Inputs) → edited e j ≡ put (editPart e) (edited e i) j
+pub edited_part : (e : Edit) (i j : Inputs) → edited e j ≡ put (edit_part e) (edited e i) j
 unfolding edited
-edited-part (Sunspot x) i j = refl
-edited-part (Hour x) i j = refl
-edited-part (Path p) i j = refl
-edited-part (Psc p) i j = refl
-edited-part (Pole p) i j = refl
-edited-part (Month m) i j = refl
-edited-part (Model m) i j = refl
+edited_part (Sunspot x) i j = refl
+edited_part (Hour x) i j = refl
+edited_part (Path p) i j = refl
+edited_part (Psc p) i j = refl
+edited_part (Pole p) i j = refl
+edited_part (Month m) i j = refl
+edited_part (Model m) i j = refl
 
 module _ (i : Inputs) where
   -- the inputs i, each part with its own changes
@@ -87,34 +87,34 @@ module _ (i : Inputs) where
   }
 
   -- one change more
-  part-more : (e : Edit) (o : ℕ → List Edit) → edited e (parts o) ≡ parts (λ part. cond (eqb (editPart e) part) (e ∷ []) (o part))
+  part_more : (e : Edit) (o : ℕ → List Edit) → edited e (parts o) ≡ parts (λ part. cond (eqb (edit_part e) part) (e ∷ []) (o part))
   unfolding edited changed
-  part-more (Sunspot x) o = refl
-  part-more (Hour x) o = refl
-  part-more (Path p) o = refl
-  part-more (Psc p) o = refl
-  part-more (Pole p) o = refl
-  part-more (Month m) o = refl
-  part-more (Model m) o = refl
+  part_more (Sunspot x) o = refl
+  part_more (Hour x) o = refl
+  part_more (Path p) o = refl
+  part_more (Psc p) o = refl
+  part_more (Pole p) o = refl
+  part_more (Month m) o = refl
+  part_more (Model m) o = refl
 
-  all-parts : (l : List Edit) (o : ℕ → List Edit) → changed (parts o) l ≡ parts (λ part. lastEdit part (o part) l)
-  unfolding changed lastEdit
-  all-parts [] o = refl
-  all-parts (e ∷ l) o =
-      ap (λ (j : Inputs). changed j l) (part-more e o) ∙ all-parts l (λ part. cond (eqb (editPart e) part) (e ∷ []) (o part))
+  all_parts : (l : List Edit) (o : ℕ → List Edit) → changed (parts o) l ≡ parts (λ part. last_edit part (o part) l)
+  unfolding changed last_edit
+  all_parts [] o = refl
+  all_parts (e ∷ l) o =
+      ap (λ (j : Inputs). changed j l) (part_more e o) ∙ all_parts l (λ part. cond (eqb (edit_part e) part) (e ∷ []) (o part))
 
   -- the changes of one part, on inputs that have i's there
-  one-part : (part : ℕ) (o : List Edit) (j : Inputs) → Of part o → j ≡ put part i j → changed j o ≡ put part (changed i o) j
+  one_part : (part : ℕ) (o : List Edit) (j : Inputs) → Of part o → j ≡ put part i j → changed j o ≡ put part (changed i o) j
   unfolding changed
-  one-part part [] j h same = same
-  one-part part (e ∷ []) j h same = edited-part e i j ∙ ap (λ (p : ℕ). put p (edited e i) j) h
-  one-part part (e ∷ f ∷ l) j h same = absurd h
+  one_part part [] j h same = same
+  one_part part (e ∷ []) j h same = edited_part e i j ∙ ap (λ (p : ℕ). put p (edited e i) j) h
+  one_part part (e ∷ f ∷ l) j h same = absurd h
 
   first_part : (part : ℕ) (o rest : List Edit) (j : Inputs) → Of part o → j ≡ put part i j
       → changed j (o ++ rest) ≡ changed (put part (changed i o) j) rest
   unfolding changed
   first_part part [] rest j h same = ap (λ (k : Inputs). changed k rest) same
-  first_part part (e ∷ []) rest j h same = ap (λ (k : Inputs). changed k rest) (one-part part (e ∷ []) j h same)
+  first_part part (e ∷ []) rest j h same = ap (λ (k : Inputs). changed k rest) (one_part part (e ∷ []) j h same)
   first_part part (e ∷ f ∷ l) rest j h same = absurd h
 
   -- the changes of all parts, one part after the other
@@ -133,16 +133,16 @@ module _ (i : Inputs) where
       ∙ first_part 4 (o 4) _ four (h 4) refl
       ∙ first_part 5 (o 5) _ five (h 5) refl
       ∙ first_part 6 (o 6) (o 7) six (h 6) refl
-      ∙ one-part 7 (o 7) (with 6 six) (h 7) refl
+      ∙ one_part 7 (o 7) (with 6 six) (h 7) refl
 
   -- THE LAST CHANGES make what all changes make
-  pub last-make : (l : List StandingChange) → let named : ℕ → List Edit = λ part. editsNamed (last_of part [] l) in
-      changed i (editsNamed l) ≡ changed i (named 1 ++ (named 2 ++ (named 3 ++ (named 4 ++ (named 5 ++ (named 6 ++ named 7))))))
-  unfolding changed editsNamed
-  last-make l =
-      let named : ℕ → List Edit = λ part. editsNamed (last_of part [] l) in
-      let o : ℕ → List Edit = λ part. lastEdit part [] (editsNamed l) in
-      let same : (part : ℕ) → o part ≡ named part = λ part. sym (last-edit part [] l) in
-      all-parts (editsNamed l) (λ part. [])
-      ∙ sym (in_a_row o (λ part. last-of part [] (editsNamed l) tt))
+  pub last_make : (l : List StandingChange) → let named : ℕ → List Edit = λ part. edits_named (last_of part [] l) in
+      changed i (edits_named l) ≡ changed i (named 1 ++ (named 2 ++ (named 3 ++ (named 4 ++ (named 5 ++ (named 6 ++ named 7))))))
+  unfolding changed edits_named
+  last_make l =
+      let named : ℕ → List Edit = λ part. edits_named (last_of part [] l) in
+      let o : ℕ → List Edit = λ part. last_edit part [] (edits_named l) in
+      let same : (part : ℕ) → o part ≡ named part = λ part. sym (last_edit_law part [] l) in
+      all_parts (edits_named l) (λ part. [])
+      ∙ sym (in_a_row o (λ part. last_of_law part [] (edits_named l) tt))
       ∙ (λ t. changed i (same 1 t ++ (same 2 t ++ (same 3 t ++ (same 4 t ++ (same 5 t ++ (same 6 t ++ same 7 t)))))))

@@ -12,152 +12,152 @@ use Rattle.worksheet.specs.declared.desks.Draft.{Draft}
 use Rattle.worksheet.specs.declared.desks.Draft.TheVariants.{Closed, Fresh, Stale}
 use Rattle.worksheet.specs.declared.desks.Earlier.{Earlier}
 use Rattle.worksheet.specs.declared.desks.Worksheet.{Worksheet}
-use Rattle.worksheet.specs.Desks.{draftAt, withDraft, staleOf, movedTo, editedDraft}
+use Rattle.worksheet.specs.Desks.{draft_at, with_draft, stale_of, moved_to, edited_draft}
 use Rattle.worksheet.specs.Showing.{Source}
-use Rattle.worksheet.specs.Journal.{Call, begin, commit, cancel, change, takeBack, show, roleOf, Entry, accepted, Step, step, entry_of, run, begins, none}
-use Rattle.worksheet.proofs.drafts.Drafts.{with-other}
-use Rattle.worksheet.proofs.drafts.Effects.{desk-put, Accepts, refused-unmoved, begun, begin-leaves, was-changed, change-leaves, committed, commit-leaves, cancel-leaves, taken_back, takeBack-leaves}
-use Rattle.auditing.specs.Provenance.{isEnding, endsDraft}
+use Rattle.worksheet.specs.Journal.{Call, begin, commit, cancel, change, take_back, show, role_of, Entry, accepted, Step, step, entry_of, run, begins, none}
+use Rattle.worksheet.proofs.drafts.Drafts.{with_other}
+use Rattle.worksheet.proofs.drafts.Effects.{desk_put, Accepts, refused_unmoved, begun, begin_leaves, was_changed, change_leaves, committed, commit_leaves, cancel_leaves, taken_back, take_back_leaves}
+use Rattle.auditing.specs.Provenance.{is_ending, ends_draft}
 use Rattle.results.proofs.lists.Kept.{none_first}
-use Rattle.results.proofs.provenance.Named.{begun-by}
+use Rattle.results.proofs.provenance.Named.{begun_by}
 
 -- ---- open drafts
 
-abbrev isOpen : Draft → Bool
-isOpen Closed = false
-isOpen (Fresh x) = true
-isOpen (Stale x) = true
+abbrev is_open : Draft → Bool
+is_open Closed = false
+is_open (Fresh x) = true
+is_open (Stale x) = true
 
-turned-open : (d : Draft) → isOpen (staleOf d) ≡ isOpen d
-unfolding staleOf
-turned-open Closed = refl
-turned-open (Fresh x) = refl
-turned-open (Stale x) = refl
+turned_open : (d : Draft) → is_open (stale_of d) ≡ is_open d
+unfolding stale_of
+turned_open Closed = refl
+turned_open (Fresh x) = refl
+turned_open (Stale x) = refl
 
-edited-open : (e : Edit) (d : Draft) → isOpen (editedDraft e d) ≡ isOpen d
-unfolding editedDraft
-edited-open e Closed = refl
-edited-open e (Fresh x) = refl
-edited-open e (Stale x) = refl
+edited_open : (e : Edit) (d : Draft) → is_open (edited_draft e d) ≡ is_open d
+unfolding edited_draft
+edited_open e Closed = refl
+edited_open e (Fresh x) = refl
+edited_open e (Stale x) = refl
 
-moved_open : (n : ℕ) (i : Inputs) (e : Earlier) (w : Worksheet) → isOpen (draftAt n (movedTo i e w)) ≡ isOpen (draftAt n w)
-unfolding draftAt movedTo
+moved_open : (n : ℕ) (i : Inputs) (e : Earlier) (w : Worksheet) → is_open (draft_at n (moved_to i e w)) ≡ is_open (draft_at n w)
+unfolding draft_at moved_to
 moved_open n i e w = go (eqb n 1) (eqb n 2) (eqb n 3) (eqb n 4)
   where
     go : (a b c d : Bool)
-        → isOpen (cond a (staleOf w.d1) (cond b (staleOf w.d2) (cond c (staleOf w.d3) (cond d (staleOf w.d4) Closed))))
-        ≡ isOpen (cond a w.d1 (cond b w.d2 (cond c w.d3 (cond d w.d4 Closed))))
-    go true b c d = turned-open w.d1
-    go false true c d = turned-open w.d2
-    go false false true d = turned-open w.d3
-    go false false false true = turned-open w.d4
+        → is_open (cond a (stale_of w.d1) (cond b (stale_of w.d2) (cond c (stale_of w.d3) (cond d (stale_of w.d4) Closed))))
+        ≡ is_open (cond a w.d1 (cond b w.d2 (cond c w.d3 (cond d w.d4 Closed))))
+    go true b c d = turned_open w.d1
+    go false true c d = turned_open w.d2
+    go false false true d = turned_open w.d3
+    go false false false true = turned_open w.d4
     go false false false false = refl
 
 -- ---- one call
 
 module _ (source : Source) (n : ℕ) where
   abbrev Open : Worksheet → Type 0
-  Open w = isOpen (draftAt n w) ≡ true
+  Open w = is_open (draft_at n w) ≡ true
 
   -- an accepted begin opens the desk's draft, and found none
-  begin-opens : (w : Worksheet) → Accepts source (begin n) w → Open (step source (begin n) w).sheet
-  begin-opens w a =
+  begin_opens : (w : Worksheet) → Accepts source (begin n) w → Open (step source (begin n) w).sheet
+  begin_opens w a =
       let b = begun source n w a in
-      ap (λ (s : Step). isOpen (draftAt n s.sheet)) (begin-leaves source n w b)
-      ∙ ap isOpen (desk-put n (Fresh w.inputs) w b.desk)
+      ap (λ (s : Step). is_open (draft_at n s.sheet)) (begin_leaves source n w b)
+      ∙ ap is_open (desk_put n (Fresh w.inputs) w b.desk)
 
-  begin-refused : (w : Worksheet) → Open w → Accepts source (begin n) w → ⊥
-  begin-refused w o a = false≢true (sym (ap isOpen (begun source n w a).closed) ∙ o)
+  begin_refused : (w : Worksheet) → Open w → Accepts source (begin n) w → ⊥
+  begin_refused w o a = false≢true (sym (ap is_open (begun source n w a).closed) ∙ o)
 
   -- where another desk's draft became d
-  other-desk : (m : ℕ) (d : Draft) (w : Worksheet) (s : Step) → s.sheet ≡ withDraft m d w → eqb m n ≡ false → Open w → Open s.sheet
-  other-desk m d w s h e o = ap (λ (v : Worksheet). isOpen (draftAt n v)) h ∙ ap isOpen (with-other m n d e w) ∙ o
+  other_desk : (m : ℕ) (d : Draft) (w : Worksheet) (s : Step) → s.sheet ≡ with_draft m d w → eqb m n ≡ false → Open w → Open s.sheet
+  other_desk m d w s h e o = ap (λ (v : Worksheet). is_open (draft_at n v)) h ∙ ap is_open (with_other m n d e w) ∙ o
 
   module _ (w : Worksheet) (o : Open w) where
     abbrev Stays : Call → Type 0
     Stays c = Open (step source c w).sheet
 
-    begin-stays : (m : ℕ) → Accepts source (begin m) w → (t : Bool) → eqb m n ≡ t → Stays (begin m)
-    begin-stays m a true e =
-        absurd (begin-refused w o (subst (λ (k : ℕ). Accepts source (begin k) w) (eqb-true m n e) a))
-    begin-stays m a false e =
-        let is = begin-leaves source m w (begun source m w a) in
-        other-desk m (Fresh w.inputs) w (step source (begin m) w) (ap (λ (s : Step). s.sheet) is) e o
+    begin_stays : (m : ℕ) → Accepts source (begin m) w → (t : Bool) → eqb m n ≡ t → Stays (begin m)
+    begin_stays m a true e =
+        absurd (begin_refused w o (subst (λ (k : ℕ). Accepts source (begin k) w) (eqb-true m n e) a))
+    begin_stays m a false e =
+        let is = begin_leaves source m w (begun source m w a) in
+        other_desk m (Fresh w.inputs) w (step source (begin m) w) (ap (λ (s : Step). s.sheet) is) e o
 
-    change-stays : (m : ℕ) (f : Edit) → Accepts source (change m f) w → (t : Bool) → eqb m n ≡ t → Stays (change m f)
-    change-stays m f a true e =
-        let b = was-changed source m f w a in
-        let d = editedDraft f (draftAt m w) in
+    change_stays : (m : ℕ) (f : Edit) → Accepts source (change m f) w → (t : Bool) → eqb m n ≡ t → Stays (change m f)
+    change_stays m f a true e =
+        let b = was_changed source m f w a in
+        let d = edited_draft f (draft_at m w) in
         let same = eqb-true m n e in
-        ap (λ (k : ℕ). isOpen (draftAt k (step source (change m f) w).sheet)) (sym same)
-        ∙ ap (λ (s : Step). isOpen (draftAt m s.sheet)) (change-leaves source m f w b)
-        ∙ ap isOpen (desk-put m d w b.desk)
-        ∙ edited-open f (draftAt m w)
-        ∙ ap (λ (k : ℕ). isOpen (draftAt k w)) same
+        ap (λ (k : ℕ). is_open (draft_at k (step source (change m f) w).sheet)) (sym same)
+        ∙ ap (λ (s : Step). is_open (draft_at m s.sheet)) (change_leaves source m f w b)
+        ∙ ap is_open (desk_put m d w b.desk)
+        ∙ edited_open f (draft_at m w)
+        ∙ ap (λ (k : ℕ). is_open (draft_at k w)) same
         ∙ o
-    change-stays m f a false e =
-        let is = change-leaves source m f w (was-changed source m f w a) in
-        other-desk m (editedDraft f (draftAt m w)) w (step source (change m f) w) (ap (λ (s : Step). s.sheet) is) e o
+    change_stays m f a false e =
+        let is = change_leaves source m f w (was_changed source m f w a) in
+        other_desk m (edited_draft f (draft_at m w)) w (step source (change m f) w) (ap (λ (s : Step). s.sheet) is) e o
 
-    accepted-stays : (c : Call) → Accepts source c w → isEnding n (roleOf c) true ≡ false → Stays c
+    accepted_stays : (c : Call) → Accepts source c w → is_ending n (role_of c) true ≡ false → Stays c
     unfolding step
-    accepted-stays (begin m) a h = begin-stays m a (eqb m n) refl
-    accepted-stays (change m f) a h = change-stays m f a (eqb m n) refl
-    accepted-stays (commit m) a h =
+    accepted_stays (begin m) a h = begin_stays m a (eqb m n) refl
+    accepted_stays (change m f) a h = change_stays m f a (eqb m n) refl
+    accepted_stays (commit m) a h =
         let b = committed source m w a in
-        let is = commit-leaves source m w b.draft b.desk b.fresh in
-        other-desk m Closed (movedTo b.draft _ w) (step source (commit m) w) (ap (λ (s : Step). s.sheet) is) (sym (and-true (eqb m n)) ∙ h)
+        let is = commit_leaves source m w b.draft b.desk b.fresh in
+        other_desk m Closed (moved_to b.draft _ w) (step source (commit m) w) (ap (λ (s : Step). s.sheet) is) (sym (and-true (eqb m n)) ∙ h)
         (moved_open n b.draft _ w ∙ o)
-    accepted-stays (cancel m) a h =
-        other-desk m Closed w (step source (cancel m) w) (ap (λ (s : Step). s.sheet) (cancel-leaves source m w a)) (sym (and-true (eqb m n)) ∙ h) o
-    accepted-stays takeBack a h =
+    accepted_stays (cancel m) a h =
+        other_desk m Closed w (step source (cancel m) w) (ap (λ (s : Step). s.sheet) (cancel_leaves source m w a)) (sym (and-true (eqb m n)) ∙ h) o
+    accepted_stays take_back a h =
         let b = taken_back source w a in
-        ap (λ (s : Step). isOpen (draftAt n s.sheet)) (takeBack-leaves source w b.0 b.1)
+        ap (λ (s : Step). is_open (draft_at n s.sheet)) (take_back_leaves source w b.0 b.1)
         ∙ moved_open n b.0 _ w
         ∙ o
-    accepted-stays (show m lent) a h = o
+    accepted_stays (show m lent) a h = o
 
-    stays_open : (c : Call) → endsDraft n (entry_of source c w) ≡ false → Open (step source c w).sheet
+    stays_open : (c : Call) → ends_draft n (entry_of source c w) ≡ false → Open (step source c w).sheet
     stays_open c h = go (accepted (step source c w).answer) refl
       where
         go : (b : Bool) → accepted (step source c w).answer ≡ b → Open (step source c w).sheet
-        go true a = accepted-stays c a (ap (isEnding n (roleOf c)) (sym a) ∙ h)
-        go false a = ap (λ (v : Worksheet). isOpen (draftAt n v)) (refused-unmoved source c w a) ∙ o
+        go true a = accepted_stays c a (ap (is_ending n (role_of c)) (sym a) ∙ h)
+        go false a = ap (λ (v : Worksheet). is_open (draft_at n v)) (refused_unmoved source c w a) ∙ o
 
-    begins-none : (c : Call) → begins n (entry_of source c w) ≡ false
-    begins-none c = go (begins n (entry_of source c w)) refl
+    begins_none : (c : Call) → begins n (entry_of source c w) ≡ false
+    begins_none c = go (begins n (entry_of source c w)) refl
       where
         go : (b : Bool) → begins n (entry_of source c w) ≡ b → b ≡ false
         go true p =
-            let s = begun-by n c (accepted (step source c w).answer) p in
-            absurd (begin-refused w o (subst (λ (k : Call). Accepts source k w) s.0 s.1))
+            let s = begun_by n c (accepted (step source c w).answer) p in
+            absurd (begin_refused w o (subst (λ (k : Call). Accepts source k w) s.0 s.1))
         go false p = refl
 
   -- ---- a run
 
-  open-since : (cs : List Call) (w : Worksheet) (between rest : List Entry) → (run source cs w).entries ≡ between ++ rest → Open w
-      → none (endsDraft n) between ≡ true → none (begins n) between ≡ true
+  open_since : (cs : List Call) (w : Worksheet) (between rest : List Entry) → (run source cs w).entries ≡ between ++ rest → Open w
+      → none (ends_draft n) between ≡ true → none (begins n) between ≡ true
   unfolding run none
-  open-since cs w [] rest h o q = refl
-  open-since [] w (y ∷ between) rest h o q = absurd (nil≢cons h)
-  open-since (c ∷ cs) w (y ∷ between) rest h o q =
+  open_since cs w [] rest h o q = refl
+  open_since [] w (y ∷ between) rest h o q = absurd (nil≢cons h)
+  open_since (c ∷ cs) w (y ∷ between) rest h o q =
       let is = head-eq_of_cons-eq h in
-      let f = none_first (endsDraft n) y between q in
-      let next = stays_open w o c (ap (endsDraft n) is ∙ f.0) in
-      ap (λ (z : Bool). not z && none (begins n) between) (sym (ap (begins n) is) ∙ begins-none w o c)
-      ∙ open-since cs (step source c w).sheet between rest (tail-eq_of_cons-eq h) next f.1
+      let f = none_first (ends_draft n) y between q in
+      let next = stays_open w o c (ap (ends_draft n) is ∙ f.0) in
+      ap (λ (z : Bool). not z && none (begins n) between) (sym (ap (begins n) is) ∙ begins_none w o c)
+      ∙ open_since cs (step source c w).sheet between rest (tail-eq_of_cons-eq h) next f.1
 
   -- A DESK BEGINS NO OTHER DRAFT while one is open
-  pub begun-once : (cs : List Call) (w : Worksheet) (front between rest : List Entry) (b : Entry)
+  pub begun_once : (cs : List Call) (w : Worksheet) (front between rest : List Entry) (b : Entry)
       → (run source cs w).entries ≡ front ++ (b ∷ (between ++ rest)) → begins n b ≡ true
-      → none (endsDraft n) between ≡ true → none (begins n) between ≡ true
+      → none (ends_draft n) between ≡ true → none (begins n) between ≡ true
   unfolding run
-  begun-once [] w [] between rest b h g q = absurd (nil≢cons h)
-  begun-once [] w (z ∷ front) between rest b h g q = absurd (nil≢cons h)
-  begun-once (c ∷ cs) w [] between rest b h g q =
-      let s = begun-by n c (accepted (step source c w).answer) (ap (begins n) (head-eq_of_cons-eq h) ∙ g) in
+  begun_once [] w [] between rest b h g q = absurd (nil≢cons h)
+  begun_once [] w (z ∷ front) between rest b h g q = absurd (nil≢cons h)
+  begun_once (c ∷ cs) w [] between rest b h g q =
+      let s = begun_by n c (accepted (step source c w).answer) (ap (begins n) (head-eq_of_cons-eq h) ∙ g) in
       let a : Accepts source (begin n) w = subst (λ (k : Call). Accepts source k w) s.0 s.1 in
-      let o : Open (step source c w).sheet = subst (λ (k : Call). Open (step source k w).sheet) (sym s.0) (begin-opens w a) in
-      open-since cs (step source c w).sheet between rest (tail-eq_of_cons-eq h) o q
-  begun-once (c ∷ cs) w (z ∷ front) between rest b h g q =
-      begun-once cs (step source c w).sheet front between rest b (tail-eq_of_cons-eq h) g q
+      let o : Open (step source c w).sheet = subst (λ (k : Call). Open (step source k w).sheet) (sym s.0) (begin_opens w a) in
+      open_since cs (step source c w).sheet between rest (tail-eq_of_cons-eq h) o q
+  begun_once (c ∷ cs) w (z ∷ front) between rest b h g q =
+      begun_once cs (step source c w).sheet front between rest b (tail-eq_of_cons-eq h) g q

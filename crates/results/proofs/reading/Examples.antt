@@ -9,28 +9,28 @@ use Rattle.wording.specs.declared.line.Line.TheVariants.{Call}
 use Rattle.wording.specs.declared.written.WrittenEdit.TheVariants.{Sunspot}
 use Rattle.wording.specs.declared.written.WrittenCall.{WrittenCall}
 use Rattle.wording.specs.declared.written.WrittenCall.TheVariants.{Change, Show}
-use Rattle.wording.specs.Number.{allDigits, valueFrom, beforePoint, afterPoint, isUnsigned, unsignedIn, number_in}
-use Rattle.wording.specs.Token.{ascii, same, uncommented, wordsFrom, nameFrom, tokenOf, slots_of, firstTokens, tokensOf, tokenAt}
-use Rattle.wording.specs.Line.{numberFit, endFit, decimalAt, changeLine, deedLine, word_line, numberLine, lineIn}
-use Rattle.listing.specs.Text.{digitOf, hasDigit, digitAt, digitsBelow}
-use Rattle.listing.specs.Decimal.{minusOf}
-use Rattle.listing.specs.Written.{placesText, fractionText, digitsText, numberText, editText, deedText, callText}
+use Rattle.wording.specs.Number.{all_digits, value_from, before_point, after_point, is_unsigned, unsigned_in, number_in}
+use Rattle.wording.specs.Token.{ascii, same, uncommented, words_from, name_from, token_of, slots_of, first_tokens, tokens_of, token_at}
+use Rattle.wording.specs.Line.{number_fit, end_fit, decimal_at, change_line, deed_line, word_line, number_line, line_in}
+use Rattle.listing.specs.Text.{digit_of, has_digit, digit_at, digits_below}
+use Rattle.listing.specs.Decimal.{minus_of}
+use Rattle.listing.specs.Written.{places_text, fraction_text, digits_text, number_text, edit_text, deed_text, call_text}
 
 -- a line, its call, and the line that is written
 record Rewrites (before : String) (c : WrittenCall) (after : String) : Type 0 where
-  reads : lineIn (ascii before) ≡ Call c
-  writes : callText c ≡ ascii after
-  reads-again : lineIn (ascii after) ≡ Call c
+  reads : line_in (ascii before) ≡ Call c
+  writes : call_text c ≡ ascii after
+  reads_again : line_in (ascii after) ≡ Call c
 
 abbrev number : Decimal
 number = record { negative = false; digits = 9250; places = 2 }
 
 -- a sign, zeros in front, blanks and a comment go; zeros behind stay
 tidied : Rewrites " +01\tsunspot  092.50 # by telephone" (Change 1 (Sunspot number)) "1 sunspot 92.50"
-unfolding allDigits valueFrom beforePoint afterPoint isUnsigned unsignedIn number_in same uncommented wordsFrom nameFrom tokenOf slots_of firstTokens tokensOf tokenAt numberFit endFit decimalAt changeLine deedLine numberLine lineIn digitOf hasDigit digitAt digitsBelow minusOf placesText fractionText digitsText numberText editText deedText callText
-tidied = record { reads = refl; writes = refl; reads-again = refl }
+unfolding all_digits value_from before_point after_point is_unsigned unsigned_in number_in same uncommented words_from name_from token_of slots_of first_tokens tokens_of token_at number_fit end_fit decimal_at change_line deed_line number_line line_in digit_of has_digit digit_at digits_below minus_of places_text fraction_text digits_text number_text edit_text deed_text call_text
+tidied = record { reads = refl; writes = refl; reads_again = refl }
 
 -- what desk 0 shows is the worksheet
-sheet-shown : Rewrites "0 show" (Show 0) "show"
-unfolding allDigits valueFrom beforePoint afterPoint isUnsigned unsignedIn number_in same uncommented wordsFrom nameFrom tokenOf slots_of firstTokens tokensOf tokenAt endFit deedLine word_line numberLine lineIn callText
-sheet-shown = record { reads = refl; writes = refl; reads-again = refl }
+sheet_shown_law : Rewrites "0 show" (Show 0) "show"
+unfolding all_digits value_from before_point after_point is_unsigned unsigned_in number_in same uncommented words_from name_from token_of slots_of first_tokens tokens_of token_at end_fit deed_line word_line number_line line_in call_text
+sheet_shown_law = record { reads = refl; writes = refl; reads_again = refl }

@@ -6,7 +6,7 @@ use mathlib.Core.List.{List}
 use mathlib.Core.Path.{◌≡◌, refl, sym, subst}
 use native.Mathlib.Omega.{arith}
 use lib.Dec.{eqb}
-use Rattle.base.proofs.verdicts.Picks.{cond-true}
+use Rattle.base.proofs.verdicts.Picks.{cond_true}
 use Rattle.wording.specs.declared.number.Decimal.{Decimal}
 use Rattle.wording.specs.declared.token.Token.{Token}
 use Rattle.wording.specs.declared.token.Token.TheVariants as token
@@ -20,12 +20,12 @@ use Rattle.wording.specs.declared.line.Line.TheVariants.{Blank, Open, Call, Wron
 use Rattle.wording.specs.declared.written.WrittenInputs.{WrittenInputs}
 use Rattle.wording.specs.declared.written.WrittenEdit.{WrittenEdit}
 use Rattle.wording.specs.declared.written.WrittenCall.{WrittenCall}
-use Rattle.wording.specs.Token.{tokensOf, tokenAt}
-use Rattle.wording.specs.Line.{isNamed, isWhole, isWholeDecimal, usualFactors, usualPole, lineIf, callIf, decimalAt, whole_at, model_at, isLongAt, routeAt, factorsAt, poleAt, brings, factorsStart, poleStart, modelStart, openingFactors, openingPole, openingModel, openingAt, openFit, deedLine, deskLine, word_line, numberLine, startLine, lineIn, changeEdit, deedFit, deedCall, bareFit, bareCall}
+use Rattle.wording.specs.Token.{tokens_of, token_at}
+use Rattle.wording.specs.Line.{is_named, is_whole, is_whole_decimal, usual_factors, usual_pole, line_if, call_if, decimal_at, whole_at, model_at, is_long_at, route_at, factors_at, pole_at, brings, factors_start, pole_start, model_start, opening_factors, opening_pole, opening_model, opening_at, open_fit, deed_line, desk_line, word_line, number_line, start_line, line_in, change_edit, deed_fit, deed_call, bare_fit, bare_call}
 use Rattle.wording.specs.Line.{OPEN, SUNSPOT, HOUR, PATH, FACTORS, POLE, MONTH, MODEL, URSI, BEGIN, COMMIT, CANCEL, SHOW}
-use Rattle.wording.proofs.words.Fits.{whole-fits, word_fits, deed-parts, bare_parts}
+use Rattle.wording.proofs.words.Fits.{whole_fits, word_fits, deed_parts, bare_parts}
 use Rattle.results.specs.ReadBack.{Few, Fits, Flag, off, on, GoodRoute, GoodFactors, GoodPole, GoodInputs, GoodEdit, sunspot, hour, path, psc, pole, month, model, GoodCall, begin, change, commit, cancel, take_back, show}
-use Rattle.results.proofs.reading.Numbers.{token-sound}
+use Rattle.results.proofs.reading.Numbers.{token_sound}
 
 -- a line: its open or its call
 data GoodLine : Line → Type 0 where
@@ -42,169 +42,169 @@ flag false = off
 
 module _ (l : List ℕ) where
   abbrev t : Tokens
-  t = tokensOf l
+  t = tokens_of l
 
-  few : (k : ℕ) → Few (decimalAt t k)
-  unfolding decimalAt
-  few k = token-sound l k
+  few : (k : ℕ) → Few (decimal_at t k)
+  unfolding decimal_at
+  few k = token_sound l k
 
   fits : (k : ℕ) → Fits (whole_at t k)
-  unfolding whole_at decimalAt
-  fits k = by (isWhole (tokenAt t k)) refl
+  unfolding whole_at decimal_at
+  fits k = by (is_whole (token_at t k)) refl
     where
-      by : (b : Bool) → isWhole (tokenAt t k) ≡ b → Fits (cond b (decimalAt t k).digits 0)
-      by true e = word_fits (tokenAt t k) e
+      by : (b : Bool) → is_whole (token_at t k) ≡ b → Fits (cond b (decimal_at t k).digits 0)
+      by true e = word_fits (token_at t k) e
       by false e = omega arith
 
   one_of_two : (k : ℕ) → Flag (model_at t k)
   unfolding model_at
-  one_of_two k = flag (isNamed URSI (tokenAt t k))
+  one_of_two k = flag (is_named URSI (token_at t k))
 
-  route : (k : ℕ) → GoodRoute (routeAt t k)
-  unfolding routeAt
+  route : (k : ℕ) → GoodRoute (route_at t k)
+  unfolding route_at
   route k =
       record {
         tlat = few (k + 1);
         tlong = few (k + 2);
         rlat = few (k + 4);
         rlong = few (k + 5);
-        long = flag (isLongAt t k);
+        long = flag (is_long_at t k);
       }
 
-  factors : (k : ℕ) → GoodFactors (factorsAt t k)
-  unfolding factorsAt
+  factors : (k : ℕ) → GoodFactors (factors_at t k)
+  unfolding factors_at
   factors k = record { e = few k; f1 = few (k + 1); f2 = few (k + 2); es = few (k + 3) }
 
-  a-pole : (k : ℕ) → GoodPole (poleAt t k)
-  unfolding poleAt
-  a-pole k = record { lat = few k; lon = few (k + 1) }
+  a_pole : (k : ℕ) → GoodPole (pole_at t k)
+  unfolding pole_at
+  a_pole k = record { lat = few k; lon = few (k + 1) }
 
   -- ---- an open
 
-  opening-factors : GoodFactors (openingFactors t)
-  unfolding openingFactors
-  opening-factors = by (brings t FACTORS (factorsStart t))
+  opening_factors_law : GoodFactors (opening_factors t)
+  unfolding opening_factors
+  opening_factors_law = by (brings t FACTORS (factors_start t))
     where
-      by : (b : Bool) → GoodFactors (cond b (factorsAt t (factorsStart t + 1)) usualFactors)
-      by true = factors (factorsStart t + 1)
+      by : (b : Bool) → GoodFactors (cond b (factors_at t (factors_start t + 1)) usual_factors)
+      by true = factors (factors_start t + 1)
       by false = record { e = refl; f1 = refl; f2 = refl; es = refl }
 
-  opening-pole : GoodPole (openingPole t)
-  unfolding openingPole
-  opening-pole = by (brings t POLE (poleStart t))
+  opening_pole_law : GoodPole (opening_pole t)
+  unfolding opening_pole
+  opening_pole_law = by (brings t POLE (pole_start t))
     where
-      by : (b : Bool) → GoodPole (cond b (poleAt t (poleStart t + 1)) usualPole)
-      by true = a-pole (poleStart t + 1)
+      by : (b : Bool) → GoodPole (cond b (pole_at t (pole_start t + 1)) usual_pole)
+      by true = a_pole (pole_start t + 1)
       by false = record { lat = refl; lon = refl }
 
-  opening-model : Flag (openingModel t)
-  unfolding openingModel
-  opening-model = by (brings t MODEL (modelStart t))
+  opening_model_law : Flag (opening_model t)
+  unfolding opening_model
+  opening_model_law = by (brings t MODEL (model_start t))
     where
-      by : (b : Bool) → Flag (cond b (model_at t (modelStart t + 1)) 0)
-      by true = one_of_two (modelStart t + 1)
+      by : (b : Bool) → Flag (cond b (model_at t (model_start t + 1)) 0)
+      by true = one_of_two (model_start t + 1)
       by false = off
 
-  opening : GoodInputs (openingAt t)
-  unfolding openingAt
+  opening : GoodInputs (opening_at t)
+  unfolding opening_at
   opening =
       record {
         month = fits 2;
         ssn = few 4;
         gmt = few 6;
         route = route 7;
-        psc = opening-factors;
-        pole = opening-pole;
-        model = opening-model;
+        psc = opening_factors_law;
+        pole = opening_pole_law;
+        model = opening_model_law;
       }
 
 -- ---- a line, whether its words fit or not
 
-if-fits : (f : Fit) {x : Line} → GoodLine x → GoodLine (lineIf f x)
-if-fits Good h = h
-if-fits (NoFit f) h = wrong
+if_fits : (f : Fit) {x : Line} → GoodLine x → GoodLine (line_if f x)
+if_fits Good h = h
+if_fits (NoFit f) h = wrong
 
-call-if-fits : (f : Fit) {c : WrittenCall} → GoodCall c → GoodLine (callIf f c)
-call-if-fits f h = if-fits f (called h)
+call_if_fits : (f : Fit) {c : WrittenCall} → GoodCall c → GoodLine (call_if f c)
+call_if_fits f h = if_fits f (called h)
 
-either-edit : (b : Bool) {x y : WrittenEdit} → GoodEdit x → GoodEdit y → GoodEdit (cond b x y)
-either-edit true p q = p
-either-edit false p q = q
+either_edit : (b : Bool) {x y : WrittenEdit} → GoodEdit x → GoodEdit y → GoodEdit (cond b x y)
+either_edit true p q = p
+either_edit false p q = q
 
-either-call : (b : Bool) {x y : WrittenCall} → GoodCall x → GoodCall y → GoodCall (cond b x y)
-either-call true p q = p
-either-call false p q = q
+either_call : (b : Bool) {x y : WrittenCall} → GoodCall x → GoodCall y → GoodCall (cond b x y)
+either_call true p q = p
+either_call false p q = q
 
 module _ (l : List ℕ) where
-  an-edit : (w : ℕ) → GoodEdit (changeEdit (t l) w)
-  unfolding changeEdit
-  an-edit w =
-      let d = decimalAt (t l) 2 in
-      either-edit (eqb w SUNSPOT) (sunspot {d = d} (few l 2))
-      (either-edit (eqb w HOUR) (hour {d = d} (few l 2))
-      (either-edit (eqb w PATH) (path (route l 2))
-      (either-edit (eqb w FACTORS) (psc (factors l 2))
-      (either-edit (eqb w POLE) (pole (a-pole l 2))
-      (either-edit (eqb w MONTH) (month (fits l 2)) (model (one_of_two l 2)))))))
+  an_edit : (w : ℕ) → GoodEdit (change_edit (t l) w)
+  unfolding change_edit
+  an_edit w =
+      let d = decimal_at (t l) 2 in
+      either_edit (eqb w SUNSPOT) (sunspot {d = d} (few l 2))
+      (either_edit (eqb w HOUR) (hour {d = d} (few l 2))
+      (either_edit (eqb w PATH) (path (route l 2))
+      (either_edit (eqb w FACTORS) (psc (factors l 2))
+      (either_edit (eqb w POLE) (pole (a_pole l 2))
+      (either_edit (eqb w MONTH) (month (fits l 2)) (model (one_of_two l 2)))))))
 
-  a-deed : (n w : ℕ) → Fits n → GoodCall (deedCall (t l) n w)
-  unfolding deedCall
-  a-deed n w h =
-      either-call (eqb w BEGIN) (begin h)
-      (either-call (eqb w COMMIT) (commit h)
-      (either-call (eqb w CANCEL) (cancel h) (either-call (eqb w SHOW) (show h) (change h (an-edit w)))))
+  a_deed : (n w : ℕ) → Fits n → GoodCall (deed_call (t l) n w)
+  unfolding deed_call
+  a_deed n w h =
+      either_call (eqb w BEGIN) (begin h)
+      (either_call (eqb w COMMIT) (commit h)
+      (either_call (eqb w CANCEL) (cancel h) (either_call (eqb w SHOW) (show h) (change h (an_edit w)))))
 
-  deed : (n w : ℕ) → Fits n → GoodLine (deedLine (t l) n w)
-  deed n w h = subst GoodLine (deed-parts (t l) n w) (call-if-fits (deedFit (t l) w) (a-deed n w h))
+  deed : (n w : ℕ) → Fits n → GoodLine (deed_line (t l) n w)
+  deed n w h = subst GoodLine (deed_parts (t l) n w) (call_if_fits (deed_fit (t l) w) (a_deed n w h))
 
-  bare : (w : ℕ) → GoodCall (bareCall w)
-  unfolding bareCall
-  bare w = either-call (eqb w SHOW) (show {n = 0} (omega arith)) take_back
+  bare : (w : ℕ) → GoodCall (bare_call w)
+  unfolding bare_call
+  bare w = either_call (eqb w SHOW) (show {n = 0} (omega arith)) take_back
 
   by_word : (w : ℕ) → GoodLine (word_line (t l) w)
   unfolding word_line
   by_word w = by (eqb w OPEN) refl
     where
       by : (b : Bool) → eqb w OPEN ≡ b → GoodLine (word_line (t l) w)
-      by true e = subst GoodLine (sym (cond-true _ _ e)) (if-fits (openFit (t l)) (opened (opening l)))
-      by false e = subst GoodLine (bare_parts (t l) w e) (call-if-fits (bareFit (t l) w) (bare w))
+      by true e = subst GoodLine (sym (cond_true _ _ e)) (if_fits (open_fit (t l)) (opened (opening l)))
+      by false e = subst GoodLine (bare_parts (t l) w e) (call_if_fits (bare_fit (t l) w) (bare w))
 
-  desk : (n : ℕ) (k : Token) → Fits n → GoodLine (deskLine (t l) n k)
+  desk : (n : ℕ) (k : Token) → Fits n → GoodLine (desk_line (t l) n k)
   desk n (token.Word w) h = deed n w h
   desk n (token.Number d) h = wrong
   desk n token.Other h = wrong
   desk n token.End h = wrong
 
-  by_number : (d : Decimal) → GoodLine (numberLine (t l) d)
-  unfolding numberLine
-  by_number d = by (isWholeDecimal d) refl
+  by_number : (d : Decimal) → GoodLine (number_line (t l) d)
+  unfolding number_line
+  by_number d = by (is_whole_decimal d) refl
     where
       by :
-          (b : Bool) → isWholeDecimal d ≡ b →
-          GoodLine (cond b (deskLine (t l) d.digits (tokenAt (t l) 1)) (Wrong (record { word = 1; wanted = Start })))
-      by true e = desk d.digits (tokenAt (t l) 1) (whole-fits d e)
+          (b : Bool) → is_whole_decimal d ≡ b →
+          GoodLine (cond b (desk_line (t l) d.digits (token_at (t l) 1)) (Wrong (record { word = 1; wanted = Start })))
+      by true e = desk d.digits (token_at (t l) 1) (whole_fits d e)
       by false e = wrong
 
-  by-start : (k : Token) → GoodLine (startLine (t l) k)
-  by-start token.End = blank
-  by-start (token.Word w) = by_word w
-  by-start (token.Number d) = by_number d
-  by-start token.Other = wrong
+  by_start : (k : Token) → GoodLine (start_line (t l) k)
+  by_start token.End = blank
+  by_start (token.Word w) = by_word w
+  by_start (token.Number d) = by_number d
+  by_start token.Other = wrong
 
-  good-line : GoodLine (lineIn l)
-  unfolding lineIn
-  good-line = by-start (tokenAt (t l) 0)
+  good_line : GoodLine (line_in l)
+  unfolding line_in
+  good_line = by_start (token_at (t l) 0)
 
 -- ---- WHAT A LINE READS AS can be written
 
 open_is : (o : WrittenInputs) → GoodLine (Open o) → GoodInputs o
 open_is o (opened h) = h
 
-call-is : (c : WrittenCall) → GoodLine (Call c) → GoodCall c
-call-is c (called h) = h
+call_is : (c : WrittenCall) → GoodLine (Call c) → GoodCall c
+call_is c (called h) = h
 
-pub read-open : (l : List ℕ) (o : WrittenInputs) → lineIn l ≡ Open o → GoodInputs o
-read-open l o e = open_is o (subst GoodLine e (good-line l))
+pub read_open : (l : List ℕ) (o : WrittenInputs) → line_in l ≡ Open o → GoodInputs o
+read_open l o e = open_is o (subst GoodLine e (good_line l))
 
-pub read-call : (l : List ℕ) (c : WrittenCall) → lineIn l ≡ Call c → GoodCall c
-read-call l c e = call-is c (subst GoodLine e (good-line l))
+pub read_call : (l : List ℕ) (c : WrittenCall) → line_in l ≡ Call c → GoodCall c
+read_call l c e = call_is c (subst GoodLine e (good_line l))

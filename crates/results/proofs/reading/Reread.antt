@@ -6,7 +6,7 @@ use mathlib.Core.List.{List, [], ◌∷◌}
 use mathlib.Core.Path.{◌≡◌, refl, sym, ap, ◌∙◌}
 use lib.Dec.{eqb, ltb}
 use borrow.Author.Tests.{lt-ltb, eqb-true}
-use Rattle.base.proofs.verdicts.Picks.{cond-true}
+use Rattle.base.proofs.verdicts.Picks.{cond_true}
 use Rattle.wording.specs.declared.token.Token.{Token}
 use Rattle.wording.specs.declared.token.Token.TheVariants.{Word, Number}
 use Rattle.wording.specs.declared.token.Tokens.{Tokens}
@@ -20,13 +20,13 @@ use Rattle.wording.specs.declared.written.WrittenEdit.{WrittenEdit}
 use Rattle.wording.specs.declared.written.WrittenEdit.TheVariants.{Path, Month, Model}
 use Rattle.wording.specs.declared.written.WrittenCall.{WrittenCall}
 use Rattle.wording.specs.declared.written.WrittenCall.TheVariants.{Change, Show}
-use Rattle.wording.specs.Token.{tokensOf, tokenAt}
-use Rattle.wording.specs.Line.{fitUnless, ◌andThen◌, callIf, lineIf, wordFit, numberFit, wholeFit, modelFit, endFit, decimalAt, whole_at, model_at, pairFit, fourFit, routeFit, routeAt, routeEnd, factorsAt, poleAt, headFit, factorsStart, poleStart, modelStart, openEnd, factorsFit, poleFit, modelsFit, openFit, openingFactors, openingPole, openingModel, openingAt, changeLine, deedLine, deskLine, word_line, numberLine, startLine, lineIn}
+use Rattle.wording.specs.Token.{tokens_of, token_at}
+use Rattle.wording.specs.Line.{fit_unless, ◌andThen◌, call_if, line_if, word_fit, number_fit, whole_fit, model_fit, end_fit, decimal_at, whole_at, model_at, pair_fit, four_fit, route_fit, route_at, route_end, factors_at, pole_at, head_fit, factors_start, pole_start, model_start, open_end, factors_fit, pole_fit, models_fit, open_fit, opening_factors, opening_pole, opening_model, opening_at, change_line, deed_line, desk_line, word_line, number_line, start_line, line_in}
 use Rattle.wording.specs.Line.{SUNSPOT, HOUR, PATH, MONTH, BEGIN, COMMIT, CANCEL, SHOW}
-use Rattle.listing.specs.Written.{callText, openText}
+use Rattle.listing.specs.Written.{call_text, open_text}
 use Rattle.results.specs.ReadBack.{Fits, Flag, off, on, GoodEdit, sunspot, hour, path, psc, pole, month, model, GoodInputs, GoodCall, begin, change, commit, cancel, take_back, show}
-use Rattle.results.proofs.reading.Words.{AllRead, trailing, held, tokens-read, blank-first}
-use Rattle.results.proofs.reading.Texts.{whole, routeTokens, factorsTokens, poleTokens, modelTokens, editTokens, callTokens, openTokens, call-text, open-text, call-read, open-read}
+use Rattle.results.proofs.reading.Words.{AllRead, trailing, held, tokens_read, blank_first}
+use Rattle.results.proofs.reading.Texts.{whole, route_tokens, factors_tokens, pole_tokens, model_tokens, edit_tokens, call_tokens, open_tokens, call_text_law, open_text_law, call_read, open_read}
 
 -- a route with its flag set, and inputs with their two flags set
 abbrev turned : WrittenRoute → ℕ → WrittenRoute
@@ -46,71 +46,71 @@ flagged o a b =
     }
 
 -- the line that words are, by computation
-asLine : List Token → Line
-unfolding tokenAt wordFit numberFit wholeFit modelFit endFit decimalAt whole_at model_at pairFit fourFit routeFit routeAt routeEnd factorsAt poleAt headFit factorsStart poleStart modelStart openEnd factorsFit poleFit modelsFit openFit openingFactors openingPole openingModel openingAt changeLine deedLine word_line numberLine
-asLine l = startLine (held l) (tokenAt (held l) 0)
+as_line : List Token → Line
+unfolding token_at word_fit number_fit whole_fit model_fit end_fit decimal_at whole_at model_at pair_fit four_fit route_fit route_at route_end factors_at pole_at head_fit factors_start pole_start model_start open_end factors_fit pole_fit models_fit open_fit opening_factors opening_pole opening_model opening_at change_line deed_line word_line number_line
+as_line l = start_line (held l) (token_at (held l) 0)
 
-reads_as : (text : List ℕ) (l : List Token) → 32 ∷ text ≡ trailing l → AllRead l → lineIn text ≡ asLine l
-unfolding lineIn asLine
+reads_as : (text : List ℕ) (l : List Token) → 32 ∷ text ≡ trailing l → AllRead l → line_in text ≡ as_line l
+unfolding line_in as_line
 reads_as text l e h =
-    let t : tokensOf text ≡ held l = sym (blank-first text) ∙ ap tokensOf e ∙ tokens-read h in
-    ap (λ (x : Tokens). startLine x (tokenAt x 0)) t
+    let t : tokens_of text ≡ held l = sym (blank_first text) ∙ ap tokens_of e ∙ tokens_read h in
+    ap (λ (x : Tokens). start_line x (token_at x 0)) t
 
 -- ---- a desk's call
 
 module _ (n : ℕ) (h : Fits n) where
-  abbrev deskWords : List Token → Tokens
-  deskWords l = held (whole n ∷ l)
+  abbrev desk_words : List Token → Tokens
+  desk_words l = held (whole n ∷ l)
 
-  desk-line : (l : List Token) → asLine (whole n ∷ l) ≡ deskLine (deskWords l) n (tokenAt (deskWords l) 1)
-  unfolding asLine
-  desk-line l = cond-true _ _ (lt-ltb n (2 ^ 32) h)
+  desk_line_law : (l : List Token) → as_line (whole n ∷ l) ≡ desk_line (desk_words l) n (token_at (desk_words l) 1)
+  unfolding as_line
+  desk_line_law l = cond_true _ _ (lt-ltb n (2 ^ 32) h)
 
-  path-line :
+  path_line :
       (p : WrittenRoute) {m : ℕ} → Flag m →
-      asLine (whole n ∷ Word PATH ∷ routeTokens (turned p m)) ≡ Call (Change n (Path (turned p m)))
-  unfolding asLine
-  path-line p off = desk-line (Word PATH ∷ routeTokens (turned p 0))
-  path-line p on = desk-line (Word PATH ∷ routeTokens (turned p 1))
+      as_line (whole n ∷ Word PATH ∷ route_tokens (turned p m)) ≡ Call (Change n (Path (turned p m)))
+  unfolding as_line
+  path_line p off = desk_line_law (Word PATH ∷ route_tokens (turned p 0))
+  path_line p on = desk_line_law (Word PATH ∷ route_tokens (turned p 1))
 
-  model-line : {m : ℕ} → Flag m → asLine (whole n ∷ modelTokens m) ≡ Call (Change n (Model m))
-  unfolding asLine
-  model-line off = desk-line (modelTokens 0)
-  model-line on = desk-line (modelTokens 1)
+  model_line : {m : ℕ} → Flag m → as_line (whole n ∷ model_tokens m) ≡ Call (Change n (Model m))
+  unfolding as_line
+  model_line off = desk_line_law (model_tokens 0)
+  model_line on = desk_line_law (model_tokens 1)
 
-  month-line : (m : ℕ) → Fits m → asLine (whole n ∷ Word MONTH ∷ whole m ∷ []) ≡ Call (Change n (Month m))
-  unfolding asLine
-  month-line m g =
+  month_line : (m : ℕ) → Fits m → as_line (whole n ∷ Word MONTH ∷ whole m ∷ []) ≡ Call (Change n (Month m))
+  unfolding as_line
+  month_line m g =
       let e = lt-ltb m (2 ^ 32) g in
-      desk-line (Word MONTH ∷ whole m ∷ [])
-      ∙ λ i. callIf (fitUnless (e i) 2 Whole and_then Good) (Change n (Month (cond (e i) m 0)))
+      desk_line_law (Word MONTH ∷ whole m ∷ [])
+      ∙ λ i. call_if (fit_unless (e i) 2 Whole and_then Good) (Change n (Month (cond (e i) m 0)))
 
-  change-line : {e : WrittenEdit} → GoodEdit e → asLine (whole n ∷ editTokens e) ≡ Call (Change n e)
-  unfolding asLine
-  change-line (sunspot {d} g) = desk-line (Word SUNSPOT ∷ Number d ∷ [])
-  change-line (hour {d} g) = desk-line (Word HOUR ∷ Number d ∷ [])
-  change-line (path {p} g) = path-line p g.long
-  change-line (psc {p} g) = desk-line (factorsTokens p)
-  change-line (pole {p} g) = desk-line (poleTokens p)
-  change-line (month {m} g) = month-line m g
-  change-line (model g) = model-line g
+  change_line_law : {e : WrittenEdit} → GoodEdit e → as_line (whole n ∷ edit_tokens e) ≡ Call (Change n e)
+  unfolding as_line
+  change_line_law (sunspot {d} g) = desk_line_law (Word SUNSPOT ∷ Number d ∷ [])
+  change_line_law (hour {d} g) = desk_line_law (Word HOUR ∷ Number d ∷ [])
+  change_line_law (path {p} g) = path_line p g.long
+  change_line_law (psc {p} g) = desk_line_law (factors_tokens p)
+  change_line_law (pole {p} g) = desk_line_law (pole_tokens p)
+  change_line_law (month {m} g) = month_line m g
+  change_line_law (model g) = model_line g
 
-  show-line : asLine (cond (eqb n 0) (Word SHOW ∷ []) (whole n ∷ Word SHOW ∷ [])) ≡ Call (Show n)
-  unfolding asLine
-  show-line = by (eqb n 0) refl
+  show_line : as_line (cond (eqb n 0) (Word SHOW ∷ []) (whole n ∷ Word SHOW ∷ [])) ≡ Call (Show n)
+  unfolding as_line
+  show_line = by (eqb n 0) refl
     where
-      by : (b : Bool) → eqb n 0 ≡ b → asLine (cond b (Word SHOW ∷ []) (whole n ∷ Word SHOW ∷ [])) ≡ Call (Show n)
+      by : (b : Bool) → eqb n 0 ≡ b → as_line (cond b (Word SHOW ∷ []) (whole n ∷ Word SHOW ∷ [])) ≡ Call (Show n)
       by true e = ap (λ (k : ℕ). Call (Show k)) (sym (eqb-true n 0 e))
-      by false e = desk-line (Word SHOW ∷ [])
+      by false e = desk_line_law (Word SHOW ∷ [])
 
-call_line : {c : WrittenCall} → GoodCall c → asLine (callTokens c) ≡ Call c
-unfolding asLine
-call_line (begin {n} h) = desk-line n h (Word BEGIN ∷ [])
-call_line (change {n} h g) = change-line n h g
-call_line (commit {n} h) = desk-line n h (Word COMMIT ∷ [])
-call_line (cancel {n} h) = desk-line n h (Word CANCEL ∷ [])
+call_line : {c : WrittenCall} → GoodCall c → as_line (call_tokens c) ≡ Call c
+unfolding as_line
+call_line (begin {n} h) = desk_line_law n h (Word BEGIN ∷ [])
+call_line (change {n} h g) = change_line_law n h g
+call_line (commit {n} h) = desk_line_law n h (Word COMMIT ∷ [])
+call_line (cancel {n} h) = desk_line_law n h (Word CANCEL ∷ [])
 call_line take_back = refl
-call_line (show {n} h) = show-line n h
+call_line (show {n} h) = show_line n h
 
 -- ---- an open
 
@@ -127,29 +127,29 @@ dated o b =
       model = o.model;
     }
 
-month-fits :
+month_fits :
     (o : WrittenInputs) → Fits o.month →
     let b = ltb o.month (2 ^ 32) in
-    lineIf ((fitUnless b 2 Whole and_then Good) and_then Good) (Open (dated o b)) ≡ Open o
-month-fits o h =
+    line_if ((fit_unless b 2 Whole and_then Good) and_then Good) (Open (dated o b)) ≡ Open o
+month_fits o h =
     let e = lt-ltb o.month (2 ^ 32) h in
-    λ i. lineIf ((fitUnless (e i) 2 Whole and_then Good) and_then Good) (Open (dated o (e i)))
+    λ i. line_if ((fit_unless (e i) 2 Whole and_then Good) and_then Good) (Open (dated o (e i)))
 
-open-line :
+open_line_law :
     (o : WrittenInputs) {a b : ℕ} → Flag a → Flag b → Fits o.month →
-    asLine (openTokens (flagged o a b)) ≡ Open (flagged o a b)
-unfolding asLine
-open-line o off off h = month-fits (flagged o 0 0) h
-open-line o off on h = month-fits (flagged o 0 1) h
-open-line o on off h = month-fits (flagged o 1 0) h
-open-line o on on h = month-fits (flagged o 1 1) h
+    as_line (open_tokens (flagged o a b)) ≡ Open (flagged o a b)
+unfolding as_line
+open_line_law o off off h = month_fits (flagged o 0 0) h
+open_line_law o off on h = month_fits (flagged o 0 1) h
+open_line_law o on off h = month_fits (flagged o 1 0) h
+open_line_law o on on h = month_fits (flagged o 1 1) h
 
 -- ---- READ AGAIN
 
-pub call-reread : (c : WrittenCall) → GoodCall c → lineIn (callText c) ≡ Call c
-call-reread c g = reads_as (callText c) (callTokens c) (call-text g) (call-read g) ∙ call_line g
+pub call_reread : (c : WrittenCall) → GoodCall c → line_in (call_text c) ≡ Call c
+call_reread c g = reads_as (call_text c) (call_tokens c) (call_text_law g) (call_read g) ∙ call_line g
 
-pub open-reread : (o : WrittenInputs) → GoodInputs o → lineIn (openText o) ≡ Open o
-open-reread o g =
-    reads_as (openText o) (openTokens o) (open-text g) (open-read g)
-    ∙ open-line o g.route.long g.model g.month
+pub open_reread : (o : WrittenInputs) → GoodInputs o → line_in (open_text o) ≡ Open o
+open_reread o g =
+    reads_as (open_text o) (open_tokens o) (open_text_law g) (open_read g)
+    ∙ open_line_law o g.route.long g.model g.month

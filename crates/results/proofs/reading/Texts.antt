@@ -7,8 +7,8 @@ use mathlib.Core.Path.{◌≡◌, refl, sym, ap, ◌∙◌}
 use native.Mathlib.Omega.{arith}
 use lib.Dec.{eqb}
 use borrow.Author.Tests.{lt-ltb}
-use Rattle.base.proofs.ladder.Ladders.{and-true}
-use Rattle.base.proofs.verdicts.Picks.{cond-true}
+use Rattle.base.proofs.ladder.Ladders.{and_true}
+use Rattle.base.proofs.verdicts.Picks.{cond_true}
 use Rattle.wording.specs.declared.number.Decimal.{Decimal}
 use Rattle.wording.specs.declared.token.Token.{Token}
 use Rattle.wording.specs.declared.token.Token.TheVariants.{Word, Number}
@@ -21,264 +21,264 @@ use Rattle.wording.specs.declared.written.WrittenEdit.TheVariants.{Sunspot, Hour
 use Rattle.wording.specs.declared.written.WrittenCall.{WrittenCall}
 use Rattle.wording.specs.declared.written.WrittenCall.TheVariants.{Begin, Change, Commit, Cancel, TakeBack, Show}
 use Rattle.wording.specs.Number.{is_written}
-use Rattle.wording.specs.Token.{ascii, closed, same, nameFrom, tokenOf}
+use Rattle.wording.specs.Token.{ascii, closed, same, name_from, token_of}
 use Rattle.wording.specs.Line.{OPEN, MONTH, SUNSPOT, HOUR, FROM, TO, LONG, FACTORS, POLE, MODEL, CCIR, URSI, BEGIN, PATH, COMMIT, CANCEL, SHOW, TAKE, BACK}
-use Rattle.listing.specs.Text.{decimalOf}
-use Rattle.listing.specs.Decimal.{minusOf}
-use Rattle.listing.specs.Written.{fractionText, digitsText, numberText, pairText, longWord, routeText, factorsText, poleText, modelText, openText, editText, deedText, callText}
-use Rattle.listing.proofs.digits.Quotients.{by-none}
+use Rattle.listing.specs.Text.{decimal_of}
+use Rattle.listing.specs.Decimal.{minus_of}
+use Rattle.listing.specs.Written.{fraction_text, digits_text, number_text, pair_text, long_word, route_text, factors_text, pole_text, model_text, open_text, edit_text, deed_text, call_text}
+use Rattle.listing.proofs.digits.Quotients.{by_none}
 use Rattle.listing.proofs.reread.Bytes.{in_word, all}
 use Rattle.results.specs.ReadBack.{Fits, GoodRoute, GoodFactors, GoodPole, GoodInputs, GoodEdit, sunspot, hour, path, psc, pole, month, model, GoodCall, begin, change, commit, cancel, take_back, show}
-use Rattle.results.proofs.reading.Words.{tokenText, Read, AllRead, none, more, trailing, trailing-both, all_both, number_read}
+use Rattle.results.proofs.reading.Words.{token_text, Read, AllRead, none, more, trailing, trailing_both, all_both, number_read}
 
 -- ---- the words
 
-abbrev pub wholeDecimal : ℕ → Decimal
-wholeDecimal n = record { negative = false; digits = n; places = 0 }
+abbrev pub whole_decimal : ℕ → Decimal
+whole_decimal n = record { negative = false; digits = n; places = 0 }
 
 abbrev pub whole : ℕ → Token
-whole n = Number (wholeDecimal n)
+whole n = Number (whole_decimal n)
 
-abbrev pub longTokens : ℕ → List Token
-longTokens m = cond (eqb m 0) [] (Word LONG ∷ [])
+abbrev pub long_tokens : ℕ → List Token
+long_tokens m = cond (eqb m 0) [] (Word LONG ∷ [])
 
-abbrev pub routeTokens : WrittenRoute → List Token
-routeTokens p =
+abbrev pub route_tokens : WrittenRoute → List Token
+route_tokens p =
     Word FROM ∷ Number p.tlat ∷ Number p.tlong
-    ∷ Word TO ∷ Number p.rlat ∷ Number p.rlong ∷ longTokens p.long_path
+    ∷ Word TO ∷ Number p.rlat ∷ Number p.rlong ∷ long_tokens p.long_path
 
-abbrev pub factorsTokens : WrittenFactors → List Token
-factorsTokens p = Word FACTORS ∷ Number p.e ∷ Number p.f1 ∷ Number p.f2 ∷ Number p.es ∷ []
+abbrev pub factors_tokens : WrittenFactors → List Token
+factors_tokens p = Word FACTORS ∷ Number p.e ∷ Number p.f1 ∷ Number p.f2 ∷ Number p.es ∷ []
 
-abbrev pub poleTokens : WrittenPole → List Token
-poleTokens p = Word POLE ∷ Number p.lat ∷ Number p.lon ∷ []
+abbrev pub pole_tokens : WrittenPole → List Token
+pole_tokens p = Word POLE ∷ Number p.lat ∷ Number p.lon ∷ []
 
-abbrev pub modelTokens : ℕ → List Token
-modelTokens m = Word MODEL ∷ cond (eqb m 0) (Word CCIR) (Word URSI) ∷ []
+abbrev pub model_tokens : ℕ → List Token
+model_tokens m = Word MODEL ∷ cond (eqb m 0) (Word CCIR) (Word URSI) ∷ []
 
-abbrev pub openTokens : WrittenInputs → List Token
-openTokens o =
+abbrev pub open_tokens : WrittenInputs → List Token
+open_tokens o =
     Word OPEN ∷ Word MONTH ∷ whole o.month ∷ Word SUNSPOT ∷ Number o.ssn ∷ Word HOUR ∷ Number o.gmt
-    ∷ (routeTokens o.route ++ (factorsTokens o.psc ++ (poleTokens o.pole ++ modelTokens o.model)))
+    ∷ (route_tokens o.route ++ (factors_tokens o.psc ++ (pole_tokens o.pole ++ model_tokens o.model)))
 
-abbrev pub editTokens : WrittenEdit → List Token
-editTokens (Sunspot d) = Word SUNSPOT ∷ Number d ∷ []
-editTokens (Hour d) = Word HOUR ∷ Number d ∷ []
-editTokens (Path p) = Word PATH ∷ routeTokens p
-editTokens (Psc p) = factorsTokens p
-editTokens (Pole p) = poleTokens p
-editTokens (Month m) = Word MONTH ∷ whole m ∷ []
-editTokens (Model m) = modelTokens m
+abbrev pub edit_tokens : WrittenEdit → List Token
+edit_tokens (Sunspot d) = Word SUNSPOT ∷ Number d ∷ []
+edit_tokens (Hour d) = Word HOUR ∷ Number d ∷ []
+edit_tokens (Path p) = Word PATH ∷ route_tokens p
+edit_tokens (Psc p) = factors_tokens p
+edit_tokens (Pole p) = pole_tokens p
+edit_tokens (Month m) = Word MONTH ∷ whole m ∷ []
+edit_tokens (Model m) = model_tokens m
 
-abbrev pub callTokens : WrittenCall → List Token
-callTokens (Begin n) = whole n ∷ Word BEGIN ∷ []
-callTokens (Change n e) = whole n ∷ editTokens e
-callTokens (Commit n) = whole n ∷ Word COMMIT ∷ []
-callTokens (Cancel n) = whole n ∷ Word CANCEL ∷ []
-callTokens TakeBack = Word TAKE ∷ Word BACK ∷ []
-callTokens (Show n) = cond (eqb n 0) (Word SHOW ∷ []) (whole n ∷ Word SHOW ∷ [])
+abbrev pub call_tokens : WrittenCall → List Token
+call_tokens (Begin n) = whole n ∷ Word BEGIN ∷ []
+call_tokens (Change n e) = whole n ∷ edit_tokens e
+call_tokens (Commit n) = whole n ∷ Word COMMIT ∷ []
+call_tokens (Cancel n) = whole n ∷ Word CANCEL ∷ []
+call_tokens TakeBack = Word TAKE ∷ Word BACK ∷ []
+call_tokens (Show n) = cond (eqb n 0) (Word SHOW ∷ []) (whole n ∷ Word SHOW ∷ [])
 
 -- ---- a whole number
 
-whole-written : (n : ℕ) → Fits n → is_written (wholeDecimal n) ≡ true
-whole-written n h = and-true (lt-ltb n (10 ^ 18) (omega arith)) refl
+whole_written : (n : ℕ) → Fits n → is_written (whole_decimal n) ≡ true
+whole_written n h = and_true (lt-ltb n (10 ^ 18) (omega arith)) refl
 
-whole-text : (n : ℕ) → Fits n → decimalOf n ≡ numberText (wholeDecimal n)
-unfolding numberText digitsText fractionText minusOf
-whole-text n h =
-    sym (cond-true _ _ (whole-written n h) ∙ append-nil (decimalOf (n / 10 ^ 0)) ∙ ap decimalOf (by-none n 10))
+whole_text_law : (n : ℕ) → Fits n → decimal_of n ≡ number_text (whole_decimal n)
+unfolding number_text digits_text fraction_text minus_of
+whole_text_law n h =
+    sym (cond_true _ _ (whole_written n h) ∙ append-nil (decimal_of (n / 10 ^ 0)) ∙ ap decimal_of (by_none n 10))
 
-whole-read : (n : ℕ) → Fits n → Read (whole n)
-whole-read n h = number_read (wholeDecimal n) (whole-written n h)
+whole_read : (n : ℕ) → Fits n → Read (whole n)
+whole_read n h = number_read (whole_decimal n) (whole_written n h)
 
 -- ---- the text is the words
 
-number-last : (d : Decimal) → 32 ∷ numberText d ≡ trailing (Number d ∷ [])
+number_last : (d : Decimal) → 32 ∷ number_text d ≡ trailing (Number d ∷ [])
 unfolding trailing
-number-last d = ap (λ (x : List ℕ). 32 ∷ x) (sym (append-nil (numberText d)))
+number_last d = ap (λ (x : List ℕ). 32 ∷ x) (sym (append-nil (number_text d)))
 
-pair-text : (a b : Decimal) (l : List Token) → 32 ∷ (pairText a b ++ trailing l) ≡ trailing (Number a ∷ Number b ∷ l)
-unfolding trailing pairText
-pair-text a b l = ap (λ (x : List ℕ). 32 ∷ x) (append_assoc (numberText a) (32 ∷ numberText b) (trailing l))
+pair_text_law : (a b : Decimal) (l : List Token) → 32 ∷ (pair_text a b ++ trailing l) ≡ trailing (Number a ∷ Number b ∷ l)
+unfolding trailing pair_text
+pair_text_law a b l = ap (λ (x : List ℕ). 32 ∷ x) (append_assoc (number_text a) (32 ∷ number_text b) (trailing l))
 
-pair-last : (a b : Decimal) → 32 ∷ pairText a b ≡ trailing (Number a ∷ Number b ∷ [])
+pair_last : (a b : Decimal) → 32 ∷ pair_text a b ≡ trailing (Number a ∷ Number b ∷ [])
 unfolding trailing
-pair-last a b = ap (λ (x : List ℕ). 32 ∷ x) (sym (append-nil (pairText a b))) ∙ pair-text a b []
+pair_last a b = ap (λ (x : List ℕ). 32 ∷ x) (sym (append-nil (pair_text a b))) ∙ pair_text_law a b []
 
-long-text : (b : Bool) → cond b [] (ascii " long") ≡ trailing (cond b [] (Word LONG ∷ []))
+long_text_law : (b : Bool) → cond b [] (ascii " long") ≡ trailing (cond b [] (Word LONG ∷ []))
 unfolding trailing
-long-text true = refl
-long-text false = refl
+long_text_law true = refl
+long_text_law false = refl
 
-route-text : (p : WrittenRoute) → 32 ∷ routeText p ≡ trailing (routeTokens p)
-unfolding trailing routeText longWord
-route-text p =
-    let a = pairText p.tlat p.tlong in
-    let b = pairText p.rlat p.rlong in
-    let last = longTokens p.long_path in
-    ap (λ (x : List ℕ). ascii " from " ++ (a ++ (ascii " to " ++ (b ++ x)))) (long-text (eqb p.long_path 0))
+route_text_law : (p : WrittenRoute) → 32 ∷ route_text p ≡ trailing (route_tokens p)
+unfolding trailing route_text long_word
+route_text_law p =
+    let a = pair_text p.tlat p.tlong in
+    let b = pair_text p.rlat p.rlong in
+    let last = long_tokens p.long_path in
+    ap (λ (x : List ℕ). ascii " from " ++ (a ++ (ascii " to " ++ (b ++ x)))) (long_text_law (eqb p.long_path 0))
     ∙ ap (λ (x : List ℕ). ascii " from " ++ (a ++ (ascii " to" ++ x)))
-    (pair-text p.rlat p.rlong last)
+    (pair_text_law p.rlat p.rlong last)
     ∙ ap (λ (x : List ℕ). ascii " from" ++ x)
-    (pair-text p.tlat p.tlong (Word TO ∷ Number p.rlat ∷ Number p.rlong ∷ last))
+    (pair_text_law p.tlat p.tlong (Word TO ∷ Number p.rlat ∷ Number p.rlong ∷ last))
 
-factors-text : (p : WrittenFactors) → 32 ∷ factorsText p ≡ trailing (factorsTokens p)
-unfolding trailing factorsText
-factors-text p =
-    ap (λ (x : List ℕ). ascii " factors " ++ (pairText p.e p.f1 ++ x)) (pair-last p.f2 p.es)
-    ∙ ap (λ (x : List ℕ). ascii " factors" ++ x) (pair-text p.e p.f1 (Number p.f2 ∷ Number p.es ∷ []))
+factors_text_law : (p : WrittenFactors) → 32 ∷ factors_text p ≡ trailing (factors_tokens p)
+unfolding trailing factors_text
+factors_text_law p =
+    ap (λ (x : List ℕ). ascii " factors " ++ (pair_text p.e p.f1 ++ x)) (pair_last p.f2 p.es)
+    ∙ ap (λ (x : List ℕ). ascii " factors" ++ x) (pair_text_law p.e p.f1 (Number p.f2 ∷ Number p.es ∷ []))
 
-pole-text : (p : WrittenPole) → 32 ∷ poleText p ≡ trailing (poleTokens p)
-unfolding trailing poleText
-pole-text p = ap (λ (x : List ℕ). ascii " pole" ++ x) (pair-last p.lat p.lon)
+pole_text_law : (p : WrittenPole) → 32 ∷ pole_text p ≡ trailing (pole_tokens p)
+unfolding trailing pole_text
+pole_text_law p = ap (λ (x : List ℕ). ascii " pole" ++ x) (pair_last p.lat p.lon)
 
-model-text : (m : ℕ) → 32 ∷ modelText m ≡ trailing (modelTokens m)
-unfolding trailing modelText
-model-text m = by (eqb m 0)
+model_text_law : (m : ℕ) → 32 ∷ model_text m ≡ trailing (model_tokens m)
+unfolding trailing model_text
+model_text_law m = by (eqb m 0)
   where
     by :
         (b : Bool) →
         ascii " model " ++ cond b (ascii "ccir") (ascii "ursi")
-        ≡ ascii " model " ++ (tokenText (cond b (Word CCIR) (Word URSI)) ++ [])
+        ≡ ascii " model " ++ (token_text (cond b (Word CCIR) (Word URSI)) ++ [])
     by true = refl
     by false = refl
 
-edit-text : {e : WrittenEdit} → GoodEdit e → 32 ∷ editText e ≡ trailing (editTokens e)
-unfolding trailing editText
-edit-text (sunspot {d} h) = ap (λ (x : List ℕ). ascii " sunspot" ++ x) (number-last d)
-edit-text (hour {d} h) = ap (λ (x : List ℕ). ascii " hour" ++ x) (number-last d)
-edit-text (path {p} h) = ap (λ (x : List ℕ). ascii " path" ++ x) (route-text p)
-edit-text (psc {p} h) = factors-text p
-edit-text (pole {p} h) = pole-text p
-edit-text (month {m} h) =
-    ap (λ (x : List ℕ). ascii " month " ++ x) (whole-text m h)
-    ∙ ap (λ (x : List ℕ). ascii " month" ++ x) (number-last (wholeDecimal m))
-edit-text (model {m} h) = model-text m
+edit_text_law : {e : WrittenEdit} → GoodEdit e → 32 ∷ edit_text e ≡ trailing (edit_tokens e)
+unfolding trailing edit_text
+edit_text_law (sunspot {d} h) = ap (λ (x : List ℕ). ascii " sunspot" ++ x) (number_last d)
+edit_text_law (hour {d} h) = ap (λ (x : List ℕ). ascii " hour" ++ x) (number_last d)
+edit_text_law (path {p} h) = ap (λ (x : List ℕ). ascii " path" ++ x) (route_text_law p)
+edit_text_law (psc {p} h) = factors_text_law p
+edit_text_law (pole {p} h) = pole_text_law p
+edit_text_law (month {m} h) =
+    ap (λ (x : List ℕ). ascii " month " ++ x) (whole_text_law m h)
+    ∙ ap (λ (x : List ℕ). ascii " month" ++ x) (number_last (whole_decimal m))
+edit_text_law (model {m} h) = model_text_law m
 
-deed-text :
+deed_text_law :
     (n : ℕ) → Fits n → (deed : List ℕ) (l : List Token) → 32 ∷ deed ≡ trailing l →
-    32 ∷ deedText n deed ≡ trailing (whole n ∷ l)
-unfolding trailing deedText
-deed-text n h deed l e = λ i. 32 ∷ (whole-text n h i ++ e i)
+    32 ∷ deed_text n deed ≡ trailing (whole n ∷ l)
+unfolding trailing deed_text
+deed_text_law n h deed l e = λ i. 32 ∷ (whole_text_law n h i ++ e i)
 
-pub call-text : {c : WrittenCall} → GoodCall c → 32 ∷ callText c ≡ trailing (callTokens c)
-unfolding trailing callText
-call-text (begin {n} h) = deed-text n h (ascii "begin") (Word BEGIN ∷ []) refl
-call-text (change {n} {e} h g) = deed-text n h (editText e) (editTokens e) (edit-text g)
-call-text (commit {n} h) = deed-text n h (ascii "commit") (Word COMMIT ∷ []) refl
-call-text (cancel {n} h) = deed-text n h (ascii "cancel") (Word CANCEL ∷ []) refl
-call-text take_back = refl
-call-text (show {n} h) = by (eqb n 0)
+pub call_text_law : {c : WrittenCall} → GoodCall c → 32 ∷ call_text c ≡ trailing (call_tokens c)
+unfolding trailing call_text
+call_text_law (begin {n} h) = deed_text_law n h (ascii "begin") (Word BEGIN ∷ []) refl
+call_text_law (change {n} {e} h g) = deed_text_law n h (edit_text e) (edit_tokens e) (edit_text_law g)
+call_text_law (commit {n} h) = deed_text_law n h (ascii "commit") (Word COMMIT ∷ []) refl
+call_text_law (cancel {n} h) = deed_text_law n h (ascii "cancel") (Word CANCEL ∷ []) refl
+call_text_law take_back = refl
+call_text_law (show {n} h) = by (eqb n 0)
   where
     by :
         (b : Bool) →
-        32 ∷ cond b (ascii "show") (deedText n (ascii "show"))
+        32 ∷ cond b (ascii "show") (deed_text n (ascii "show"))
         ≡ trailing (cond b (Word SHOW ∷ []) (whole n ∷ Word SHOW ∷ []))
     by true = refl
-    by false = deed-text n h (ascii "show") (Word SHOW ∷ []) refl
+    by false = deed_text_law n h (ascii "show") (Word SHOW ∷ []) refl
 
-pub open-text : {o : WrittenInputs} → GoodInputs o → 32 ∷ openText o ≡ trailing (openTokens o)
-unfolding trailing openText
-open-text {o} h =
-    let m = modelTokens o.model in
-    let p = poleTokens o.pole in
-    let f = factorsTokens o.psc in
-    let r = routeTokens o.route in
+pub open_text_law : {o : WrittenInputs} → GoodInputs o → 32 ∷ open_text o ≡ trailing (open_tokens o)
+unfolding trailing open_text
+open_text_law {o} h =
+    let m = model_tokens o.model in
+    let p = pole_tokens o.pole in
+    let f = factors_tokens o.psc in
+    let r = route_tokens o.route in
     let parts =
-    trailing-both r (f ++ (p ++ m))
+    trailing_both r (f ++ (p ++ m))
     ∙ ap (λ (x : List ℕ). trailing r ++ x)
-    (trailing-both f (p ++ m) ∙ ap (λ (x : List ℕ). trailing f ++ x) (trailing-both p m)) in
-    let ssn = numberText o.ssn in
-    let gmt = numberText o.gmt in
+    (trailing_both f (p ++ m) ∙ ap (λ (x : List ℕ). trailing f ++ x) (trailing_both p m)) in
+    let ssn = number_text o.ssn in
+    let gmt = number_text o.gmt in
     (λ i.
     ascii " open month "
-    ++ (whole-text o.month h.month i
+    ++ (whole_text_law o.month h.month i
     ++ (ascii " sunspot "
     ++ (ssn
     ++ (ascii " hour "
     ++ (gmt
-    ++ (route-text o.route i
-    ++ (factors-text o.psc i ++ (pole-text o.pole i ++ model-text o.model i)))))))))
+    ++ (route_text_law o.route i
+    ++ (factors_text_law o.psc i ++ (pole_text_law o.pole i ++ model_text_law o.model i)))))))))
     ∙ ap
     (λ (x : List ℕ).
     ascii " open month "
-    ++ (numberText (wholeDecimal o.month) ++ (ascii " sunspot " ++ (ssn ++ (ascii " hour " ++ (gmt ++ x))))))
+    ++ (number_text (whole_decimal o.month) ++ (ascii " sunspot " ++ (ssn ++ (ascii " hour " ++ (gmt ++ x))))))
     (sym parts)
 
 -- ---- each word reads back
 
 named :
-    (k : ℕ) → all in_word (tokenText (Word k)) ≡ true → closed (tokenText (Word k)) ≡ tokenText (Word k) ∷ [] →
-    tokenOf (tokenText (Word k)) ≡ Word k → Read (Word k)
-named k p q e = record { in-word = p; some = q; reads = e }
+    (k : ℕ) → all in_word (token_text (Word k)) ≡ true → closed (token_text (Word k)) ≡ token_text (Word k) ∷ [] →
+    token_of (token_text (Word k)) ≡ Word k → Read (Word k)
+named k p q e = record { in_word_law = p; some = q; reads = e }
 
-long-read : (b : Bool) → AllRead (cond b [] (Word LONG ∷ []))
-unfolding tokenOf nameFrom same
-long-read true = none
-long-read false = more (named LONG refl refl refl) none
+long_read : (b : Bool) → AllRead (cond b [] (Word LONG ∷ []))
+unfolding token_of name_from same
+long_read true = none
+long_read false = more (named LONG refl refl refl) none
 
-route-read : (p : WrittenRoute) → GoodRoute p → AllRead (routeTokens p)
-unfolding tokenOf nameFrom same
-route-read p h =
+route_read : (p : WrittenRoute) → GoodRoute p → AllRead (route_tokens p)
+unfolding token_of name_from same
+route_read p h =
     more (named FROM refl refl refl)
     (more (number_read p.tlat h.tlat)
     (more (number_read p.tlong h.tlong)
     (more (named TO refl refl refl)
     (more (number_read p.rlat h.rlat)
-    (more (number_read p.rlong h.rlong) (long-read (eqb p.long_path 0)))))))
+    (more (number_read p.rlong h.rlong) (long_read (eqb p.long_path 0)))))))
 
-factors-read : (p : WrittenFactors) → GoodFactors p → AllRead (factorsTokens p)
-unfolding tokenOf nameFrom same
-factors-read p h =
+factors_read : (p : WrittenFactors) → GoodFactors p → AllRead (factors_tokens p)
+unfolding token_of name_from same
+factors_read p h =
     more (named FACTORS refl refl refl)
     (more (number_read p.e h.e)
     (more (number_read p.f1 h.f1)
     (more (number_read p.f2 h.f2) (more (number_read p.es h.es) none))))
 
-pole-read : (p : WrittenPole) → GoodPole p → AllRead (poleTokens p)
-unfolding tokenOf nameFrom same
-pole-read p h =
+pole_read : (p : WrittenPole) → GoodPole p → AllRead (pole_tokens p)
+unfolding token_of name_from same
+pole_read p h =
     more (named POLE refl refl refl)
     (more (number_read p.lat h.lat) (more (number_read p.lon h.lon) none))
 
-model-read : (b : Bool) → AllRead (Word MODEL ∷ cond b (Word CCIR) (Word URSI) ∷ [])
-unfolding tokenOf nameFrom same
-model-read true = more (named MODEL refl refl refl) (more (named CCIR refl refl refl) none)
-model-read false = more (named MODEL refl refl refl) (more (named URSI refl refl refl) none)
+model_read : (b : Bool) → AllRead (Word MODEL ∷ cond b (Word CCIR) (Word URSI) ∷ [])
+unfolding token_of name_from same
+model_read true = more (named MODEL refl refl refl) (more (named CCIR refl refl refl) none)
+model_read false = more (named MODEL refl refl refl) (more (named URSI refl refl refl) none)
 
-edit-read : {e : WrittenEdit} → GoodEdit e → AllRead (editTokens e)
-unfolding tokenOf nameFrom same
-edit-read (sunspot {d} h) = more (named SUNSPOT refl refl refl) (more (number_read d h) none)
-edit-read (hour {d} h) = more (named HOUR refl refl refl) (more (number_read d h) none)
-edit-read (path {p} h) = more (named PATH refl refl refl) (route-read p h)
-edit-read (psc {p} h) = factors-read p h
-edit-read (pole {p} h) = pole-read p h
-edit-read (month {m} h) = more (named MONTH refl refl refl) (more (whole-read m h) none)
-edit-read (model {m} h) = model-read (eqb m 0)
+edit_read : {e : WrittenEdit} → GoodEdit e → AllRead (edit_tokens e)
+unfolding token_of name_from same
+edit_read (sunspot {d} h) = more (named SUNSPOT refl refl refl) (more (number_read d h) none)
+edit_read (hour {d} h) = more (named HOUR refl refl refl) (more (number_read d h) none)
+edit_read (path {p} h) = more (named PATH refl refl refl) (route_read p h)
+edit_read (psc {p} h) = factors_read p h
+edit_read (pole {p} h) = pole_read p h
+edit_read (month {m} h) = more (named MONTH refl refl refl) (more (whole_read m h) none)
+edit_read (model {m} h) = model_read (eqb m 0)
 
-pub call-read : {c : WrittenCall} → GoodCall c → AllRead (callTokens c)
-unfolding tokenOf nameFrom same
-call-read (begin {n} h) = more (whole-read n h) (more (named BEGIN refl refl refl) none)
-call-read (change {n} h g) = more (whole-read n h) (edit-read g)
-call-read (commit {n} h) = more (whole-read n h) (more (named COMMIT refl refl refl) none)
-call-read (cancel {n} h) = more (whole-read n h) (more (named CANCEL refl refl refl) none)
-call-read take_back = more (named TAKE refl refl refl) (more (named BACK refl refl refl) none)
-call-read (show {n} h) = by (eqb n 0)
+pub call_read : {c : WrittenCall} → GoodCall c → AllRead (call_tokens c)
+unfolding token_of name_from same
+call_read (begin {n} h) = more (whole_read n h) (more (named BEGIN refl refl refl) none)
+call_read (change {n} h g) = more (whole_read n h) (edit_read g)
+call_read (commit {n} h) = more (whole_read n h) (more (named COMMIT refl refl refl) none)
+call_read (cancel {n} h) = more (whole_read n h) (more (named CANCEL refl refl refl) none)
+call_read take_back = more (named TAKE refl refl refl) (more (named BACK refl refl refl) none)
+call_read (show {n} h) = by (eqb n 0)
   where
     by : (b : Bool) → AllRead (cond b (Word SHOW ∷ []) (whole n ∷ Word SHOW ∷ []))
     by true = more (named SHOW refl refl refl) none
-    by false = more (whole-read n h) (more (named SHOW refl refl refl) none)
+    by false = more (whole_read n h) (more (named SHOW refl refl refl) none)
 
-pub open-read : {o : WrittenInputs} → GoodInputs o → AllRead (openTokens o)
-unfolding tokenOf nameFrom same
-open-read {o} h =
+pub open_read : {o : WrittenInputs} → GoodInputs o → AllRead (open_tokens o)
+unfolding token_of name_from same
+open_read {o} h =
     more (named OPEN refl refl refl)
     (more (named MONTH refl refl refl)
-    (more (whole-read o.month h.month)
+    (more (whole_read o.month h.month)
     (more (named SUNSPOT refl refl refl)
     (more (number_read o.ssn h.ssn)
     (more (named HOUR refl refl refl)
     (more (number_read o.gmt h.gmt)
-    (all_both (route-read o.route h.route)
-    (all_both (factors-read o.psc h.psc)
-    (all_both (pole-read o.pole h.pole) (model-read (eqb o.model 0)))))))))))
+    (all_both (route_read o.route h.route)
+    (all_both (factors_read o.psc h.psc)
+    (all_both (pole_read o.pole h.pole) (model_read (eqb o.model 0)))))))))))

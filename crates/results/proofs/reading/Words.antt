@@ -10,33 +10,33 @@ use lib.Dec.{eqb, leb, ltb}
 use lib.ListN.{get_or, take, replicate}
 use lib.Seq.{append_snoc}
 use borrow.Author.Tests.{not-true, ne_eqb, leb-true, ltb-true, eqb-true}
-use Rattle.base.proofs.ladder.Ladders.{and-true, and_left, and_right, not_left}
-use Rattle.base.proofs.verdicts.Picks.{cond-false, never}
+use Rattle.base.proofs.ladder.Ladders.{and_true, and_left, and_right, not_left}
+use Rattle.base.proofs.verdicts.Picks.{cond_false, never}
 use Rattle.wording.specs.declared.number.Decimal.{Decimal}
 use Rattle.wording.specs.declared.token.Token.{Token}
 use Rattle.wording.specs.declared.token.Token.TheVariants.{End, Word, Number, Other}
 use Rattle.wording.specs.declared.token.Slot.{Slot}
 use Rattle.wording.specs.declared.token.Tokens.{Tokens}
-use Rattle.wording.specs.Number.{isDigit, is_written}
-use Rattle.wording.specs.Token.{names, ascii, uncommented, closed, wordsFrom, lineWords, same, nameFrom, numberOr, nameOr, tokenOf, slots_of, firstTokens, tokensOf}
-use Rattle.listing.specs.Written.{numberText}
-use Rattle.listing.proofs.reread.Bytes.{in_word, all, beginsNumber, number-in-word, number-begins}
+use Rattle.wording.specs.Number.{is_digit, is_written}
+use Rattle.wording.specs.Token.{names, ascii, uncommented, closed, words_from, line_words, same, name_from, number_or, name_or, token_of, slots_of, first_tokens, tokens_of}
+use Rattle.listing.specs.Written.{number_text}
+use Rattle.listing.proofs.reread.Bytes.{in_word, all, begins_number, number_in_word, number_begins}
 use Rattle.listing.proofs.reread.Reading.{read_number}
 
 -- ---- words and their text
 
 -- as it is written: a name by its number, or a number; no other word is
-abbrev pub tokenText : Token → List ℕ
-tokenText (Word k) = get_or (map ascii names) k []
-tokenText (Number d) = numberText d
-tokenText Other = []
-tokenText End = []
+abbrev pub token_text : Token → List ℕ
+token_text (Word k) = get_or (map ascii names) k []
+token_text (Number d) = number_text d
+token_text Other = []
+token_text End = []
 
 -- what its text is and reads as
 pub record Read (x : Token) : Type 0 where
-  pub in-word : all in_word (tokenText x) ≡ true
-  pub some : closed (tokenText x) ≡ tokenText x ∷ []
-  pub reads : tokenOf (tokenText x) ≡ x
+  pub in_word_law : all in_word (token_text x) ≡ true
+  pub some : closed (token_text x) ≡ token_text x ∷ []
+  pub reads : token_of (token_text x) ≡ x
 
 pub data AllRead : List Token → Type 0 where
   none : AllRead []
@@ -45,14 +45,14 @@ pub data AllRead : List Token → Type 0 where
 -- a blank and the word, for each
 unfoldable pub trailing : List Token → List ℕ
 trailing [] = []
-trailing (x ∷ l) = 32 ∷ (tokenText x ++ trailing l)
+trailing (x ∷ l) = 32 ∷ (token_text x ++ trailing l)
 
-pub trailing-both : (l m : List Token) → trailing (l ++ m) ≡ trailing l ++ trailing m
+pub trailing_both : (l m : List Token) → trailing (l ++ m) ≡ trailing l ++ trailing m
 unfolding trailing
-trailing-both [] m = refl
-trailing-both (x ∷ l) m =
-    ap (λ (y : List ℕ). 32 ∷ (tokenText x ++ y)) (trailing-both l m)
-    ∙ sym (ap (λ (y : List ℕ). 32 ∷ y) (append_assoc (tokenText x) (trailing l) (trailing m)))
+trailing_both [] m = refl
+trailing_both (x ∷ l) m =
+    ap (λ (y : List ℕ). 32 ∷ (token_text x ++ y)) (trailing_both l m)
+    ∙ sym (ap (λ (y : List ℕ). 32 ∷ y) (append_assoc (token_text x) (trailing l) (trailing m)))
 
 pub all_both : {l m : List Token} → AllRead l → AllRead m → AllRead (l ++ m)
 all_both none q = q
@@ -60,81 +60,81 @@ all_both (more r p) q = more r (all_both p q)
 
 -- ---- the bytes of a word
 
-abbrev pub onLine : ℕ → Bool
-onLine c = not (eqb c 10)
+abbrev pub on_line : ℕ → Bool
+on_line c = not (eqb c 10)
 
 module _ (c : ℕ) (h : in_word c ≡ true) where
   abbrev blank : Bool
   blank = eqb c 32 || eqb c 9 || eqb c 13
 
-  no-blank : blank ≡ false
-  no-blank =
+  no_blank : blank ≡ false
+  no_blank =
       not-true blank
-      (and_left (not blank) (not (eqb c 35)) (and_left (not blank && not (eqb c 35)) (onLine c) h))
+      (and_left (not blank) (not (eqb c 35)) (and_left (not blank && not (eqb c 35)) (on_line c) h))
 
-  no-comment : eqb c 35 ≡ false
-  no-comment =
+  no_comment : eqb c 35 ≡ false
+  no_comment =
       not-true (eqb c 35)
-      (and_right (not blank) (not (eqb c 35)) (and_left (not blank && not (eqb c 35)) (onLine c) h))
+      (and_right (not blank) (not (eqb c 35)) (and_left (not blank && not (eqb c 35)) (on_line c) h))
 
-  on_line : onLine c ≡ true
-  on_line = and_right (not blank && not (eqb c 35)) (onLine c) h
+  on_line_law : on_line c ≡ true
+  on_line_law = and_right (not blank && not (eqb c 35)) (on_line c) h
 
 -- ---- a word before other bytes
 
-past-comment : (w l : List ℕ) → all in_word w ≡ true → uncommented (w ++ l) ≡ w ++ uncommented l
+past_comment : (w l : List ℕ) → all in_word w ≡ true → uncommented (w ++ l) ≡ w ++ uncommented l
 unfolding uncommented
-past-comment [] l h = refl
-past-comment (c ∷ w) l h =
-    cond-false _ _ (no-comment c (and_left (in_word c) (all in_word w) h))
-    ∙ ap (λ (x : List ℕ). c ∷ x) (past-comment w l (and_right (in_word c) (all in_word w) h))
+past_comment [] l h = refl
+past_comment (c ∷ w) l h =
+    cond_false _ _ (no_comment c (and_left (in_word c) (all in_word w) h))
+    ∙ ap (λ (x : List ℕ). c ∷ x) (past_comment w l (and_right (in_word c) (all in_word w) h))
 
-word-goes-on : (v w l : List ℕ) → all in_word w ≡ true → wordsFrom v (w ++ l) ≡ wordsFrom (v ++ w) l
-unfolding wordsFrom
-word-goes-on v [] l h = sym (ap (λ (x : List ℕ). wordsFrom x l) (append-nil v))
-word-goes-on v (c ∷ w) l h =
-    cond-false _ _ (no-blank c (and_left (in_word c) (all in_word w) h))
-    ∙ word-goes-on (v ++ (c ∷ [])) w l (and_right (in_word c) (all in_word w) h)
-    ∙ ap (λ (x : List ℕ). wordsFrom x l) (append_snoc v c w)
+word_goes_on : (v w l : List ℕ) → all in_word w ≡ true → words_from v (w ++ l) ≡ words_from (v ++ w) l
+unfolding words_from
+word_goes_on v [] l h = sym (ap (λ (x : List ℕ). words_from x l) (append-nil v))
+word_goes_on v (c ∷ w) l h =
+    cond_false _ _ (no_blank c (and_left (in_word c) (all in_word w) h))
+    ∙ word_goes_on (v ++ (c ∷ [])) w l (and_right (in_word c) (all in_word w) h)
+    ∙ ap (λ (x : List ℕ). words_from x l) (append_snoc v c w)
 
-word-on-line : (w l : List ℕ) → all in_word w ≡ true → all onLine l ≡ true → all onLine (w ++ l) ≡ true
-word-on-line [] l h p = p
-word-on-line (c ∷ w) l h p =
-    and-true (on_line c (and_left (in_word c) (all in_word w) h))
-    (word-on-line w l (and_right (in_word c) (all in_word w) h) p)
+word_on_line : (w l : List ℕ) → all in_word w ≡ true → all on_line l ≡ true → all on_line (w ++ l) ≡ true
+word_on_line [] l h p = p
+word_on_line (c ∷ w) l h p =
+    and_true (on_line_law c (and_left (in_word c) (all in_word w) h))
+    (word_on_line w l (and_right (in_word c) (all in_word w) h) p)
 
 -- ---- words with blanks
 
-no-comments : {l : List Token} → AllRead l → uncommented (trailing l) ≡ trailing l
+no_comments : {l : List Token} → AllRead l → uncommented (trailing l) ≡ trailing l
 unfolding uncommented trailing
-no-comments none = refl
-no-comments (more {x} {l} r h) =
+no_comments none = refl
+no_comments (more {x} {l} r h) =
     ap (λ (y : List ℕ). 32 ∷ y)
-    (past-comment (tokenText x) (trailing l) r.in-word ∙ ap (λ (y : List ℕ). tokenText x ++ y) (no-comments h))
+    (past_comment (token_text x) (trailing l) r.in_word_law ∙ ap (λ (y : List ℕ). token_text x ++ y) (no_comments h))
 
 -- w being the letters of the word before them
-words-after : (w : List ℕ) {l : List Token} → AllRead l → wordsFrom w (trailing l) ≡ closed w ++ map tokenText l
-unfolding wordsFrom trailing
-words-after w none = sym (append-nil (closed w))
-words-after w (more {x} {l} r h) =
-    let rest = map tokenText l in
+words_after_law : (w : List ℕ) {l : List Token} → AllRead l → words_from w (trailing l) ≡ closed w ++ map token_text l
+unfolding words_from trailing
+words_after_law w none = sym (append-nil (closed w))
+words_after_law w (more {x} {l} r h) =
+    let rest = map token_text l in
     ap (λ (y : List (List ℕ)). closed w ++ y)
-    (word-goes-on [] (tokenText x) (trailing l) r.in-word
-    ∙ words-after (tokenText x) h
+    (word_goes_on [] (token_text x) (trailing l) r.in_word_law
+    ∙ words_after_law (token_text x) h
     ∙ ap (λ (y : List (List ℕ)). y ++ rest) r.some)
 
 -- no newline is among them
-pub trailing-on-line : {l : List Token} → AllRead l → all onLine (trailing l) ≡ true
+pub trailing_on_line : {l : List Token} → AllRead l → all on_line (trailing l) ≡ true
 unfolding trailing
-trailing-on-line none = refl
-trailing-on-line (more {x} {l} r h) = word-on-line (tokenText x) (trailing l) r.in-word (trailing-on-line h)
+trailing_on_line none = refl
+trailing_on_line (more {x} {l} r h) = word_on_line (token_text x) (trailing l) r.in_word_law (trailing_on_line h)
 
 -- ---- as tokens
 
 abbrev slot : Token → Slot
 slot x = record { token = x }
 
-slots_read : {l : List Token} → AllRead l → slots_of (map tokenText l) ≡ map slot l
+slots_read : {l : List Token} → AllRead l → slots_of (map token_text l) ≡ map slot l
 unfolding slots_of
 slots_read none = refl
 slots_read (more r h) = λ i. record { token = r.reads i } ∷ slots_read h i
@@ -143,65 +143,65 @@ slots_read (more r h) = λ i. record { token = r.reads i } ∷ slots_read h i
 abbrev pub held : List Token → Tokens
 held l = record { slots = take 25 (map slot l ++ replicate 25 (slot End)) }
 
-pub tokens-read : {l : List Token} → AllRead l → tokensOf (trailing l) ≡ held l
-unfolding tokensOf firstTokens
-tokens-read {l} h =
-    let words : lineWords (trailing l) ≡ map tokenText l = ap (wordsFrom []) (no-comments h) ∙ words-after [] h in
-    let slots : slots_of (lineWords (trailing l)) ≡ map slot l = ap slots_of words ∙ slots_read h in
+pub tokens_read : {l : List Token} → AllRead l → tokens_of (trailing l) ≡ held l
+unfolding tokens_of first_tokens
+tokens_read {l} h =
+    let words : line_words (trailing l) ≡ map token_text l = ap (words_from []) (no_comments h) ∙ words_after_law [] h in
+    let slots : slots_of (line_words (trailing l)) ≡ map slot l = ap slots_of words ∙ slots_read h in
     λ i. record { slots = take 25 (slots i ++ replicate 25 (slot End)) }
 
 -- a blank in front changes nothing
-pub blank-first : (l : List ℕ) → tokensOf (32 ∷ l) ≡ tokensOf l
-unfolding tokensOf uncommented wordsFrom
-blank-first l = refl
+pub blank_first : (l : List ℕ) → tokens_of (32 ∷ l) ≡ tokens_of l
+unfolding tokens_of uncommented words_from
+blank_first l = refl
 
 -- ---- numbers
 
 -- the first letter of a name comes after the digits
-abbrev startsLate : List ℕ → Bool
-startsLate [] = false
-startsLate (c ∷ l) = ltb 57 c
+abbrev starts_late : List ℕ → Bool
+starts_late [] = false
+starts_late (c ∷ l) = ltb 57 c
 
-abbrev allLate : List String → Bool
-allLate [] = true
-allLate (s ∷ l) = startsLate (ascii s) && allLate l
+abbrev all_late : List String → Bool
+all_late [] = true
+all_late (s ∷ l) = starts_late (ascii s) && all_late l
 
-byte-early : (c : ℕ) → (isDigit c || eqb c 45 || eqb c 46) ≡ true → c ≤ 57
-byte-early c h = by (isDigit c) (eqb c 45) refl refl h
+byte_early : (c : ℕ) → (is_digit c || eqb c 45 || eqb c 46) ≡ true → c ≤ 57
+byte_early c h = by (is_digit c) (eqb c 45) refl refl h
   where
-    by : (a b : Bool) → isDigit c ≡ a → eqb c 45 ≡ b → (a || b || eqb c 46) ≡ true → c ≤ 57
+    by : (a b : Bool) → is_digit c ≡ a → eqb c 45 ≡ b → (a || b || eqb c 46) ≡ true → c ≤ 57
     by true b p q e = leb-true c 57 (and_right (leb 48 c) (leb c 57) p)
     by false true p q e = omega (arith, eqb-true c 45 q)
     by false false p q e = omega (arith, eqb-true c 46 e)
 
-differ : (l w : List ℕ) → startsLate l ≡ true → beginsNumber w ≡ true → same l w ≡ false
+differ : (l w : List ℕ) → starts_late l ≡ true → begins_number w ≡ true → same l w ≡ false
 unfolding same
 differ [] w p q = never p
 differ (c ∷ l) [] p q = refl
 differ (c ∷ l) (d ∷ w) p q =
     let late = ltb-true 57 c p in
-    let early = byte-early d q in
+    let early = byte_early d q in
     not_left (same l w) (ne_eqb c d (λ e. omega arith))
 
-no_name : (k : ℕ) (l : List String) (w : List ℕ) → allLate l ≡ true → beginsNumber w ≡ true → nameFrom k l w ≡ Other
-unfolding nameFrom
+no_name : (k : ℕ) (l : List String) (w : List ℕ) → all_late l ≡ true → begins_number w ≡ true → name_from k l w ≡ Other
+unfolding name_from
 no_name k [] w p q = refl
 no_name k (s ∷ l) w p q =
-    cond-false _ _ (differ (ascii s) w (and_left (startsLate (ascii s)) (allLate l) p) q)
-    ∙ no_name (suc k) l w (and_right (startsLate (ascii s)) (allLate l) p) q
+    cond_false _ _ (differ (ascii s) w (and_left (starts_late (ascii s)) (all_late l) p) q)
+    ∙ no_name (suc k) l w (and_right (starts_late (ascii s)) (all_late l) p) q
 
-begun-closed : (w : List ℕ) → beginsNumber w ≡ true → closed w ≡ w ∷ []
-begun-closed [] h = never h
-begun-closed (c ∷ w) h = refl
+begun_closed : (w : List ℕ) → begins_number w ≡ true → closed w ≡ w ∷ []
+begun_closed [] h = never h
+begun_closed (c ∷ w) h = refl
 
 pub number_read : (d : Decimal) → is_written d ≡ true → Read (Number d)
-unfolding tokenOf
+unfolding token_of
 number_read d h =
-    let w = numberText d in
+    let w = number_text d in
     record {
-      in-word = number-in-word d h;
-      some = begun-closed w (number-begins d h);
+      in_word_law = number_in_word d h;
+      some = begun_closed w (number_begins d h);
       reads =
-          ap (λ (x : Token). nameOr x w) (no_name 0 names w refl (number-begins d h))
-          ∙ ap numberOr (read_number d h);
+          ap (λ (x : Token). name_or x w) (no_name 0 names w refl (number_begins d h))
+          ∙ ap number_or (read_number d h);
     }

@@ -14,33 +14,33 @@ use lib.ListN.{length, get_or, replicate, length-append, length-replicate, get_o
 use lib.Ieee.{Float, nan}
 use Rattle.base.specs.Single.{◌⊕◌, ◌⊗◌, decimal}
 use Rattle.base.specs.Fill.{fill}
-use Rattle.base.specs.Index.{mapWord, rows}
-use Rattle.base.specs.Blend.{IA, IB, IC, eslcofOf, esmcofOf, esucofOf, f2cofOf, fm3cofOf, ercofOf, cofionMaps, appended, cofionOf}
-use Rattle.base.proofs.lists.Fills.{length-fill, fill-at, fill-other}
+use Rattle.base.specs.Index.{map_word, rows}
+use Rattle.base.specs.Blend.{IA, IB, IC, eslcof_of, esmcof_of, esucof_of, f2cof_of, fm3cof_of, ercof_of, cofion_maps, appended, cofion_of}
+use Rattle.base.proofs.lists.Fills.{length_fill, fill_at, fill_other}
 use Rattle.base.proofs.lists.Maps.{run_length}
 use Rattle.base.proofs.ladder.Ladders.{six}
-use Rattle.base.proofs.ladder.Indexing.{reads-inside}
+use Rattle.base.proofs.ladder.Indexing.{reads_inside}
 use Rattle.maps.specs.Loop.{times, loop}
-use Rattle.maps.specs.Virtim.{GoodTable, Wave, hourWave, value_of, dailyOf, coefficientIn, rowValue, timeMapOf, virtimOf}
+use Rattle.maps.specs.Virtim.{GoodTable, Wave, hour_wave, value_of, daily_of, coefficient_in, row_value, time_map_of, virtim_of}
 
 -- ---- a row's series
 
-value-daily : (v : ℕ → Wave) (cof : List Float) (at n : ℕ) → value_of v cof at n ≡ dailyOf v (λ s. get_or cof (at + s) nan) n
-unfolding value_of dailyOf
-value-daily v cof at zero = ap (λ (i : ℕ). get_or cof i nan) (sym (add-zero at))
-value-daily v cof at (suc n) =
-    let p = value-daily v cof at n in
+value_daily : (v : ℕ → Wave) (cof : List Float) (at n : ℕ) → value_of v cof at n ≡ daily_of v (λ s. get_or cof (at + s) nan) n
+unfolding value_of daily_of
+value_daily v cof at zero = ap (λ (i : ℕ). get_or cof i nan) (sym (add-zero at))
+value_daily v cof at (suc n) =
+    let p = value_daily v cof at n in
     let a = add_assoc at (2 * n) 1 in
     let b = add_assoc at (2 * n) 2 in
     λ t. p t ⊕ (v n).s ⊗ get_or cof (a t) nan ⊕ (v n).c ⊗ get_or cof (b t) nan
 
 -- a series of n harmonics takes the coefficients 0 to 2 n
-pub daily-same :
-    (v : ℕ → Wave) (u u' : ℕ → Float) (n : ℕ) → ((s : ℕ) → s ≤ 2 * n → u s ≡ u' s) → dailyOf v u n ≡ dailyOf v u' n
-unfolding dailyOf
-daily-same v u u' zero e = e 0 (omega arith)
-daily-same v u u' (suc n) e =
-    let p = daily-same v u u' n (λ s h. e s (omega arith)) in
+pub daily_same :
+    (v : ℕ → Wave) (u u' : ℕ → Float) (n : ℕ) → ((s : ℕ) → s ≤ 2 * n → u s ≡ u' s) → daily_of v u n ≡ daily_of v u' n
+unfolding daily_of
+daily_same v u u' zero e = e 0 (omega arith)
+daily_same v u u' (suc n) e =
+    let p = daily_same v u u' n (λ s h. e s (omega arith)) in
     let a = e (2 * n + 1) (omega arith) in
     let b = e (2 * n + 2) (omega arith) in
     λ t. p t ⊕ (v n).s ⊗ a t ⊕ (v n).c ⊗ b t
@@ -48,8 +48,8 @@ daily-same v u u' (suc n) e =
 -- ---- the runs of COFION and the parts of AB
 
 -- where the coefficients of a map end, those of the next begin
-pub runs-meet : (k : ℕ) → k < 5 → get_or IA (k + 1) 0 ≡ get_or IA k 0 + get_or rows k 0 * get_or IB k 0
-runs-meet k h =
+pub runs_meet : (k : ℕ) → k < 5 → get_or IA (k + 1) 0 ≡ get_or IA k 0 + get_or rows k 0 * get_or IB k 0
+runs_meet k h =
     six (λ k. k < 5 → get_or IA (k + 1) 0 ≡ get_or IA k 0 + get_or rows k 0 * get_or IB k 0)
     (λ l. refl)
     (λ l. refl)
@@ -64,26 +64,26 @@ abbrev total : List (List Float) → ℕ
 total [] = 0
 total (l ∷ ls) = length l + total ls
 
-length-appended : (ls : List (List Float)) → length (appended ls) ≡ total ls
-length-appended [] = refl
-length-appended (l ∷ ls) = length-append l (appended ls) ∙ ap (λ (n : ℕ). length l + n) (length-appended ls)
+length_appended : (ls : List (List Float)) → length (appended ls) ≡ total ls
+length_appended [] = refl
+length_appended (l ∷ ls) = length-append l (appended ls) ∙ ap (λ (n : ℕ). length l + n) (length_appended ls)
 
-length-cofion : (f2 month : List ℕ) (s : Float) → length (cofionOf f2 month s) ≡ 2604
-unfolding cofionOf
-length-cofion f2 month s =
-    let a : length (eslcofOf month s) ≡ 275 = run_length f2 month s 0 (lit< tt) in
-    let b : length (esmcofOf month s) ≡ 427 = run_length f2 month s 1 (lit< tt) in
-    let c : length (esucofOf month s) ≡ 275 = run_length f2 month s 2 (lit< tt) in
-    let d : length (f2cofOf f2 s) ≡ 988 = run_length f2 month s 3 (lit< tt) in
-    let e : length (fm3cofOf month s) ≡ 441 = run_length f2 month s 4 (lit< tt) in
-    let f : length (ercofOf month s) ≡ 198 = run_length f2 month s 5 (lit< tt) in
-    length-appended (cofionMaps f2 month s) ∙ omega arith
+length_cofion : (f2 month : List ℕ) (s : Float) → length (cofion_of f2 month s) ≡ 2604
+unfolding cofion_of
+length_cofion f2 month s =
+    let a : length (eslcof_of month s) ≡ 275 = run_length f2 month s 0 (lit< tt) in
+    let b : length (esmcof_of month s) ≡ 427 = run_length f2 month s 1 (lit< tt) in
+    let c : length (esucof_of month s) ≡ 275 = run_length f2 month s 2 (lit< tt) in
+    let d : length (f2cof_of f2 s) ≡ 988 = run_length f2 month s 3 (lit< tt) in
+    let e : length (fm3cof_of month s) ≡ 441 = run_length f2 month s 4 (lit< tt) in
+    let f : length (ercof_of month s) ≡ 198 = run_length f2 month s 5 (lit< tt) in
+    length_appended (cofion_maps f2 month s) ∙ omega arith
 
 -- and those of the last end where COFION does
-pub runs-end :
+pub runs_end :
     (f2 month : List ℕ) (s : Float) →
-    get_or IA 5 0 + get_or rows 5 0 * get_or IB 5 0 ≡ length (cofionOf f2 month s) + 1
-runs-end f2 month s = ap (λ (n : ℕ). n + 1) (sym (length-cofion f2 month s))
+    get_or IA 5 0 + get_or rows 5 0 * get_or IB 5 0 ≡ length (cofion_of f2 month s) + 1
+runs_end f2 month s = ap (λ (n : ℕ). n + 1) (sym (length_cofion f2 month s))
 
 -- where the rows of a map end, those of the next begin
 pub parts_meet : (k : ℕ) → k < 5 → get_or IC (k + 1) 0 ≡ get_or IC k 0 + get_or rows k 0
@@ -98,22 +98,22 @@ parts_meet k h =
     k (omega arith) h
 
 module _ (cof : List Float) (index : List ℕ) (gmt : Float) where
-  length-times :
-      (n : ℕ) → length (times (timeMapOf (hourWave gmt) cof index) 0 n (replicate 318 (decimal 0 1))) ≡ 318
-  unfolding times timeMapOf
-  length-times zero = length-replicate 318 (decimal 0 1)
-  length-times (suc n) =
-      length-fill (rowValue (hourWave gmt) cof index (0 + n)) (get_or IC (0 + n) 0 - 1)
-      (times (timeMapOf (hourWave gmt) cof index) 0 n (replicate 318 (decimal 0 1))) (mapWord index (0 + n) 8 + 1)
-      ∙ length-times n
+  length_times :
+      (n : ℕ) → length (times (time_map_of (hour_wave gmt) cof index) 0 n (replicate 318 (decimal 0 1))) ≡ 318
+  unfolding times time_map_of
+  length_times zero = length-replicate 318 (decimal 0 1)
+  length_times (suc n) =
+      length_fill (row_value (hour_wave gmt) cof index (0 + n)) (get_or IC (0 + n) 0 - 1)
+      (times (time_map_of (hour_wave gmt) cof index) 0 n (replicate 318 (decimal 0 1))) (map_word index (0 + n) 8 + 1)
+      ∙ length_times n
 
-  length-virtim : length (virtimOf cof index gmt) ≡ 318
-  unfolding virtimOf loop
-  length-virtim = length-times 6
+  length_virtim : length (virtim_of cof index gmt) ≡ 318
+  unfolding virtim_of loop
+  length_virtim = length_times 6
 
   -- and those of the last end where AB does
-  pub parts-end : get_or IC 5 0 + get_or rows 5 0 ≡ length (virtimOf cof index gmt) + 1
-  parts-end = ap (λ (n : ℕ). n + 1) (sym length-virtim)
+  pub parts_end : get_or IC 5 0 + get_or rows 5 0 ≡ length (virtim_of cof index gmt) + 1
+  parts_end = ap (λ (n : ℕ). n + 1) (sym length_virtim)
 
 from_one : (k : ℕ) → k < 6 → 1 ≤ get_or IC k 0
 from_one = six (λ k. 1 ≤ get_or IC k 0) (lit≤ tt) (lit≤ tt) (lit≤ tt) (lit≤ tt) (lit≤ tt) (lit≤ tt)
@@ -159,9 +159,9 @@ module _ (row : ℕ → ℕ → Float) (last : ℕ → ℕ) (few : (k : ℕ) →
     own : (j : ℕ) → j ≤ last n → get_or next (start + j) nan ≡ row n j
     own j l =
         let a = few n h in
-        let b = (reads-inside n h (last n) 0 (omega arith) (omega arith)).result in
+        let b = (reads_inside n h (last n) 0 (omega arith) (omega arith)).result in
         let c = f.size in
-        fill-at (row n) start ab (last n + 1) j nan (omega arith) (omega arith)
+        fill_at (row n) start ab (last n + 1) j nan (omega arith) (omega arith)
 
     at_next : (k j : ℕ) → k < suc n → j ≤ last k → get_or next (get_or IC k 0 - 1 + j) nan ≡ row k j
     at_next k j q l = elim (dec_lt k n) [
@@ -169,65 +169,65 @@ module _ (row : ℕ → ℕ → Float) (last : ℕ → ℕ) (few : (k : ℕ) →
           let a = apart k n p h in
           let b = few k (omega arith) in
           let c = from_one k (omega arith) in
-          fill-other (row n) start ab (last n + 1) (get_or IC k 0 - 1 + j) nan (inl (omega arith)) ∙ f.at k j p l
+          fill_other (row n) start ab (last n + 1) (get_or IC k 0 - 1 + j) nan (inl (omega arith)) ∙ f.at k j p l
       | no p ↦
           let e : k ≡ n = omega arith in
           let d = ap last e in
           ap (λ (i : ℕ). get_or next (get_or IC i 0 - 1 + j) nan) e ∙ own j (omega arith) ∙ ap (λ (i : ℕ). row i j) (sym e)
     ]
 
-    other-next :
+    other_next :
         (p : ℕ) → p < 318 → ((k j : ℕ) → k < suc n → j ≤ last k → get_or IC k 0 - 1 + j ≡ p → ⊥) → get_or next p nan ≡ decimal 0 1
-    other-next p l free =
+    other_next p l free =
         let before = f.other p l (λ k j q m e. free k j (omega arith) m e) in
         elim (dec_lt p start) [
-          | yes q ↦ fill-other (row n) start ab (last n + 1) p nan (inl q) ∙ before
+          | yes q ↦ fill_other (row n) start ab (last n + 1) p nan (inl q) ∙ before
           | no q ↦ elim (dec_lt p (start + (last n + 1))) [
             | yes r ↦ absurd (free n (p - start) (omega arith) (omega arith) (omega arith))
-            | no r ↦ fill-other (row n) start ab (last n + 1) p nan (inr (omega arith)) ∙ before
+            | no r ↦ fill_other (row n) start ab (last n + 1) p nan (inr (omega arith)) ∙ before
           ]
         ]
 
     more : Filled row last (suc n) next
-    more = record { size = length-fill (row n) start ab (last n + 1) ∙ f.size; at = at_next; other = other-next }
+    more = record { size = length_fill (row n) start ab (last n + 1) ∙ f.size; at = at_next; other = other_next }
 
 -- ---- the theorems
 
 module _ (cof : List Float) (index : List ℕ) (gmt : Float) (good : GoodTable index) where
   abbrev Row : ℕ → ℕ → Float
-  Row = rowValue (hourWave gmt) cof index
+  Row = row_value (hour_wave gmt) cof index
 
   abbrev Last : ℕ → ℕ
-  Last k = mapWord index k 8
+  Last k = map_word index k 8
 
   abbrev after : ℕ → List Float
-  after n = times (timeMapOf (hourWave gmt) cof index) 0 n (replicate 318 (decimal 0 1))
+  after n = times (time_map_of (hour_wave gmt) cof index) 0 n (replicate 318 (decimal 0 1))
 
   filled : (n : ℕ) → n ≤ 6 → Filled Row Last n (after n)
-  unfolding times timeMapOf
+  unfolding times time_map_of
   filled zero h = none Row Last (λ k l. (good k l).terms)
   filled (suc n) h =
-      subst (λ (i : ℕ). Filled Row Last (suc n) (timeMapOf (hourWave gmt) cof index i (after n))) (sym (zero-add n))
+      subst (λ (i : ℕ). Filled Row Last (suc n) (time_map_of (hour_wave gmt) cof index i (after n))) (sym (zero-add n))
       (more Row Last (λ k l. (good k l).terms) n (omega arith) (after n) (filled n (omega arith)))
 
-  all : Filled Row Last 6 (virtimOf cof index gmt)
-  unfolding virtimOf loop
+  all : Filled Row Last 6 (virtim_of cof index gmt)
+  unfolding virtim_of loop
   all = filled 6 (omega arith)
 
-  row-daily : (k j : ℕ) → Row k j ≡ dailyOf (hourWave gmt) (λ s. coefficientIn cof k s j) (mapWord index k 9)
-  unfolding rowValue
-  row-daily k j = value-daily (hourWave gmt) cof (get_or IA k 0 - 1 + j * get_or IB k 0) (mapWord index k 9)
+  row_daily : (k j : ℕ) → Row k j ≡ daily_of (hour_wave gmt) (λ s. coefficient_in cof k s j) (map_word index k 9)
+  unfolding row_value
+  row_daily k j = value_daily (hour_wave gmt) cof (get_or IA k 0 - 1 + j * get_or IB k 0) (map_word index k 9)
 
   -- AB at a row of a map up to word 8: the row's daily series
-  pub ab-at :
-      (k j : ℕ) → k < 6 → j ≤ mapWord index k 8 →
-      get_or (virtimOf cof index gmt) (get_or IC k 0 - 1 + j) nan
+  pub ab_at :
+      (k j : ℕ) → k < 6 → j ≤ map_word index k 8 →
+      get_or (virtim_of cof index gmt) (get_or IC k 0 - 1 + j) nan
       ≡
-      dailyOf (hourWave gmt) (λ s. coefficientIn cof k s j) (mapWord index k 9)
-  ab-at k j h l = all.at k j h l ∙ row-daily k j
+      daily_of (hour_wave gmt) (λ s. coefficient_in cof k s j) (map_word index k 9)
+  ab_at k j h l = all.at k j h l ∙ row_daily k j
 
   -- and at every place that is no such row
-  pub ab-other :
-      (p : ℕ) → p < 318 → ((k j : ℕ) → k < 6 → j ≤ mapWord index k 8 → get_or IC k 0 - 1 + j ≡ p → ⊥) →
-      get_or (virtimOf cof index gmt) p nan ≡ decimal 0 1
-  ab-other = all.other
+  pub ab_other :
+      (p : ℕ) → p < 318 → ((k j : ℕ) → k < 6 → j ≤ map_word index k 8 → get_or IC k 0 - 1 + j ≡ p → ⊥) →
+      get_or (virtim_of cof index gmt) p nan ≡ decimal 0 1
+  ab_other = all.other

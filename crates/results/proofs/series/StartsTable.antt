@@ -11,28 +11,28 @@ use lib.Seq.{ext_get_or}
 use lib.ListN.{length, get_or}
 use lib.Ieee.{Float, nan}
 use Rattle.base.specs.Fill.{tabulate}
-use Rattle.base.specs.Index.{mapWord, rows}
+use Rattle.base.specs.Index.{map_word, rows}
 use Rattle.base.specs.Blend.{IA, IB, IC}
-use Rattle.maps.specs.Virtim.{GoodTable, StartsRule, hourWave, dailyOf, virtimOf}
+use Rattle.maps.specs.Virtim.{GoodTable, StartsRule, hour_wave, daily_of, virtim_of}
 use Rattle.maps.proofs.lists.SeriesStarts.{carried}
-use Rattle.results.proofs.series.DailySeries.{ab-at}
+use Rattle.results.proofs.series.DailySeries.{ab_at}
 
 -- ---- there is one
 
 -- where the rows of the map k start
-abbrev map-starts : ℕ → List ℕ
-map-starts k = tabulate (λ j. get_or IA k 0 - 1 + j * get_or IB k 0) (get_or rows k 0)
+abbrev map_starts : ℕ → List ℕ
+map_starts k = tabulate (λ j. get_or IA k 0 - 1 + j * get_or IB k 0) (get_or rows k 0)
 
-abbrev all-starts : List ℕ
-all-starts = map-starts 0 ++ (map-starts 1 ++ (map-starts 2 ++ (map-starts 3 ++ (map-starts 4 ++ map-starts 5))))
+abbrev all_starts : List ℕ
+all_starts = map_starts 0 ++ (map_starts 1 ++ (map_starts 2 ++ (map_starts 3 ++ (map_starts 4 ++ map_starts 5))))
 
-all-long : length all-starts ≡ 318
+all_long : length all_starts ≡ 318
 unfolding tabulate
-all-long = refl
+all_long = refl
 
-all-ruled : StartsRule all-starts
+all_ruled : StartsRule all_starts
 unfolding tabulate
-all-ruled = carried all-starts tt
+all_ruled = carried all_starts tt
 
 -- ---- and no other
 
@@ -78,17 +78,17 @@ pub one_table :
     × (length starts ≡ 318)
     × StartsRule starts
     × ((other : List ℕ) → length other ≡ 318 → StartsRule other → other ≡ starts)
-one_table = (all-starts, all-long, all-ruled, λ other l f. same other all-starts l all-long f all-ruled)
+one_table = (all_starts, all_long, all_ruled, λ other l f. same other all_starts l all_long f all_ruled)
 
 -- ---- AB by such a table
 
-pub hour-from :
+pub hour_from_law :
     (starts : List ℕ) → StartsRule starts → (cof : List Float) (index : List ℕ) (gmt : Float) → GoodTable index →
-    (k j : ℕ) → k < 6 → j ≤ mapWord index k 8 →
-    get_or (virtimOf cof index gmt) (get_or IC k 0 - 1 + j) nan
+    (k j : ℕ) → k < 6 → j ≤ map_word index k 8 →
+    get_or (virtim_of cof index gmt) (get_or IC k 0 - 1 + j) nan
     ≡
-    dailyOf (hourWave gmt) (λ s. get_or cof (get_or starts (get_or IC k 0 - 1 + j) 0 + s) nan) (mapWord index k 9)
-hour-from starts rule cof index gmt good k j h l =
+    daily_of (hour_wave gmt) (λ s. get_or cof (get_or starts (get_or IC k 0 - 1 + j) 0 + s) nan) (map_word index k 9)
+hour_from_law starts rule cof index gmt good k j h l =
     let g = good k h in
-    ab-at cof index gmt good k j h l
-    ∙ ap (λ (i : ℕ). dailyOf (hourWave gmt) (λ s. get_or cof (i + s) nan) (mapWord index k 9)) (sym (rule.at k j h (omega arith)))
+    ab_at cof index gmt good k j h l
+    ∙ ap (λ (i : ℕ). daily_of (hour_wave gmt) (λ s. get_or cof (i + s) nan) (map_word index k 9)) (sym (rule.at k j h (omega arith)))

@@ -1,10 +1,10 @@
 -- Closed desks, said desk by desk, are those that the laws about lists take. Assumes nothing.
 use mathlib.Core.Path.{◌≡◌, sym}
 use Rattle.worksheet.specs.declared.desks.Worksheet.{Worksheet}
-use Rattle.worksheet.proofs.drafts.Drafts.{atRest}
+use Rattle.worksheet.proofs.drafts.Drafts.{at_rest}
 use Rattle.results.specs.Insurer.{DesksClosed}
 
-pub at_rest : (w : Worksheet) → DesksClosed w → atRest w ≡ w
+pub at_rest : (w : Worksheet) → DesksClosed w → at_rest w ≡ w
 at_rest w h =
     λ t. record {
       inputs = w.inputs;

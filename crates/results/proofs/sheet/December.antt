@@ -7,43 +7,43 @@ use Prim.Native.Nat.{ℕ}
 use lib.ListN.{length}
 use lib.Ieee.{Float}
 use Rattle.base.specs.declared.refusal.Verdict.TheVariants.{Accepted}
-use Rattle.base.specs.Ranges.{monthCheck, modelCheck}
+use Rattle.base.specs.Ranges.{month_check, model_check}
 use Rattle.maps.specs.declared.inputs.Inputs.{Inputs}
-use Rattle.maps.specs.Figures.{sheetPath, figuresOf, points_of}
+use Rattle.maps.specs.Figures.{sheet_path, figures_of, points_of}
 use Rattle.worksheet.specs.declared.inputs.Edit.TheVariants.{Month, Model}
-use Rattle.worksheet.specs.Inputs.{editCheck, edited}
-use Rattle.worksheet.specs.Desks.{draftAt, withDraft, inputsOf, staleOf, movedTo, outcome, deskCheck, closedCheck, draftCheck, freshCheck, freshSheet, openOf, beginCheck, beginOf, changeCheck, editedDraft, changeOf, commitCheck, commitOf}
-use Rattle.worksheet.specs.Showing.{Source, yearFilesCheck, yearly}
+use Rattle.worksheet.specs.Inputs.{edit_check, edited}
+use Rattle.worksheet.specs.Desks.{draft_at, with_draft, inputs_of, stale_of, moved_to, outcome, desk_check, closed_check, draft_check, fresh_check, fresh_sheet, open_of, begin_check, begin_of, change_check, edited_draft, change_of, commit_check, commit_of}
+use Rattle.worksheet.specs.Showing.{Source, year_files_check, yearly}
 use Rattle.worksheet.specs.Journal.{Call, begin, change, commit, show, Answer, told, shown, Entry, step, run}
-use Rattle.results.specs.OneYear.{part_at, recordAt, toDecember}
-use Rattle.results.proofs.sheet.OwnParts.{year-always-shown}
+use Rattle.results.specs.OneYear.{part_at, record_at, to_december}
+use Rattle.results.proofs.sheet.OwnParts.{year_always_shown}
 
 abbrev changes : List Call
 changes = begin 1 ∷ change 1 (Month 12) ∷ change 1 (Model 1) ∷ commit 1 ∷ []
 
-abbrev inDecember : Inputs → Inputs
-inDecember i = edited (Model 1) (edited (Month 12) i)
+abbrev in_december : Inputs → Inputs
+in_december i = edited (Model 1) (edited (Month 12) i)
 
-abbrev answersOf : List Entry → List Answer
-answersOf = map (λ (e : Entry). e.answer)
+abbrev answers_of : List Entry → List Answer
+answers_of = map (λ (e : Entry). e.answer)
 
-abbrev fourAnd : Answer → List Answer
-fourAnd r = told Accepted ∷ told Accepted ∷ told Accepted ∷ told Accepted ∷ r ∷ []
+abbrev four_and : Answer → List Answer
+four_and r = told Accepted ∷ told Accepted ∷ told Accepted ∷ told Accepted ∷ r ∷ []
 
 module _ (source : Source) (i : Inputs) (lent : List Float) where
   answered :
-      answersOf (run source (toDecember lent) (openOf i).sheet).entries
-      ≡ fourAnd (step source (show 0 lent) (run source changes (openOf i).sheet).sheet).answer
-  unfolding run step openOf freshSheet draftAt withDraft inputsOf staleOf movedTo outcome deskCheck closedCheck draftCheck freshCheck beginCheck beginOf changeCheck editedDraft changeOf commitCheck commitOf editCheck edited monthCheck modelCheck
+      answers_of (run source (to_december lent) (open_of i).sheet).entries
+      ≡ four_and (step source (show 0 lent) (run source changes (open_of i).sheet).sheet).answer
+  unfolding run step open_of fresh_sheet draft_at with_draft inputs_of stale_of moved_to outcome desk_check closed_check draft_check fresh_check begin_check begin_of change_check edited_draft change_of commit_check commit_of edit_check edited month_check model_check
   answered = refl
 
 -- over any year file that refuses nothing of month 12 and URSI
-pub december : (s : List ℕ) → yearFilesCheck s 12 1 ≡ Accepted → (i : Inputs) → (openOf i).answer ≡ Accepted →
+pub december : (s : List ℕ) → year_files_check s 12 1 ≡ Accepted → (i : Inputs) → (open_of i).answer ≡ Accepted →
     (lent : List Float) → length lent ≡ 151 →
-    answersOf (run (yearly s) (toDecember lent) (openOf i).sheet).entries
+    answers_of (run (yearly s) (to_december lent) (open_of i).sheet).entries
     ≡
-    fourAnd
-    (shown (points_of (sheetPath (inDecember i)).count) (figuresOf (recordAt s 12 1) (part_at s 11) (inDecember i)))
+    four_and
+    (shown (points_of (sheet_path (in_december i)).count) (figures_of (record_at s 12 1) (part_at s 11) (in_december i)))
 unfolding answered
 december s good i h lent l =
-    answered (yearly s) i lent ∙ ap fourAnd (year-always-shown s i h changes lent l good)
+    answered (yearly s) i lent ∙ ap four_and (year_always_shown s i h changes lent l good)

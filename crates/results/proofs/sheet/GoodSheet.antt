@@ -5,16 +5,16 @@ use mathlib.Core.Path.{◌≡◌, ap}
 use mathlib.Core.List.{List}
 use lib.Ieee.{Float}
 use Rattle.base.specs.declared.refusal.Verdict.{Verdict}
-use Rattle.results.specs.ExhibitedFiles.{goodRecord, goodMonthFile}
-use Rattle.results.proofs.files.GoodFiles.{files-accepted}
+use Rattle.results.specs.ExhibitedFiles.{good_record, good_month_file}
+use Rattle.results.proofs.files.GoodFiles.{files_accepted}
 use Rattle.maps.specs.declared.inputs.Inputs.{Inputs}
-use Rattle.maps.specs.Figures.{sheetPath, figuresOf, pointsOr, shownOf, figuresBuffer, points_of}
-use Rattle.maps.proofs.sheet.Alone.{all-written}
+use Rattle.maps.specs.Figures.{sheet_path, figures_of, points_or, shown_of, figures_buffer, points_of}
+use Rattle.maps.proofs.sheet.Alone.{all_written}
 
 module _ (x : Inputs) where
-  pub sheet-shown : shownOf goodRecord goodMonthFile x ≡ points_of (sheetPath x).count
-  unfolding shownOf
-  sheet-shown = ap (λ (v : Verdict). pointsOr v (sheetPath x).count) files-accepted
+  pub sheet_shown_law : shown_of good_record good_month_file x ≡ points_of (sheet_path x).count
+  unfolding shown_of
+  sheet_shown_law = ap (λ (v : Verdict). points_or v (sheet_path x).count) files_accepted
 
-  pub sheet-written : (out : List Float) → figuresBuffer goodRecord goodMonthFile x out ≡ figuresOf goodRecord goodMonthFile x
-  sheet-written out = all-written goodRecord goodMonthFile x out files-accepted
+  pub sheet_written : (out : List Float) → figures_buffer good_record good_month_file x out ≡ figures_of good_record good_month_file x
+  sheet_written out = all_written good_record good_month_file x out files_accepted

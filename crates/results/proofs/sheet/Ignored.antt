@@ -15,51 +15,51 @@ use Rattle.base.specs.declared.refusal.Refusal.TheVariants.{Record}
 use Rattle.base.specs.declared.refusal.Verdict.{Verdict}
 use Rattle.base.specs.declared.refusal.Verdict.TheVariants.{Accepted, Refused}
 use Rattle.base.specs.Single.{◌⊕◌, ◌⊗◌}
-use Rattle.base.specs.Refusal.{◌then◌, writtenOver}
-use Rattle.base.specs.MonthFile.{monthFileCheck}
-use Rattle.base.specs.Finite.{recordWordsCheck, tableWordsCheck}
-use Rattle.base.specs.Files.{filesCheck}
+use Rattle.base.specs.Refusal.{◌then◌, written_over}
+use Rattle.base.specs.MonthFile.{month_file_check}
+use Rattle.base.specs.Finite.{record_words_check, table_words_check}
+use Rattle.base.specs.Files.{files_check}
 use Rattle.base.specs.Tables.{start_of, achi, bchi, anew, bnew, abmap}
 use Rattle.base.specs.Words.{float_at}
-use Rattle.base.specs.Index.{index_of, indexCheck}
-use Rattle.base.specs.Blend.{hmymOf, fakmapOf}
+use Rattle.base.specs.Index.{index_of, index_check}
+use Rattle.base.specs.Blend.{hmym_of, fakmap_of}
 use Rattle.results.specs.LaterBytes.{Alike}
-use Rattle.results.proofs.files.Later.{float-alike, file-alike, tables-alike, records-alike, check-alike, index-alike, cofion-month, cofion-record, hmym-alike, fakmap-alike}
+use Rattle.results.proofs.files.Later.{float_alike, file_alike, tables_alike, records_alike, check_alike, index_alike, cofion_month, cofion_record, hmym_alike, fakmap_alike}
 use Rattle.maps.specs.declared.inputs.Inputs.{Inputs}
 use Rattle.maps.specs.declared.ionosphere.layers.Monthly.{Monthly}
-use Rattle.maps.specs.Virtim.{virtimOf}
-use Rattle.maps.specs.Layers.{sunOf, termOf, abmapAt, monthlyOf}
-use Rattle.maps.specs.Figures.{SheetHour, hour, hourFrom, hourOf, figuresTo, sheetPath, figuresOf, pointsOr, shownOf, figuresBuffer}
+use Rattle.maps.specs.Virtim.{virtim_of}
+use Rattle.maps.specs.Layers.{sun_of, term_of, abmap_at, monthly_of}
+use Rattle.maps.specs.Figures.{SheetHour, hour, hour_from, hour_of, figures_to, sheet_path, figures_of, points_or, shown_of, figures_buffer}
 
 -- ---- the month file alone, beside any record
 
 module _ (s t : List ℕ) (a : Alike 38552 s t) where
-  term-alike : (x y k : ℕ) (ssn : Float) → start_of x + 4 * k + 4 ≤ 38552 → start_of y + 4 * k + 4 ≤ 38552 → termOf s x y k ssn ≡ termOf t x y k ssn
-  unfolding termOf
-  term-alike x y k ssn p q =
-      let u = float-alike 38552 s t a (start_of x + 4 * k) p in
-      let v = float-alike 38552 s t a (start_of y + 4 * k) q in
+  term_alike : (x y k : ℕ) (ssn : Float) → start_of x + 4 * k + 4 ≤ 38552 → start_of y + 4 * k + 4 ≤ 38552 → term_of s x y k ssn ≡ term_of t x y k ssn
+  unfolding term_of
+  term_alike x y k ssn p q =
+      let u = float_alike 38552 s t a (start_of x + 4 * k) p in
+      let v = float_alike 38552 s t a (start_of y + 4 * k) q in
       λ i. u i ⊕ v i ⊗ ssn
 
-  abmap-alike : (c k : ℕ) → start_of abmap + 4 * (c * 2 + k) + 4 ≤ 38552 → abmapAt s c k ≡ abmapAt t c k
-  unfolding abmapAt
-  abmap-alike c k p = float-alike 38552 s t a (start_of abmap + 4 * (c * 2 + k)) p
+  abmap_alike : (c k : ℕ) → start_of abmap + 4 * (c * 2 + k) + 4 ≤ 38552 → abmap_at s c k ≡ abmap_at t c k
+  unfolding abmap_at
+  abmap_alike c k p = float_alike 38552 s t a (start_of abmap + 4 * (c * 2 + k)) p
 
-  monthly-alike : (month : ℕ) (ssn : Float) → monthlyOf s month ssn ≡ monthlyOf t month ssn
-  unfolding monthlyOf
-  monthly-alike month ssn =
-      let chi0 = term-alike achi bchi 0 ssn (lit≤ tt) (lit≤ tt) in
-      let chi1 = term-alike achi bchi 1 ssn (lit≤ tt) (lit≤ tt) in
-      let new0 = term-alike anew bnew 0 ssn (lit≤ tt) (lit≤ tt) in
-      let new1 = term-alike anew bnew 1 ssn (lit≤ tt) (lit≤ tt) in
-      let new2 = term-alike anew bnew 2 ssn (lit≤ tt) (lit≤ tt) in
-      let m00 = abmap-alike 0 0 (lit≤ tt) in
-      let m01 = abmap-alike 0 1 (lit≤ tt) in
-      let m10 = abmap-alike 1 0 (lit≤ tt) in
-      let m11 = abmap-alike 1 1 (lit≤ tt) in
+  monthly_alike : (month : ℕ) (ssn : Float) → monthly_of s month ssn ≡ monthly_of t month ssn
+  unfolding monthly_of
+  monthly_alike month ssn =
+      let chi0 = term_alike achi bchi 0 ssn (lit≤ tt) (lit≤ tt) in
+      let chi1 = term_alike achi bchi 1 ssn (lit≤ tt) (lit≤ tt) in
+      let new0 = term_alike anew bnew 0 ssn (lit≤ tt) (lit≤ tt) in
+      let new1 = term_alike anew bnew 1 ssn (lit≤ tt) (lit≤ tt) in
+      let new2 = term_alike anew bnew 2 ssn (lit≤ tt) (lit≤ tt) in
+      let m00 = abmap_alike 0 0 (lit≤ tt) in
+      let m01 = abmap_alike 0 1 (lit≤ tt) in
+      let m10 = abmap_alike 1 0 (lit≤ tt) in
+      let m11 = abmap_alike 1 1 (lit≤ tt) in
       λ i.
       record {
-        sun = sunOf month;
+        sun = sun_of month;
         chi0 = chi0 i;
         chi1 = chi1 i;
         new0 = new0 i;
@@ -71,75 +71,75 @@ module _ (s t : List ℕ) (a : Alike 38552 s t) where
         ratio_bet = m11 i;
       }
 
-  month-files : (f : List ℕ) → filesCheck f s ≡ filesCheck f t
-  unfolding filesCheck
-  month-files f =
-      let walked = file-alike s t a in
-      let words = tables-alike s t a in
-      let index = check-alike 38552 s t a (lit≤ tt) in
-      λ i. cond (leb 7904 (length f)) (walked i then recordWordsCheck f 1 then words i then index i) (Refused Record)
+  month_files : (f : List ℕ) → files_check f s ≡ files_check f t
+  unfolding files_check
+  month_files f =
+      let walked = file_alike s t a in
+      let words = tables_alike s t a in
+      let index = check_alike 38552 s t a (lit≤ tt) in
+      λ i. cond (leb 7904 (length f)) (walked i then record_words_check f 1 then words i then index i) (Refused Record)
 
   module _ (f : List ℕ) (x : Inputs) where
-    month-hour : hourOf f s x ≡ hourOf f t x
-    unfolding hourOf hourFrom
-    month-hour =
-        let cof = cofion-month s t a f x.ssn in
-        let index = index-alike 38552 s t a (lit≤ tt) in
-        let monthly = monthly-alike x.month x.ssn in
-        let hmym = hmym-alike s t a x.ssn in
-        let fakmap = fakmap-alike s t a in
-        λ i. hour (virtimOf (cof i) (index i) x.gmt) (index i) (monthly i) (hmym i) (fakmap i)
+    month_hour : hour_of f s x ≡ hour_of f t x
+    unfolding hour_of hour_from
+    month_hour =
+        let cof = cofion_month s t a f x.ssn in
+        let index = index_alike 38552 s t a (lit≤ tt) in
+        let monthly = monthly_alike x.month x.ssn in
+        let hmym = hmym_alike s t a x.ssn in
+        let fakmap = fakmap_alike s t a in
+        λ i. hour (virtim_of (cof i) (index i) x.gmt) (index i) (monthly i) (hmym i) (fakmap i)
 
-    pub later-month-figures : figuresOf f s x ≡ figuresOf f t x
-    unfolding figuresOf
-    later-month-figures = ap (λ (h : SheetHour). figuresTo h x (sheetPath x) 5) month-hour
+    pub later_month_figures : figures_of f s x ≡ figures_of f t x
+    unfolding figures_of
+    later_month_figures = ap (λ (h : SheetHour). figures_to h x (sheet_path x) 5) month_hour
 
-    pub later-month-answer : shownOf f s x ≡ shownOf f t x
-    unfolding shownOf
-    later-month-answer = ap (λ (v : Verdict). pointsOr v (sheetPath x).count) (month-files f)
+    pub later_month_answer : shown_of f s x ≡ shown_of f t x
+    unfolding shown_of
+    later_month_answer = ap (λ (v : Verdict). points_or v (sheet_path x).count) (month_files f)
 
-    pub later-month-buffer : (out : List Float) → figuresBuffer f s x out ≡ figuresBuffer f t x out
-    unfolding figuresBuffer
-    later-month-buffer out = let c = month-files f in let l = later-month-figures in λ i. writtenOver (c i) (l i) out
+    pub later_month_buffer : (out : List Float) → figures_buffer f s x out ≡ figures_buffer f t x out
+    unfolding figures_buffer
+    later_month_buffer out = let c = month_files f in let l = later_month_figures in λ i. written_over (c i) (l i) out
 
 -- ---- the record alone, beside any month file
 
 module _ (f g : List ℕ) (b : Alike 7904 f g) (s : List ℕ) where
-  record-files : filesCheck f s ≡ filesCheck g s
-  unfolding filesCheck
-  record-files =
+  record_files : files_check f s ≡ files_check g s
+  unfolding files_check
+  record_files =
       let p = b.here in
       let q = b.there in
       let l : leb 7904 (length f) ≡ leb 7904 (length g) = le-leb 7904 (length f) p ∙ sym (le-leb 7904 (length g) q) in
-      let words = records-alike f g b in
-      λ i. cond (l i) (monthFileCheck s then words i then tableWordsCheck s then indexCheck s) (Refused Record)
+      let words = records_alike f g b in
+      λ i. cond (l i) (month_file_check s then words i then table_words_check s then index_check s) (Refused Record)
 
   module _ (x : Inputs) where
-    record-hour : hourOf f s x ≡ hourOf g s x
-    unfolding hourOf
-    record-hour = ap (λ (c : List Float). hourFrom s (index_of s) c (hmymOf s x.ssn) (fakmapOf s) x) (cofion-record f g b s x.ssn)
+    record_hour : hour_of f s x ≡ hour_of g s x
+    unfolding hour_of
+    record_hour = ap (λ (c : List Float). hour_from s (index_of s) c (hmym_of s x.ssn) (fakmap_of s) x) (cofion_record f g b s x.ssn)
 
-    pub later-record-figures : figuresOf f s x ≡ figuresOf g s x
-    unfolding figuresOf
-    later-record-figures = ap (λ (h : SheetHour). figuresTo h x (sheetPath x) 5) record-hour
+    pub later_record_figures : figures_of f s x ≡ figures_of g s x
+    unfolding figures_of
+    later_record_figures = ap (λ (h : SheetHour). figures_to h x (sheet_path x) 5) record_hour
 
-    pub later-record-answer : shownOf f s x ≡ shownOf g s x
-    unfolding shownOf
-    later-record-answer = ap (λ (v : Verdict). pointsOr v (sheetPath x).count) record-files
+    pub later_record_answer : shown_of f s x ≡ shown_of g s x
+    unfolding shown_of
+    later_record_answer = ap (λ (v : Verdict). points_or v (sheet_path x).count) record_files
 
-    pub later-record-buffer : (out : List Float) → figuresBuffer f s x out ≡ figuresBuffer g s x out
-    unfolding figuresBuffer
-    later-record-buffer out = let c = record-files in let l = later-record-figures in λ i. writtenOver (c i) (l i) out
+    pub later_record_buffer : (out : List Float) → figures_buffer f s x out ≡ figures_buffer g s x out
+    unfolding figures_buffer
+    later_record_buffer out = let c = record_files in let l = later_record_figures in λ i. written_over (c i) (l i) out
 
 -- ---- both
 
 module _ (f g s t : List ℕ) (b : Alike 7904 f g) (a : Alike 38552 s t) where
   module _ (x : Inputs) where
-    pub later-figures : figuresOf f s x ≡ figuresOf g t x
-    later-figures = later-record-figures f g b s x ∙ later-month-figures s t a g x
+    pub later_figures : figures_of f s x ≡ figures_of g t x
+    later_figures = later_record_figures f g b s x ∙ later_month_figures s t a g x
 
-    pub later-answer : shownOf f s x ≡ shownOf g t x
-    later-answer = later-record-answer f g b s x ∙ later-month-answer s t a g x
+    pub later_answer : shown_of f s x ≡ shown_of g t x
+    later_answer = later_record_answer f g b s x ∙ later_month_answer s t a g x
 
-    pub later-buffer : (out : List Float) → figuresBuffer f s x out ≡ figuresBuffer g t x out
-    later-buffer out = later-record-buffer f g b s x out ∙ later-month-buffer s t a g x out
+    pub later_buffer : (out : List Float) → figures_buffer f s x out ≡ figures_buffer g t x out
+    later_buffer out = later_record_buffer f g b s x out ∙ later_month_buffer s t a g x out

@@ -13,117 +13,117 @@ use lib.ListN.{length, take, drop}
 use lib.Ieee.{Float}
 use borrow.Author.Tests.{le-leb}
 use Rattle.base.specs.declared.refusal.Verdict.TheVariants.{Accepted}
-use Rattle.base.specs.Ranges.{isMonth, isBit}
-use Rattle.base.specs.MonthFile.{Part, recordSize, monthStart, monthRecordCheck, monthPart}
+use Rattle.base.specs.Ranges.{is_month, is_bit}
+use Rattle.base.specs.MonthFile.{Part, record_size, month_start, month_record_check, month_part}
 use Rattle.base.specs.Finite.{FiniteRecord}
-use Rattle.base.specs.Files.{fileCheck}
-use Rattle.base.specs.Year.{yearCheck, pairPart, yearMonth, yearModel, partBytes}
-use Rattle.base.proofs.ladder.Ladders.{and-true}
-use Rattle.base.proofs.layout.Readers.{files-record-finite, files-file}
-use Rattle.base.proofs.verdicts.Refusals.{then-both}
-use Rattle.base.proofs.layout.Records.{month-known as record-known, month-part}
-use Rattle.base.proofs.layout.Directories.{month-known, bit-known, month-part-is, model-part-is, no-model}
+use Rattle.base.specs.Files.{file_check}
+use Rattle.base.specs.Year.{year_check, pair_part, year_month, year_model, part_bytes}
+use Rattle.base.proofs.ladder.Ladders.{and_true}
+use Rattle.base.proofs.layout.Readers.{files_record_finite, files_file}
+use Rattle.base.proofs.verdicts.Refusals.{then_both}
+use Rattle.base.proofs.layout.Records.{month_known as record-known, month_part_law}
+use Rattle.base.proofs.layout.Directories.{month_known, bit_known, month_part_is, model_part_is, no_model}
 use Rattle.maps.specs.declared.geometry.Uses.{Uses}
 use Rattle.maps.specs.declared.inputs.Inputs.{Inputs}
 use Rattle.maps.specs.declared.figures.Shown.TheVariants.{Points}
-use Rattle.maps.specs.Figures.{sheetPath, figuresOf, points_of}
+use Rattle.maps.specs.Figures.{sheet_path, figures_of, points_of}
 use Rattle.worksheet.specs.declared.desks.Worksheet.{Worksheet}
-use Rattle.worksheet.specs.Desks.{openOf}
-use Rattle.worksheet.specs.Showing.{yearFiles, yearFilesCheck, yearly, inputsShown}
+use Rattle.worksheet.specs.Desks.{open_of}
+use Rattle.worksheet.specs.Showing.{year_files, year_files_check, yearly, inputs_shown}
 use Rattle.worksheet.specs.Journal.{Call, show, shown, step, run}
 use Rattle.worksheet.specs.InForce.{FiguresOf}
-use Rattle.results.specs.OneYear.{part_at, recordAt, OwnParts}
-use Rattle.results.proofs.files.YearDirectory.{year-good, parts-inside}
-use Rattle.results.proofs.force.Insured.{shown-figures}
-use Rattle.results.proofs.sheet.AlwaysShown.{year-shown}
+use Rattle.results.specs.OneYear.{part_at, record_at, OwnParts}
+use Rattle.results.proofs.files.YearDirectory.{year_good, parts_inside}
+use Rattle.results.proofs.force.Insured.{shown_figures}
+use Rattle.results.proofs.sheet.AlwaysShown.{year_shown}
 
-module _ (s : List ℕ) (good : yearCheck s ≡ Accepted) where
+module _ (s : List ℕ) (good : year_check s ≡ Accepted) where
   -- the bytes of a pair's part
-  pub part_bytes : (k : ℕ) → k < 14 → partBytes s (pairPart s k) ≡ part_at s k
-  part_bytes k h = ap (partBytes s) (parts-inside s good k h).0
+  pub part_bytes_law : (k : ℕ) → k < 14 → part_bytes s (pair_part s k) ≡ part_at s k
+  part_bytes_law k h = ap (part_bytes s) (parts_inside s good k h).0
 
-  pub month-bytes : (m : ℕ) → isMonth m ≡ true → partBytes s (yearMonth s m) ≡ part_at s (m - 1)
-  month-bytes m e =
-      let h = month-known m e in
-      ap (partBytes s) (month-part-is s m e) ∙ part_bytes (m - 1) (omega (arith, h.0, h.1))
+  pub month_bytes : (m : ℕ) → is_month m ≡ true → part_bytes s (year_month s m) ≡ part_at s (m - 1)
+  month_bytes m e =
+      let h = month_known m e in
+      ap (part_bytes s) (month_part_is s m e) ∙ part_bytes_law (m - 1) (omega (arith, h.0, h.1))
 
-  pub model-bytes : (m : ℕ) → isBit m ≡ true → partBytes s (yearModel s m) ≡ part_at s (12 + m)
-  model-bytes m e = ap (partBytes s) (model-part-is s m e) ∙ part_bytes (12 + m) (omega (arith, bit-known m e))
+  pub model_bytes : (m : ℕ) → is_bit m ≡ true → part_bytes s (year_model s m) ≡ part_at s (12 + m)
+  model_bytes m e = ap (part_bytes s) (model_part_is s m e) ∙ part_bytes_law (12 + m) (omega (arith, bit_known m e))
 
-pub month-is : (m : ℕ) → 1 ≤ m → m ≤ 12 → isMonth m ≡ true
-month-is m l h = and-true (le-leb 1 m l) (le-leb m 12 h)
+pub month_is : (m : ℕ) → 1 ≤ m → m ≤ 12 → is_month m ≡ true
+month_is m l h = and_true (le-leb 1 m l) (le-leb m 12 h)
 
 -- ---- the model's word
 
 -- a word that is no model has no part, and so no record
-bit-or-empty : (s : List ℕ) (m : ℕ) (b : Bool) → isBit m ≡ b → (length (partBytes s (yearModel s m)) ≡ 0) ⊎ (isBit m ≡ true)
-bit-or-empty s m true e = inr e
-bit-or-empty s m false e = inl (ap (λ (p : Part). length (partBytes s p)) (no-model s m e))
+bit_or_empty : (s : List ℕ) (m : ℕ) (b : Bool) → is_bit m ≡ b → (length (part_bytes s (year_model s m)) ≡ 0) ⊎ (is_bit m ≡ true)
+bit_or_empty s m true e = inr e
+bit_or_empty s m false e = inl (ap (λ (p : Part). length (part_bytes s p)) (no_model s m e))
 
-is-model : (m : ℕ) → isBit m ≡ true → (m ≡ 0) ⊎ (m ≡ 1)
-is-model m e = elim (dec_lt m 1) [
+is_model : (m : ℕ) → is_bit m ≡ true → (m ≡ 0) ⊎ (m ≡ 1)
+is_model m e = elim (dec_lt m 1) [
   | yes l ↦ inl (omega arith)
-  | no g ↦ inr (omega (arith, g, bit-known m e))
+  | no g ↦ inr (omega (arith, g, bit_known m e))
 ]
 
 -- ---- figures over a year
 
 module _ (s : List ℕ) (i : Inputs) (count : ℕ) (uses : Uses) (figures : List Float) where
-  pub figures-own-parts : FiguresOf (yearly s) i count uses figures → OwnParts s i count uses figures
-  unfolding yearFiles
-  figures-own-parts f =
-      let daw = partBytes s (yearModel s i.model) in
-      let both = then-both (yearCheck s) (monthRecordCheck daw i.month) f.lent in
+  pub figures_own_parts : FiguresOf (yearly s) i count uses figures → OwnParts s i count uses figures
+  unfolding year_files
+  figures_own_parts f =
+      let daw = part_bytes s (year_model s i.model) in
+      let both = then_both (year_check s) (month_record_check daw i.month) f.lent in
       let known = record-known daw i.month both.1 in
       let low = known.low in
       let high = known.high in
       let room = known.room in
-      let bit = is-bit (bit-or-empty s i.model (isBit i.model) refl) low room in
-      let daw-is : daw ≡ part_at s (12 + i.model) = model-bytes s both.0 i.model bit in
-      let file-is = month-bytes s both.0 i.month (month-is i.month low high) in
-      let record_is = ap (partBytes daw) (month-part daw i.month refl both.1) in
+      let bit = is_bit_law (bit_or_empty s i.model (is_bit i.model) refl) low room in
+      let daw_is : daw ≡ part_at s (12 + i.model) = model_bytes s both.0 i.model bit in
+      let file_is = month_bytes s both.0 i.month (month_is i.month low high) in
+      let record_is = ap (part_bytes daw) (month_part_law daw i.month refl both.1) in
       record {
-        month-low = low;
-        month-high = high;
-        model = is-model i.model bit;
-        directory = (year-good s).0 both.0;
-        room = subst (λ (d : List ℕ). i.month * recordSize ≤ length d) daw-is room;
+        month_low = low;
+        month_high = high;
+        model = is_model i.model bit;
+        directory = (year_good s).0 both.0;
+        room = subst (λ (d : List ℕ). i.month * record_size ≤ length d) daw_is room;
         words =
             subst FiniteRecord
-            (record_is ∙ ap (λ (d : List ℕ). take recordSize (drop (monthStart i.month) d)) daw-is)
-            (files-record-finite _ _ f.checked);
-        file = sym (ap fileCheck file-is) ∙ files-file _ _ f.checked;
+            (record_is ∙ ap (λ (d : List ℕ). take record_size (drop (month_start i.month) d)) daw_is)
+            (files_record_finite _ _ f.checked);
+        file = sym (ap file_check file_is) ∙ files_file _ _ f.checked;
         points = f.points;
         used = f.used;
         whole =
             f.whole
-            ∙ (λ t. figuresOf (record_is t) (file-is t) i)
-            ∙ ap (λ (d : List ℕ). figuresOf (take recordSize (drop (monthStart i.month) d)) (part_at s (i.month - 1)) i) daw-is;
+            ∙ (λ t. figures_of (record_is t) (file_is t) i)
+            ∙ ap (λ (d : List ℕ). figures_of (take record_size (drop (month_start i.month) d)) (part_at s (i.month - 1)) i) daw_is;
       }
     where
-      is-bit : (length (partBytes s (yearModel s i.model)) ≡ 0) ⊎ (isBit i.model ≡ true) → 1 ≤ i.month
-          → i.month * recordSize ≤ length (partBytes s (yearModel s i.model)) → isBit i.model ≡ true
-      is-bit (inl e) l r = absurd (omega (arith, e, l, r))
-      is-bit (inr e) l r = e
+      is_bit_law : (length (part_bytes s (year_model s i.model)) ≡ 0) ⊎ (is_bit i.model ≡ true) → 1 ≤ i.month
+          → i.month * record_size ≤ length (part_bytes s (year_model s i.model)) → is_bit i.model ≡ true
+      is_bit_law (inl e) l r = absurd (omega (arith, e, l, r))
+      is_bit_law (inr e) l r = e
 
-pub one-month-one-model :
+pub one_month_one_model :
     (s : List ℕ) (w : Worksheet) (n : ℕ) (lent figures : List Float) (count : ℕ) (uses : Uses) →
-    (step (yearly s) (show n lent) w).answer ≡ shown (Points count uses) figures → OwnParts s (inputsShown n w) count uses figures
-one-month-one-model s w n lent figures count uses h =
-    figures-own-parts s (inputsShown n w) count uses figures (shown-figures (yearly s) n w lent figures count uses (sym h))
+    (step (yearly s) (show n lent) w).answer ≡ shown (Points count uses) figures → OwnParts s (inputs_shown n w) count uses figures
+one_month_one_model s w n lent figures count uses h =
+    figures_own_parts s (inputs_shown n w) count uses figures (shown_figures (yearly s) n w lent figures count uses (sym h))
 
 -- ---- and after every list of calls there is such a showing, where the year file refuses nothing
 
-pub year-always-shown : (s : List ℕ) (opened : Inputs) → (openOf opened).answer ≡ Accepted →
+pub year_always_shown : (s : List ℕ) (opened : Inputs) → (open_of opened).answer ≡ Accepted →
     (cs : List Call) (lent : List Float) → length lent ≡ 151 →
-    let w = (run (yearly s) cs (openOf opened).sheet).sheet in
+    let w = (run (yearly s) cs (open_of opened).sheet).sheet in
     let i = w.inputs in
-    yearFilesCheck s i.month i.model ≡ Accepted →
+    year_files_check s i.month i.model ≡ Accepted →
     (step (yearly s) (show 0 lent) w).answer
-    ≡ shown (points_of (sheetPath i).count) (figuresOf (recordAt s i.month i.model) (part_at s (i.month - 1)) i)
-unfolding inputsShown
-year-always-shown s opened h cs lent l good =
-    let w = (run (yearly s) cs (openOf opened).sheet).sheet in
-    let e = year-shown s opened h cs lent l good in
-    let own = one-month-one-model s w 0 lent _ _ _ e in
-    e ∙ ap (shown (points_of (sheetPath w.inputs).count)) own.whole
+    ≡ shown (points_of (sheet_path i).count) (figures_of (record_at s i.month i.model) (part_at s (i.month - 1)) i)
+unfolding inputs_shown
+year_always_shown s opened h cs lent l good =
+    let w = (run (yearly s) cs (open_of opened).sheet).sheet in
+    let e = year_shown s opened h cs lent l good in
+    let own = one_month_one_model s w 0 lent _ _ _ e in
+    e ∙ ap (shown (points_of (sheet_path w.inputs).count)) own.whole

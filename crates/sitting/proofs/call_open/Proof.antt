@@ -1,4 +1,4 @@
--- `call_open` is `madeBy`: what `spoken` leaves and says, with the call that is written.
+-- `call_open` is `made_by`: what `spoken` leaves and says, with the call that is written.
 use borrow.Author.Rules.{rules}
 use mathlib.Core.Path.{ap, ◌∙◌}
 use Rattle.worksheet.specs.declared.journal.Call.{Call}
@@ -6,7 +6,7 @@ use Rattle.worksheet.specs.Showing.{lent_as}
 use Rattle.worksheet.specs.Journal.{step}
 use Rattle.worksheet.specs.Calls.{called}
 use Rattle.listing.specs.Turn.{blank}
-use Rattle.listing.specs.Spoken.{spokenText, inputsAsked}
+use Rattle.listing.specs.Spoken.{spoken_text, inputs_asked}
 use Rattle.sitting.specs.declared.Stage.TheVariants.{Open}
 use Rattle.sitting.proofs.call_open.Statement.{statement}
 use Rattle.sitting.proofs.call_open.Tie as tie
@@ -20,13 +20,13 @@ returns c =
     let sheet = h.0 ∙ ap (λ (x : Call). (step source (called x blank) a.w).sheet) written in (
       λ t. record { stage = Open; sheet = sheet t },
       (
-        h.1.0 ∙ ap (λ (x : Call). spokenText a.number (inputsAsked x a.w) (step source (called x blank) a.w).answer) written,
+        h.1.0 ∙ ap (λ (x : Call). spoken_text a.number (inputs_asked x a.w) (step source (called x blank) a.w).answer) written,
         h.1.1,
       ),
     )
 
-pub call-open-spec : {M : Type 1} → statement M
-call-open-spec =
+pub call_open_spec : {M : Type 1} → statement M
+call_open_spec =
     tie.close
     (tie.spec
     (λ c κs. search rules)

@@ -1,34 +1,34 @@
--- `hear_open` is `hearOpen`, by the stage.
+-- `hear_open` is `hear_open`, by the stage.
 use borrow.Author.Rules.{rules}
 use native.Mathlib.Omega.{arith}
 use mathlib.Core.Path.{refl, sym, ap, ◌∙◌}
 use Rattle.sitting.specs.declared.Stage.{Stage}
-use Rattle.sitting.specs.Sitting.{hearOpen}
+use Rattle.sitting.specs.Sitting.{hear_open}
 use Rattle.sitting.proofs.hear_open.Statement.{statement}
 use Rattle.sitting.proofs.hear_open.Tie as tie
 
 returns : tie.Need-returns
 returns c =
     let a = c.before.before.before.before.args in
-    let told = sym (ap (λ (x : Stage). hearOpen a.number a.o x a.s) c.before.before.enum_told.given.1) in
+    let told = sym (ap (λ (x : Stage). hear_open a.number a.o x a.s) c.before.before.enum_told.given.1) in
     let h = c.open-first.ensures in
     (h.0 ∙ ap (λ x. x.sitting) told, (h.1.0 ∙ ap (λ x. x.text) told, h.1.1))
 
-returns-2 : tie.Need-returns-2
-returns-2 c =
+returns_2 : tie.Need-returns-2
+returns_2 c =
     let a = c.before.before.before.before.before.args in
-    let told = sym (ap (λ (x : Stage). hearOpen a.number a.o x a.s) c.before.before.before.enum-told2.given.1) in
+    let told = sym (ap (λ (x : Stage). hear_open a.number a.o x a.s) c.before.before.before.enum-told2.given.1) in
     let h = c.again-text.ensures in
     (c.before.before.ended.ensures ∙ ap (λ x. x.sitting) told, (h.0 ∙ ap (λ x. x.text) told, h.1))
 
-returns-3 : tie.Need-returns-3
-returns-3 c =
+returns_3 : tie.Need-returns-3
+returns_3 c =
     let a = c.before.before.before.args in
-    let told = sym (ap (λ (x : Stage). hearOpen a.number a.o x a.s) c.before.enum-told3.given.1) in
+    let told = sym (ap (λ (x : Stage). hear_open a.number a.o x a.s) c.before.enum-told3.given.1) in
     (c.ended2.ensures ∙ ap (λ x. x.sitting) told, (ap (λ x. x.text) told, (omega arith, refl)))
 
-pub hear-open-spec : {M : Type 1} → statement M
-hear-open-spec =
+pub hear_open_spec : {M : Type 1} → statement M
+hear_open_spec =
     tie.close
     (tie.spec
     (λ c. search rules)
@@ -39,5 +39,5 @@ hear-open-spec =
     (λ c. search rules)
     (λ c κs. search rules)
     returns
-    returns-2
-    returns-3)
+    returns_2
+    returns_3)

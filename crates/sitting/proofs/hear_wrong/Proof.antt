@@ -1,34 +1,34 @@
--- `hear_wrong` is `hearWrong`, by the stage.
+-- `hear_wrong` is `hear_wrong`, by the stage.
 use borrow.Author.Rules.{rules}
 use native.Mathlib.Omega.{arith}
 use mathlib.Core.Path.{refl, sym, ap, ◌∙◌}
 use Rattle.sitting.specs.declared.Stage.{Stage}
-use Rattle.sitting.specs.Sitting.{hearWrong}
+use Rattle.sitting.specs.Sitting.{hear_wrong}
 use Rattle.sitting.proofs.hear_wrong.Statement.{statement}
 use Rattle.sitting.proofs.hear_wrong.Tie as tie
 
 returns : tie.Need-returns
 returns c =
     let a = c.before.before.before.before.before.args in
-    let told = sym (ap (λ (x : Stage). hearWrong a.number a.f x a.s) c.before.before.before.enum_told.given.1) in
+    let told = sym (ap (λ (x : Stage). hear_wrong a.number a.f x a.s) c.before.before.before.enum_told.given.1) in
     let h = c.fault-text.ensures in
     (c.before.before.ended.ensures ∙ ap (λ x. x.sitting) told, (h.0 ∙ ap (λ x. x.text) told, h.1))
 
-returns-2 : tie.Need-returns-2
-returns-2 c =
+returns_2 : tie.Need-returns-2
+returns_2 c =
     let a = c.before.before.before.before.before.args in
-    let told = sym (ap (λ (x : Stage). hearWrong a.number a.f x a.s) c.before.before.before.enum-told2.given.1) in
+    let told = sym (ap (λ (x : Stage). hear_wrong a.number a.f x a.s) c.before.before.before.enum-told2.given.1) in
     let h = c.fault-text2.ensures in
     (c.before.before.ended2.ensures ∙ ap (λ x. x.sitting) told, (h.0 ∙ ap (λ x. x.text) told, h.1))
 
-returns-3 : tie.Need-returns-3
-returns-3 c =
+returns_3 : tie.Need-returns-3
+returns_3 c =
     let a = c.before.before.before.args in
-    let told = sym (ap (λ (x : Stage). hearWrong a.number a.f x a.s) c.before.enum-told3.given.1) in
+    let told = sym (ap (λ (x : Stage). hear_wrong a.number a.f x a.s) c.before.enum-told3.given.1) in
     (c.ended3.ensures ∙ ap (λ x. x.sitting) told, (ap (λ x. x.text) told, (omega arith, refl)))
 
-pub hear-wrong-spec : {M : Type 1} → statement M
-hear-wrong-spec =
+pub hear_wrong_spec : {M : Type 1} → statement M
+hear_wrong_spec =
     tie.close
     (tie.spec
     (λ c. search rules)
@@ -40,5 +40,5 @@ hear-wrong-spec =
     (λ c. search rules)
     (λ c κs. search rules)
     returns
-    returns-2
-    returns-3)
+    returns_2
+    returns_3)

@@ -9,7 +9,7 @@ use Rattle.worksheet.specs.declared.journal.Next.{Next}
 use Rattle.worksheet.specs.Journal.{step}
 use Rattle.worksheet.specs.Calls.{called, next_of}
 use Rattle.listing.specs.Turn.{blank}
-use Rattle.sitting.proofs.sources.Sheets.{step-sheet}
+use Rattle.sitting.proofs.sources.Sheets.{step_sheet}
 use Rattle.sitting.proofs.sheet_after.Statement.{statement}
 use Rattle.sitting.proofs.sheet_after.Tie as tie
 
@@ -20,11 +20,11 @@ returns c source =
     let left = ap (λ (n : Next). n.sheet) c.before.before.make.ensures.0 in
     let written = c.before.before.before.before.before.before.call-written in
     left
-    ∙ step-sheet _ source blank written.result w
+    ∙ step_sheet _ source blank written.result w
     ∙ ap (λ (x : Call). (step source (called x blank) w).sheet) written.ensures
 
-pub sheet-after-spec : {M : Type 1} → statement M
-sheet-after-spec =
+pub sheet_after_spec : {M : Type 1} → statement M
+sheet_after_spec =
     tie.close
     (tie.spec
     (λ c κs. search rules)

@@ -9,12 +9,12 @@ use Rattle.worksheet.specs.Showing.{Source}
 use Rattle.worksheet.specs.Journal.{step}
 use Rattle.worksheet.specs.Calls.{called}
 
-pub step-sheet : (source other : Source) (lent : List Float) (c : Call) (w : Worksheet)
+pub step_sheet : (source other : Source) (lent : List Float) (c : Call) (w : Worksheet)
     → (step source (called c lent) w).sheet ≡ (step other (called c lent) w).sheet
 unfolding step
-step-sheet source other lent (Begin n) w = refl
-step-sheet source other lent (Change n e) w = refl
-step-sheet source other lent (Commit n) w = refl
-step-sheet source other lent (Cancel n) w = refl
-step-sheet source other lent TakeBack w = refl
-step-sheet source other lent (Show n) w = refl
+step_sheet source other lent (Begin n) w = refl
+step_sheet source other lent (Change n e) w = refl
+step_sheet source other lent (Commit n) w = refl
+step_sheet source other lent (Cancel n) w = refl
+step_sheet source other lent TakeBack w = refl
+step_sheet source other lent (Show n) w = refl

@@ -4,8 +4,8 @@ use Rattle.std.proofs.Common.{rules}
 use Rattle.tally.proofs.counted.Statement.{statement}
 use Rattle.tally.proofs.counted.Tie as tie
 
-returns-2 : tie.Need-returns-2
-returns-2 c = rw c.before.if1.false (search rules)
+returns_2 : tie.Need-returns-2
+returns_2 c = rw c.before.if1.false (search rules)
 
 pub counted_spec : {M : Type 1} → statement M
 counted_spec =
@@ -14,4 +14,4 @@ counted_spec =
     (λ c κs. search rules)
     (λ c. search rules)
     (λ c κs. search rules)
-    returns-2)
+    returns_2)

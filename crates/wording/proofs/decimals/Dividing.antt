@@ -16,30 +16,30 @@ use lib.Ieee.{binary32, size, nearest, units, round, of_bits}
 use lib.Ieee.Digits.{size-le}
 use lib.Ieee.Fits.{core, round_is, nearest-le}
 use lib.Ieee.Nearest.{closest, closest_same, nearest-ge}
-use Rattle.base.proofs.rounding.Rounding.{just, size-gt, units-bits, round-bits}
+use Rattle.base.proofs.rounding.Rounding.{just, size_gt, units_bits, round_bits}
 
 -- how many of the smallest values 1 is; shut, since `omega` takes no number so large
 pub unit : ℕ
 unit = 2 ^ 149
 
-unit-is : unit ≡ 2 ^ 149
+unit_is : unit ≡ 2 ^ 149
 unfolding unit
-unit-is = refl
+unit_is = refl
 
 abbrev pub Same : ℕ → ℕ → ℕ → ℕ → ℕ → Type 0
 Same n d v b k = n * unit * b ≡ v * (d * 2 ^ k)
 
 -- ---- the turns
 pub same_first : (n d : ℕ) → Same n d n d 149
-same_first n d = mul_assoc n unit d ∙ ap (λ (x : ℕ). n * x) (mul_comm unit d ∙ ap (λ (x : ℕ). d * x) unit-is)
+same_first n d = mul_assoc n unit d ∙ ap (λ (x : ℕ). n * x) (mul_comm unit d ∙ ap (λ (x : ℕ). d * x) unit_is)
 
-same-wider : (n d b k : ℕ) → Same n d n b k → Same n d n (b * 2) (k + 1)
-same-wider n d b k h =
+same_wider : (n d b k : ℕ) → Same n d n b k → Same n d n (b * 2) (k + 1)
+same_wider n d b k h =
     sym (mul_assoc (n * unit) b 2) ∙ ap (λ (x : ℕ). x * 2) h ∙ mul_assoc n (d * 2 ^ k) 2
     ∙ ap (λ (x : ℕ). n * x) (mul_assoc d (2 ^ k) 2 ∙ ap (λ (x : ℕ). d * x) (sym (pow-suc 2 k) ∙ ap (λ (j : ℕ). 2 ^ j) (sym (add-one k))))
 
-same-down : (n d v b k : ℕ) → Same n d v b k → 0 < k → Same n d (v * 2) b (k - 1)
-same-down n d v b k h K =
+same_down : (n d v b k : ℕ) → Same n d v b k → 0 < k → Same n d (v * 2) b (k - 1)
+same_down n d v b k h K =
     let e : k ≡ suc (k - 1) = omega arith in
     h ∙ ap (λ (x : ℕ). v * (d * x)) (ap (λ (j : ℕ). 2 ^ j) e ∙ pow-suc 2 (k - 1))
     ∙ ap (λ (x : ℕ). v * x) (sym (mul_assoc d (2 ^ (k - 1)) 2) ∙ mul_comm (d * 2 ^ (k - 1)) 2)
@@ -63,16 +63,16 @@ module _ (n d v b k : ℕ) (h : Same n d v b k) (B : 0 < b) where
   k_lt l D N =
       lt_of_not-le λ (g : 186 ≤ k).
       let x : 2 ^ 23 * 2 ^ 186 ≤ n * unit = le_trans (mul-le-mul_left (2 ^ 23) (le_trans (pow_mono g) (le_trans (le-mul_of_pos_right (2 ^ k) D) (le_of_eq (mul_comm (2 ^ k) d))))) (most (2 ^ 23) l) in
-      let y : n * unit < 2 ^ 60 * unit = mul-lt-mul_of_pos_right (lt_of_lt_of_le N (lit≤ tt)) (subst (λ (u : ℕ). 0 < u) (sym unit-is) (pow_pos 149)) in
-      lt_irrefl (2 ^ 209) (lt_of_le_of_lt x (lt_of_lt_of_le y (le_of_eq (ap (λ (u : ℕ). 2 ^ 60 * u) unit-is))))
+      let y : n * unit < 2 ^ 60 * unit = mul-lt-mul_of_pos_right (lt_of_lt_of_le N (lit≤ tt)) (subst (λ (u : ℕ). 0 < u) (sym unit_is) (pow_pos 149)) in
+      lt_irrefl (2 ^ 209) (lt_of_le_of_lt x (lt_of_lt_of_le y (le_of_eq (ap (λ (u : ℕ). 2 ^ 60 * u) unit_is))))
 
   -- v / b has fewer than the 24 digits that are kept: there is room for one more
-  k-pos : v < 2 ^ 23 * b → 0 < n → 0 < d → d ≤ 10 ^ 18 → 0 < k
-  k-pos l N D S =
+  k_pos : v < 2 ^ 23 * b → 0 < n → 0 < d → d ≤ 10 ^ 18 → 0 < k
+  k_pos l N D S =
       lt_of_not-le λ (g : k ≤ 0).
       let x : 1 * unit ≤ n * unit = mul-le-mul_right unit N in
       let y : 2 ^ 23 * (d * 2 ^ k) ≤ 2 ^ 23 * (2 ^ 60 * 2 ^ 0) = mul-le-mul_left (2 ^ 23) (mul-le-mul {n₂ = 2 ^ 60} (le_trans S (lit≤ tt)) (pow_mono g)) in
-      lt_irrefl (2 ^ 149) (lt_of_le_of_lt (le_of_eq (sym unit-is ∙ sym (one-mul unit))) (lt_of_le_of_lt x (lt_of_lt_of_le (least (2 ^ 23) l D) (le_trans y (lit≤ tt)))))
+      lt_irrefl (2 ^ 149) (lt_of_le_of_lt (le_of_eq (sym unit_is ∙ sym (one-mul unit))) (lt_of_le_of_lt x (lt_of_lt_of_le (least (2 ^ 23) l D) (le_trans y (lit≤ tt)))))
 
 -- ---- the first loop: b grows until n / b is below 2 ^ 24
 pub record Widened (n d b k : ℕ) : Type 0 where
@@ -91,7 +91,7 @@ module _ {n d b k : ℕ} (w : Widened n d b k) (l : 2 ^ 24 ≤ n / b) (N : n < 1
   early = k_lt n d n b k w.same w.above (omega (arith, many)) D N
 
   pub wider : Widened n d (b * 2) (k + 1)
-  wider = record { above = let a = w.above in omega arith; small = omega (arith, few); same = same-wider n d b k w.same }
+  wider = record { above = let a = w.above in omega arith; small = omega (arith, few); same = same_wider n d b k w.same }
 
 -- ---- the second loop: q + rest / b is doubled until it is 2 ^ 23 or more
 pub record Divided (n d b k q rest : ℕ) : Type 0 where
@@ -113,13 +113,13 @@ divided {n} {d} {b} {k} w l = record {
 
 module _ {n d b k q rest : ℕ} (t : Divided n d b k q rest) (Q : q < 2 ^ 23) (N : 0 < n) (D : 0 < d) (S : d ≤ 10 ^ 18) where
   pub more : 0 < k
-  more = k-pos n d (q * b + rest) b k t.same (lt_of_le_of_lt zero-le t.over) (below q b rest (2 ^ 23) t.over Q) N D S
+  more = k_pos n d (q * b + rest) b k t.same (lt_of_le_of_lt zero-le t.over) (below q b rest (2 ^ 23) t.over Q) N D S
 
   twice : Same n d ((q * b + rest) * 2) b (k - 1)
-  twice = same-down n d (q * b + rest) b k t.same more
+  twice = same_down n d (q * b + rest) b k t.same more
 
-  pub turn-zero : rest * 2 < b → Divided n d b (k - 1) (q * 2) (rest * 2)
-  turn-zero l = record {
+  pub turn_zero : rest * 2 < b → Divided n d b (k - 1) (q * 2) (rest * 2)
+  turn_zero l = record {
     small = t.small;
     digits = omega arith;
     over = l;
@@ -153,25 +153,25 @@ module _ {n d b k q rest : ℕ} (t : Divided n d b k q rest) (Q : 2 ^ 23 ≤ q) 
   abbrev kept : ℕ
   kept = nearest q (compare (rest * 2) b)
 
-  kept-le : kept ≤ 2 ^ 24
-  kept-le = le_trans (nearest-le q (compare (rest * 2) b)) t.digits
+  kept_le : kept ≤ 2 ^ 24
+  kept_le = le_trans (nearest-le q (compare (rest * 2) b)) t.digits
 
   pub fits : k * 2 ^ 23 + nearest q (compare (rest * 2) b) < 2 ^ 31
-  fits = omega (arith, kept-le, last)
+  fits = omega (arith, kept_le, last)
 
   moved : (m : ℕ) → m * (d * 2 ^ k) ≡ m * 2 ^ k * d
   moved m = ap (λ (x : ℕ). m * x) (mul_comm d (2 ^ k)) ∙ sym (mul_assoc m (2 ^ k) d)
 
   same' : n * 2 ^ 149 * b ≡ (q * b + rest) * (d * 2 ^ k)
-  same' = ap (λ (u : ℕ). n * u * b) (sym unit-is) ∙ t.same
+  same' = ap (λ (u : ℕ). n * u * b) (sym unit_is) ∙ t.same
 
   drops : size (n * 2 ^ 149 / d) - 24 ≡ k
   drops =
       let z = n * 2 ^ 149 / d in
-      let w : n * unit ≡ n * 2 ^ 149 = ap (λ (u : ℕ). n * u) unit-is in
+      let w : n * unit ≡ n * 2 ^ 149 = ap (λ (u : ℕ). n * u) unit_is in
       let l : 2 ^ (23 + k) ≤ z = (le-div_iff_mul-le D).1 (le_trans (le_of_eq (ap (λ (x : ℕ). x * d) (pow-add 2 23 k) ∙ sym (moved (2 ^ 23)))) (le_trans (most n d (q * b + rest) b k t.same B (2 ^ 23) lo) (le_of_eq w))) in
       let h : z < 2 ^ (24 + k) = (div-lt_iff_lt-mul D).1 (lt_of_le_of_lt (le_of_eq (sym w)) (lt_of_lt_of_le (least n d (q * b + rest) b k t.same B (2 ^ 24) hi D) (le_of_eq (moved (2 ^ 24) ∙ ap (λ (x : ℕ). x * d) (sym (pow-add 2 24 k)))))) in
-      just (size z) 23 k (size-le z (24 + k) h) (size-gt z (23 + k) l)
+      just (size z) 23 k (size-le z (24 + k) h) (size_gt z (23 + k) l)
 
   whole : closest (n * 2 ^ 149) (d * 2 ^ k) ≡ kept
   whole =
@@ -181,24 +181,24 @@ module _ {n d b k q rest : ℕ} (t : Divided n d b k q rest) (Q : 2 ^ 23 ≤ q) 
 
   pub pattern : (s : Bool) → of_bits binary32 (cond s (2 ^ 31) 0 + (k * 2 ^ 23 + kept)) ≡ round binary32 s n d
   pattern s =
-      let room : kept * 2 ^ k < 2 ^ 277 = lt_of_le_of_lt (le_trans (mul-le-mul_right (2 ^ k) kept-le) (le_of_eq (sym (pow-add 2 24 k)))) (pow-lt {i = 24 + k} {j = 277} (omega (arith, last))) in
+      let room : kept * 2 ^ k < 2 ^ 277 = lt_of_le_of_lt (le_trans (mul-le-mul_right (2 ^ k) kept_le) (le_of_eq (sym (pow-add 2 24 k)))) (pow-lt {i = 24 + k} {j = 277} (omega (arith, last))) in
       sym
       (round_is binary32 s n d ∙ ap (λ (j : ℕ). core binary32 s (n * 2 ^ 149) d j) drops
       ∙ ap (λ (c : ℕ). units binary32 s c k) whole
-      ∙ units-bits binary32 s kept k (kept-le, inr (le_trans Q (nearest-ge q (compare (rest * 2) b)))) room)
+      ∙ units_bits binary32 s kept k (kept_le, inr (le_trans Q (nearest-ge q (compare (rest * 2) b)))) room)
 
 pub zero_pattern : (s : Bool) (d : ℕ) → 0 < d → of_bits binary32 (cond s (2 ^ 31) 0) ≡ round binary32 s 0 d
 zero_pattern s d D =
     ap (of_bits binary32) (sym (add-zero (cond s (2 ^ 31) 0)))
-    ∙ sym (round-bits binary32 s 0 d 0 0 0 D (sym (zero-mul d)) (lit≤ tt, inl refl) (lit≤ tt))
+    ∙ sym (round_bits binary32 s 0 d 0 0 0 D (sym (zero-mul d)) (lit≤ tt, inl refl) (lit≤ tt))
 
 -- ---- the sign's bit and the power of ten
 pub sign_le : (s : Bool) → cond s (2 ^ 31) 0 ≤ 2 ^ 31
 sign_le true = lit≤ tt
 sign_le false = lit≤ tt
 
-pub ten-pos : (k : ℕ) → 0 < 10 ^ k
-ten-pos k = one-le-pow k 10 (lit≤ tt)
+pub ten_pos : (k : ℕ) → 0 < 10 ^ k
+ten_pos k = one-le-pow k 10 (lit≤ tt)
 
-pub ten-le : (k : ℕ) → k ≤ 18 → 10 ^ k ≤ 10 ^ 18
-ten-le k h = pow-le-pow_right (lit≤ tt) h
+pub ten_le : (k : ℕ) → k ≤ 18 → 10 ^ k ≤ 10 ^ 18
+ten_le k h = pow-le-pow_right (lit≤ tt) h

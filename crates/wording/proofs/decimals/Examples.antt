@@ -1,5 +1,5 @@
 -- Numbers that are read and words that are none, and floats, worked out by computation; and that a
--- decimal's float is `decimal` or `minusDecimal` of base. Assumes nothing.
+-- decimal's float is `decimal` or `minus_decimal` of base. Assumes nothing.
 use Prim.Native.Nat.{ℕ, ◌^◌}
 use Prim.Native.Char.{code}
 use Prim.Native.String.{String, [] as []ˢ, ◌∷◌ as ◌∷ˢ◌}
@@ -7,11 +7,11 @@ use mathlib.Core.Path.{◌≡◌, refl, ap, ◌∙◌}
 use mathlib.Core.Bool.{true, false}
 use mathlib.Core.List.{List, [], ◌∷◌}
 use lib.Ieee.{nan, binary32, round, to_bits}
-use Rattle.base.specs.Single.{decimal, minusDecimal}
-use Rattle.base.proofs.verdicts.Picks.{cond-true}
+use Rattle.base.specs.Single.{decimal, minus_decimal}
+use Rattle.base.proofs.verdicts.Picks.{cond_true}
 use Rattle.wording.specs.declared.number.Decimal.{Decimal}
 use Rattle.wording.specs.declared.number.Number.TheVariants.{Is, Not}
-use Rattle.wording.specs.Number.{allDigits, valueFrom, beforePoint, afterPoint, isUnsigned, unsignedIn, number_in, is_written, float_of}
+use Rattle.wording.specs.Number.{all_digits, value_from, before_point, after_point, is_unsigned, unsigned_in, number_in, is_written, float_of}
 
 abbrev bytes : String → List ℕ
 bytes []ˢ = []
@@ -32,7 +32,7 @@ numbers :
     × (number_in (bytes "5.") ≡ Is (plus 5 0))
     × (number_in (bytes "-0") ≡ Is (minus 0 0))
     × (number_in (bytes "007.50") ≡ Is (plus 750 2))
-unfolding number_in unsignedIn isUnsigned allDigits valueFrom beforePoint afterPoint
+unfolding number_in unsigned_in is_unsigned all_digits value_from before_point after_point
 numbers = (refl, refl, refl, refl, refl, refl, refl)
 
 -- 18 digits, zeros in front not counted, and 18 places
@@ -40,11 +40,11 @@ longest :
     (number_in (bytes "123456789012345678") ≡ Is (plus 123456789012345678 0))
     × (number_in (bytes "00999999999999999.999") ≡ Is (plus 999999999999999999 3))
     × (number_in (bytes "-0.000000000000000001") ≡ Is (minus 1 18))
-unfolding number_in unsignedIn isUnsigned allDigits valueFrom beforePoint afterPoint
+unfolding number_in unsigned_in is_unsigned all_digits value_from before_point after_point
 longest = (refl, refl, refl)
 
 -- no digit, other signs than a number's, a second point, too many digits or places
-no-numbers :
+no_numbers :
     (number_in (bytes "") ≡ Not)
     × (number_in (bytes "-") ≡ Not)
     × (number_in (bytes ".") ≡ Not)
@@ -55,8 +55,8 @@ no-numbers :
     × (number_in (bytes "1234567890123456789") ≡ Not)
     × (number_in (bytes "12345678901234567890") ≡ Not)
     × (number_in (bytes "0.0000000000000000001") ≡ Not)
-unfolding number_in unsignedIn isUnsigned allDigits valueFrom beforePoint afterPoint
-no-numbers = (refl, refl, refl, refl, refl, refl, refl, refl, refl, refl)
+unfolding number_in unsigned_in is_unsigned all_digits value_from before_point after_point
+no_numbers = (refl, refl, refl, refl, refl, refl, refl, refl, refl, refl)
 
 -- one that is exact, one that is not, a tie to the even one below and to that above, -0, the
 -- smallest and the largest, and more digits than are read
@@ -75,8 +75,8 @@ floats = (refl, refl, refl, refl, refl, refl, refl, refl)
 -- ---- the signs of base/specs/Single.antt
 plain : (d : Decimal) → is_written d ≡ true → d.negative ≡ false → float_of d ≡ decimal d.digits d.places
 unfolding float_of decimal
-plain d w s = cond-true _ _ w ∙ ap (λ b. round binary32 b d.digits (10 ^ d.places)) s
+plain d w s = cond_true _ _ w ∙ ap (λ b. round binary32 b d.digits (10 ^ d.places)) s
 
-plain-minus : (d : Decimal) → is_written d ≡ true → d.negative ≡ true → float_of d ≡ minusDecimal d.digits d.places
-unfolding float_of minusDecimal
-plain-minus d w s = cond-true _ _ w ∙ ap (λ b. round binary32 b d.digits (10 ^ d.places)) s
+plain_minus : (d : Decimal) → is_written d ≡ true → d.negative ≡ true → float_of d ≡ minus_decimal d.digits d.places
+unfolding float_of minus_decimal
+plain_minus d w s = cond_true _ _ w ∙ ap (λ b. round binary32 b d.digits (10 ^ d.places)) s

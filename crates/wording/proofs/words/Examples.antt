@@ -14,10 +14,10 @@ use Rattle.wording.specs.declared.line.Wanted.TheVariants.{Start, Deed, Word, Nu
 use Rattle.wording.specs.declared.written.WrittenRoute.{WrittenRoute}
 use Rattle.wording.specs.declared.written.WrittenEdit.TheVariants.{Sunspot, Hour, Path, Psc, Pole, Month, Model}
 use Rattle.wording.specs.declared.written.WrittenCall.TheVariants.{Begin, Change, Commit, Cancel, TakeBack, Show}
-use Rattle.wording.specs.Number.{allDigits, valueFrom, beforePoint, afterPoint, isUnsigned, unsignedIn, number_in}
-use Rattle.wording.specs.Token.{names, ascii, same, uncommented, wordsFrom, nameFrom, tokenOf, slots_of, firstTokens, tokensOf, tokenAt}
+use Rattle.wording.specs.Number.{all_digits, value_from, before_point, after_point, is_unsigned, unsigned_in, number_in}
+use Rattle.wording.specs.Token.{names, ascii, same, uncommented, words_from, name_from, token_of, slots_of, first_tokens, tokens_of, token_at}
 use Rattle.wording.specs.Line.{OPEN, MONTH, SUNSPOT, HOUR, FROM, TO, LONG, FACTORS, POLE, MODEL, CCIR, URSI, BEGIN, PATH, COMMIT, CANCEL, SHOW, TAKE, BACK}
-use Rattle.wording.specs.Line.{usualFactors, usualPole, wordFit, numberFit, wholeFit, modelFit, endFit, decimalAt, whole_at, model_at, pairFit, fourFit, routeFit, routeAt, routeEnd, factorsAt, poleAt, headFit, factorsStart, poleStart, modelStart, openEnd, factorsFit, poleFit, modelsFit, openFit, openingFactors, openingPole, openingModel, openingAt, changeLine, deedLine, word_line, numberLine, lineIn}
+use Rattle.wording.specs.Line.{usual_factors, usual_pole, word_fit, number_fit, whole_fit, model_fit, end_fit, decimal_at, whole_at, model_at, pair_fit, four_fit, route_fit, route_at, route_end, factors_at, pole_at, head_fit, factors_start, pole_start, model_start, open_end, factors_fit, pole_fit, models_fit, open_fit, opening_factors, opening_pole, opening_model, opening_at, change_line, deed_line, word_line, number_line, line_in}
 
 -- ---- the words have the numbers by which the grammar names them
 
@@ -30,8 +30,8 @@ numbered = refl
 -- ---- what an example opens, and its parts in short
 
 read : String → Line
-unfolding allDigits valueFrom beforePoint afterPoint isUnsigned unsignedIn number_in same uncommented wordsFrom nameFrom tokenOf slots_of firstTokens tokensOf tokenAt wordFit numberFit wholeFit modelFit endFit decimalAt whole_at model_at pairFit fourFit routeFit routeAt routeEnd factorsAt poleAt headFit factorsStart poleStart modelStart openEnd factorsFit poleFit modelsFit openFit openingFactors openingPole openingModel openingAt changeLine deedLine word_line numberLine lineIn
-read text = lineIn (ascii text)
+unfolding all_digits value_from before_point after_point is_unsigned unsigned_in number_in same uncommented words_from name_from token_of slots_of first_tokens tokens_of token_at word_fit number_fit whole_fit model_fit end_fit decimal_at whole_at model_at pair_fit four_fit route_fit route_at route_end factors_at pole_at head_fit factors_start pole_start model_start open_end factors_fit pole_fit models_fit open_fit opening_factors opening_pole opening_model opening_at change_line deed_line word_line number_line line_in
+read text = line_in (ascii text)
 
 -- the digits n, k of them after the point, above and below zero
 abbrev plus : ℕ → ℕ → Decimal
@@ -43,8 +43,8 @@ minus n k = record { negative = true; digits = n; places = k }
 abbrev wrong : ℕ → Wanted → Line
 wrong k wanted = line.Wrong (record { word = k; wanted = wanted })
 
-abbrev toIceland : ℕ → WrittenRoute
-toIceland long = record { tlat = plus 6247 2; tlong = plus 615 2; rlat = plus 6413 2; rlong = minus 219 1; long_path = long }
+abbrev to_iceland : ℕ → WrittenRoute
+to_iceland long = record { tlat = plus 6247 2; tlong = plus 615 2; rlat = plus 6413 2; rlong = minus 219 1; long_path = long }
 
 -- ---- nothing
 
@@ -66,9 +66,9 @@ begins : read "1 begin" ≡ line.Call (Begin 1)
 unfolding read
 begins = refl
 
-begins-with-comment : read "\t1  begin # the first\r" ≡ line.Call (Begin 1)
+begins_with_comment : read "\t1  begin # the first\r" ≡ line.Call (Begin 1)
 unfolding read
-begins-with-comment = refl
+begins_with_comment = refl
 
 sunspot : read "1 sunspot 92.5" ≡ line.Call (Change 1 (Sunspot (plus 925 1)))
 unfolding read
@@ -86,7 +86,7 @@ factors : read "1 factors 1 .5 1. 0.7" ≡ line.Call (Change 1 (Psc (record { e 
 unfolding read
 factors = refl
 
-pole : read "1 pole 78.5 -69" ≡ line.Call (Change 1 (Pole usualPole))
+pole : read "1 pole 78.5 -69" ≡ line.Call (Change 1 (Pole usual_pole))
 unfolding read
 pole = refl
 
@@ -114,9 +114,9 @@ shows : read "1 show" ≡ line.Call (Show 1)
 unfolding read
 shows = refl
 
-shows-all : read "show" ≡ line.Call (Show 0)
+shows_all : read "show" ≡ line.Call (Show 0)
 unfolding read
-shows-all = refl
+shows_all = refl
 
 takes_back : read "take back" ≡ line.Call TakeBack
 unfolding read
@@ -124,13 +124,13 @@ takes_back = refl
 
 -- ---- an open
 
-opens : read "open month 6 sunspot 80 hour 12 from 62.47 6.15 to 64.13 -21.9" ≡ line.Open (record { month = 6; ssn = plus 80 0; gmt = plus 12 0; route = toIceland 0; psc = usualFactors; pole = usualPole; model = 0 })
+opens : read "open month 6 sunspot 80 hour 12 from 62.47 6.15 to 64.13 -21.9" ≡ line.Open (record { month = 6; ssn = plus 80 0; gmt = plus 12 0; route = to_iceland 0; psc = usual_factors; pole = usual_pole; model = 0 })
 unfolding read
 opens = refl
 
-opens-with-all : read "open month 6 sunspot 80 hour 12 from 62.47 6.15 to 64.13 -21.9 long factors 1 1 1 .7 pole 78.5 -69 model ursi" ≡ line.Open (record { month = 6; ssn = plus 80 0; gmt = plus 12 0; route = toIceland 1; psc = record { e = plus 1 0; f1 = plus 1 0; f2 = plus 1 0; es = plus 7 1 }; pole = usualPole; model = 1 })
+opens_with_all : read "open month 6 sunspot 80 hour 12 from 62.47 6.15 to 64.13 -21.9 long factors 1 1 1 .7 pole 78.5 -69 model ursi" ≡ line.Open (record { month = 6; ssn = plus 80 0; gmt = plus 12 0; route = to_iceland 1; psc = record { e = plus 1 0; f1 = plus 1 0; f2 = plus 1 0; es = plus 7 1 }; pole = usual_pole; model = 1 })
 unfolding read
-opens-with-all = refl
+opens_with_all = refl
 
 -- ---- what is wrong
 
@@ -142,30 +142,30 @@ no_number : read "1 sunspot" ≡ wrong 3 Number
 unfolding read
 no_number = refl
 
-not-a-number : read "1 sunspot x" ≡ wrong 3 Number
+not_a_number : read "1 sunspot x" ≡ wrong 3 Number
 unfolding read
-not-a-number = refl
+not_a_number = refl
 
 one_more : read "1 begin now" ≡ wrong 3 Nothing
 unfolding read
 one_more = refl
 
-no-desk : read "begin" ≡ wrong 1 Start
+no_desk : read "begin" ≡ wrong 1 Start
 unfolding read
-no-desk = refl
+no_desk = refl
 
-take-alone : read "take" ≡ wrong 2 (Word BACK)
+take_alone : read "take" ≡ wrong 2 (Word BACK)
 unfolding read
-take-alone = refl
+take_alone = refl
 
-month-and-half : read "open month 6.5" ≡ wrong 3 Whole
+month_and_half : read "open month 6.5" ≡ wrong 3 Whole
 unfolding read
-month-and-half = refl
+month_and_half = refl
 
-no-model : read "1 model xyz" ≡ wrong 3 AModel
+no_model : read "1 model xyz" ≡ wrong 3 AModel
 unfolding read
-no-model = refl
+no_model = refl
 
-desk-too-large : read "4294967296 begin" ≡ wrong 1 Start
+desk_too_large : read "4294967296 begin" ≡ wrong 1 Start
 unfolding read
-desk-too-large = refl
+desk_too_large = refl

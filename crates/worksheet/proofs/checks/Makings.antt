@@ -10,26 +10,26 @@ use Rattle.worksheet.specs.declared.journal.Call.{Call as Made}
 use Rattle.worksheet.specs.declared.journal.Call.TheVariants.{Show}
 use Rattle.worksheet.specs.declared.journal.Answer.TheVariants.{Shown as IsShown}
 use Rattle.worksheet.specs.declared.journal.Next.{Next}
-use Rattle.worksheet.specs.Showing.{Source, showOf, showBuffer}
+use Rattle.worksheet.specs.Showing.{Source, show_of, show_buffer}
 use Rattle.worksheet.specs.Journal.{Step, step_of, step}
-use Rattle.worksheet.specs.Calls.{called, bufferAfter, next_of}
+use Rattle.worksheet.specs.Calls.{called, buffer_after, next_of}
 
 module _ (source : Source) (lent : List Float) (w : Worksheet) where
   abbrev stepped : Made → Step
   stepped k = step source (called k lent) w
 
   -- a call that shows nothing, of the case c, whose rule gives o
-  pub told-as : {k c : Made} {o : Outcome} {r : Next} → k ≡ c → stepped c ≡ step_of o → r ≡ next_of (step_of o)
-      → (r ≡ next_of (stepped k)) × (lent ≡ bufferAfter (stepped k).answer lent)
-  told-as e s q =
+  pub told_as : {k c : Made} {o : Outcome} {r : Next} → k ≡ c → stepped c ≡ step_of o → r ≡ next_of (step_of o)
+      → (r ≡ next_of (stepped k)) × (lent ≡ buffer_after (stepped k).answer lent)
+  told_as e s q =
       let h = ap stepped e ∙ s in
-      (q ∙ sym (ap next_of h), sym (ap (λ (t : Step). bufferAfter t.answer lent) h))
+      (q ∙ sym (ap next_of h), sym (ap (λ (t : Step). buffer_after t.answer lent) h))
 
-  pub shown-as : {k : Made} {n : ℕ} {shown : Shown} {after : List Float} → k ≡ Show n
-      → shown ≡ showOf source n lent w → after ≡ showBuffer source n lent w
-      → (record { answer = IsShown shown; sheet = w } ≡ next_of (stepped k)) × (after ≡ bufferAfter (stepped k).answer lent)
+  pub shown_as : {k : Made} {n : ℕ} {shown : Shown} {after : List Float} → k ≡ Show n
+      → shown ≡ show_of source n lent w → after ≡ show_buffer source n lent w
+      → (record { answer = IsShown shown; sheet = w } ≡ next_of (stepped k)) × (after ≡ buffer_after (stepped k).answer lent)
   unfolding step next_of
-  shown-as e p q = (
+  shown_as e p q = (
     ap (λ (s : Shown). record { answer = IsShown s; sheet = w }) p ∙ sym (ap (λ (k : Made). next_of (stepped k)) e),
-    q ∙ sym (ap (λ (k : Made). bufferAfter (stepped k).answer lent) e),
+    q ∙ sym (ap (λ (k : Made). buffer_after (stepped k).answer lent) e),
   )

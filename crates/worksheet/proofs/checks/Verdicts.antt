@@ -6,6 +6,6 @@ use Rattle.worksheet.specs.declared.desks.Worksheet.{Worksheet}
 use Rattle.worksheet.specs.Desks.{outcome}
 
 -- an outcome by a verdict and a worksheet that are others
-pub decided-as : {o : Outcome} {v v' : Verdict} {after after' : Worksheet} (w : Worksheet)
+pub decided_as : {o : Outcome} {v v' : Verdict} {after after' : Worksheet} (w : Worksheet)
     → o ≡ outcome v after w → v ≡ v' → after ≡ after' → o ≡ outcome v' after' w
-decided-as w p q r = p ∙ ap₂ (λ (x : Verdict) (y : Worksheet). outcome x y w) q r
+decided_as w p q r = p ∙ ap₂ (λ (x : Verdict) (y : Worksheet). outcome x y w) q r

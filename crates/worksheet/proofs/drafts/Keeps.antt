@@ -8,7 +8,7 @@ use lib.Dec.{eqb}
 use Rattle.base.specs.declared.refusal.Verdict.{Verdict}
 use Rattle.base.specs.declared.refusal.Verdict.TheVariants.{Accepted, Refused}
 use Rattle.base.specs.Refusal.{◌then◌}
-use Rattle.base.proofs.verdicts.Refusals.{then-both}
+use Rattle.base.proofs.verdicts.Refusals.{then_both}
 use Rattle.maps.specs.declared.inputs.Inputs.{Inputs}
 use Rattle.worksheet.specs.declared.inputs.Edit.{Edit}
 use Rattle.worksheet.specs.declared.desks.Draft.{Draft}
@@ -16,15 +16,15 @@ use Rattle.worksheet.specs.declared.desks.Draft.TheVariants.{Closed, Fresh, Stal
 use Rattle.worksheet.specs.declared.desks.Earlier.{Earlier}
 use Rattle.worksheet.specs.declared.desks.Earlier.TheVariants.{Nothing, Set}
 use Rattle.worksheet.specs.declared.desks.Worksheet.{Worksheet}
-use Rattle.worksheet.specs.Inputs.{editCheck, edited}
-use Rattle.worksheet.specs.Desks.{draftAt, withDraft, inputsOf, staleOf, movedTo, outcome, deskCheck, draftCheck, editedDraft, setOf, beginCheck, beginOf, changeCheck, changeOf, commitCheck, commitOf, cancelCheck, cancelOf, earlierCheck, takeBackOf, EarlierHas, DraftHas, SheetHas}
+use Rattle.worksheet.specs.Inputs.{edit_check, edited}
+use Rattle.worksheet.specs.Desks.{draft_at, with_draft, inputs_of, stale_of, moved_to, outcome, desk_check, draft_check, edited_draft, set_of, begin_check, begin_of, change_check, change_of, commit_check, commit_of, cancel_check, cancel_of, earlier_check, take_back_of, EarlierHas, DraftHas, SheetHas}
 use Rattle.worksheet.specs.Showing.{Source}
-use Rattle.worksheet.specs.Journal.{Call, begin, commit, cancel, change, takeBack, show, step}
+use Rattle.worksheet.specs.Journal.{Call, begin, commit, cancel, change, take_back, show, step}
 
 module _ (P : Inputs → Type 0) where
   -- an accepted change e keeps the property
   abbrev pub EditKeeps : Edit → Type 0
-  EditKeeps e = editCheck e ≡ Accepted → (i : Inputs) → P i → P (edited e i)
+  EditKeeps e = edit_check e ≡ Accepted → (i : Inputs) → P i → P (edited e i)
 
   -- ---- drafts read, put, turned stale and changed
 
@@ -32,16 +32,16 @@ module _ (P : Inputs → Type 0) where
   either true d o h k = h
   either false d o h k = k
 
-  at_has : (n : ℕ) (w : Worksheet) → SheetHas P w → DraftHas P (draftAt n w)
-  unfolding draftAt
+  at_has : (n : ℕ) (w : Worksheet) → SheetHas P w → DraftHas P (draft_at n w)
+  unfolding draft_at
   at_has n w h =
       either (eqb n 1) w.d1 _ h.d1
       (either (eqb n 2) w.d2 _ h.d2
       (either (eqb n 3) w.d3 _ h.d3 (either (eqb n 4) w.d4 Closed h.d4 tt)))
 
-  with-has : (n : ℕ) (d : Draft) (w : Worksheet) → DraftHas P d → SheetHas P w → SheetHas P (withDraft n d w)
-  unfolding withDraft
-  with-has n d w k h =
+  with_has : (n : ℕ) (d : Draft) (w : Worksheet) → DraftHas P d → SheetHas P w → SheetHas P (with_draft n d w)
+  unfolding with_draft
+  with_has n d w k h =
       record {
         inputs = h.inputs;
         earlier = h.earlier;
@@ -51,73 +51,73 @@ module _ (P : Inputs → Type 0) where
         d4 = either (eqb n 4) d w.d4 k h.d4;
       }
 
-  of-has : (d : Draft) (i : Inputs) → DraftHas P d → P i → P (inputsOf d i)
-  unfolding inputsOf
-  of-has Closed i k h = h
-  of-has (Fresh x) i k h = k
-  of-has (Stale x) i k h = k
+  of_has : (d : Draft) (i : Inputs) → DraftHas P d → P i → P (inputs_of d i)
+  unfolding inputs_of
+  of_has Closed i k h = h
+  of_has (Fresh x) i k h = k
+  of_has (Stale x) i k h = k
 
-  set-has : (e : Earlier) (i : Inputs) → EarlierHas P e → P i → P (setOf e i)
-  unfolding setOf
-  set-has Nothing i k h = h
-  set-has (Set x) i k h = k
+  set_has : (e : Earlier) (i : Inputs) → EarlierHas P e → P i → P (set_of e i)
+  unfolding set_of
+  set_has Nothing i k h = h
+  set_has (Set x) i k h = k
 
-  stale-has : (d : Draft) → DraftHas P d → DraftHas P (staleOf d)
-  unfolding staleOf
-  stale-has Closed k = tt
-  stale-has (Fresh x) k = k
-  stale-has (Stale x) k = k
+  stale_has : (d : Draft) → DraftHas P d → DraftHas P (stale_of d)
+  unfolding stale_of
+  stale_has Closed k = tt
+  stale_has (Fresh x) k = k
+  stale_has (Stale x) k = k
 
-  draft-has : (e : Edit) (d : Draft) → ((i : Inputs) → P i → P (edited e i)) → DraftHas P d →
-      DraftHas P (editedDraft e d)
-  unfolding editedDraft
-  draft-has e Closed h k = tt
-  draft-has e (Fresh x) h k = h x k
-  draft-has e (Stale x) h k = h x k
+  draft_has : (e : Edit) (d : Draft) → ((i : Inputs) → P i → P (edited e i)) → DraftHas P d →
+      DraftHas P (edited_draft e d)
+  unfolding edited_draft
+  draft_has e Closed h k = tt
+  draft_has e (Fresh x) h k = h x k
+  draft_has e (Stale x) h k = h x k
 
-  moved-has : (i : Inputs) (e : Earlier) (w : Worksheet) → P i → EarlierHas P e → SheetHas P w →
-      SheetHas P (movedTo i e w)
-  unfolding movedTo
-  moved-has i e w hi he h =
+  moved_has : (i : Inputs) (e : Earlier) (w : Worksheet) → P i → EarlierHas P e → SheetHas P w →
+      SheetHas P (moved_to i e w)
+  unfolding moved_to
+  moved_has i e w hi he h =
       record {
         inputs = hi;
         earlier = he;
-        d1 = stale-has w.d1 h.d1;
-        d2 = stale-has w.d2 h.d2;
-        d3 = stale-has w.d3 h.d3;
-        d4 = stale-has w.d4 h.d4;
+        d1 = stale_has w.d1 h.d1;
+        d2 = stale_has w.d2 h.d2;
+        d3 = stale_has w.d3 h.d3;
+        d4 = stale_has w.d4 h.d4;
       }
 
   -- ---- every call keeps it
 
-  outcome-has : (v : Verdict) (after w : Worksheet) → (v ≡ Accepted → SheetHas P after) → SheetHas P w →
+  outcome_has : (v : Verdict) (after w : Worksheet) → (v ≡ Accepted → SheetHas P after) → SheetHas P w →
       SheetHas P (outcome v after w).sheet
   unfolding outcome
-  outcome-has Accepted after w h k = h refl
-  outcome-has (Refused why) after w h k = k
+  outcome_has Accepted after w h k = h refl
+  outcome_has (Refused why) after w h k = k
 
   pub step_keeps : (source : Source) (c : Call) (w : Worksheet) →
       ((n : ℕ) (e : Edit) → c ≡ change n e → EditKeeps e) → SheetHas P w → SheetHas P (step source c w).sheet
-  unfolding step beginOf changeOf changeCheck commitOf cancelOf takeBackOf
+  unfolding step begin_of change_of change_check commit_of cancel_of take_back_of
   step_keeps source (begin n) w keeps h =
-      outcome-has (beginCheck n w) _ w (λ a. with-has n (Fresh w.inputs) w h.inputs h) h
+      outcome_has (begin_check n w) _ w (λ a. with_has n (Fresh w.inputs) w h.inputs h) h
   step_keeps source (change n e) w keeps h =
-      let d = editedDraft e (draftAt n w) in
-      outcome-has (changeCheck n e w) (withDraft n d w) w
+      let d = edited_draft e (draft_at n w) in
+      outcome_has (change_check n e w) (with_draft n d w) w
       (λ a.
-      let b = then-both (deskCheck n) (draftCheck (draftAt n w) then editCheck e) a in
-      let c = then-both (draftCheck (draftAt n w)) (editCheck e) b.1 in
-      with-has n d w (draft-has e (draftAt n w) (keeps n e refl c.1) (at_has n w h)) h)
+      let b = then_both (desk_check n) (draft_check (draft_at n w) then edit_check e) a in
+      let c = then_both (draft_check (draft_at n w)) (edit_check e) b.1 in
+      with_has n d w (draft_has e (draft_at n w) (keeps n e refl c.1) (at_has n w h)) h)
       h
   step_keeps source (commit n) w keeps h =
-      let i = inputsOf (draftAt n w) w.inputs in
-      let m = movedTo i (Set w.inputs) w in
-      let k = of-has (draftAt n w) w.inputs (at_has n w h) h.inputs in
-      outcome-has (commitCheck n w) (withDraft n Closed m) w
-      (λ a. with-has n Closed m tt (moved-has i (Set w.inputs) w k h.inputs h)) h
-  step_keeps source (cancel n) w keeps h = outcome-has (cancelCheck n w) _ w (λ a. with-has n Closed w tt h) h
-  step_keeps source takeBack w keeps h =
-      let i = setOf w.earlier w.inputs in
-      outcome-has (earlierCheck w.earlier) (movedTo i Nothing w) w
-      (λ a. moved-has i Nothing w (set-has w.earlier w.inputs h.earlier h.inputs) tt h) h
+      let i = inputs_of (draft_at n w) w.inputs in
+      let m = moved_to i (Set w.inputs) w in
+      let k = of_has (draft_at n w) w.inputs (at_has n w h) h.inputs in
+      outcome_has (commit_check n w) (with_draft n Closed m) w
+      (λ a. with_has n Closed m tt (moved_has i (Set w.inputs) w k h.inputs h)) h
+  step_keeps source (cancel n) w keeps h = outcome_has (cancel_check n w) _ w (λ a. with_has n Closed w tt h) h
+  step_keeps source take_back w keeps h =
+      let i = set_of w.earlier w.inputs in
+      outcome_has (earlier_check w.earlier) (moved_to i Nothing w) w
+      (λ a. moved_has i Nothing w (set_has w.earlier w.inputs h.earlier h.inputs) tt h) h
   step_keeps source (show n lent) w keeps h = h

@@ -6,17 +6,17 @@ use mathlib.Core.Path.{◌≡◌, refl}
 use lib.Ieee.{Float, round, le}
 use Rattle.base.specs.declared.refusal.Refusal.TheVariants.{Hour as BadHour, Figures, Desk, Drafted, NoDraft, Stale as IsStale, NothingEarlier}
 use Rattle.base.specs.declared.refusal.Verdict.TheVariants.{Accepted, Refused}
-use Rattle.base.specs.Single.{decimal, minusDecimal}
+use Rattle.base.specs.Single.{decimal, minus_decimal}
 use Rattle.maps.specs.declared.inputs.Inputs.{Inputs}
 use Rattle.maps.specs.declared.figures.Shown.TheVariants.{Refused as NotShown}
 use Rattle.worksheet.specs.declared.inputs.Edit.{Edit}
 use Rattle.worksheet.specs.declared.inputs.Edit.TheVariants.{Sunspot, Hour}
-use Rattle.base.specs.Ranges.{monthCheck, hourCheck, latitudeCheck, longitudeCheck, modelCheck}
-use Rattle.worksheet.specs.Inputs.{sunspotCheck, factorCheck, flagCheck, routeCheck, factorsCheck, poleCheck, inputsCheck, editCheck, edited}
-use Rattle.worksheet.specs.Desks.{draftAt, withDraft, inputsOf, staleOf, movedTo, outcome, deskCheck, closedCheck, draftCheck, freshCheck, earlierCheck, freshSheet, openOf, beginCheck, beginOf, changeCheck, editedDraft, changeOf, commitCheck, commitOf, cancelCheck, cancelOf, setOf, takeBackOf}
-use Rattle.worksheet.specs.Showing.{Source, inputsShown, askedCheck, bufferCheck, drawnCheck, judgedCheck, showCheck, showOf, showBuffer}
-use Rattle.worksheet.specs.Journal.{Call, begin, commit, cancel, change, takeBack, show, Answer, told, shown, Entry, step, run, own, keptFor, shorter, calls_of, keptOf}
-use Rattle.worksheet.specs.InForce.{editsOf, changesBy, forceAfter, commitsInForce}
+use Rattle.base.specs.Ranges.{month_check, hour_check, latitude_check, longitude_check, model_check}
+use Rattle.worksheet.specs.Inputs.{sunspot_check, factor_check, flag_check, route_check, factors_check, pole_check, inputs_check, edit_check, edited}
+use Rattle.worksheet.specs.Desks.{draft_at, with_draft, inputs_of, stale_of, moved_to, outcome, desk_check, closed_check, draft_check, fresh_check, earlier_check, fresh_sheet, open_of, begin_check, begin_of, change_check, edited_draft, change_of, commit_check, commit_of, cancel_check, cancel_of, set_of, take_back_of}
+use Rattle.worksheet.specs.Showing.{Source, inputs_shown, asked_check, buffer_check, drawn_check, judged_check, show_check, show_of, show_buffer}
+use Rattle.worksheet.specs.Journal.{Call, begin, commit, cancel, change, take_back, show, Answer, told, shown, Entry, step, run, own, kept_for, shorter, calls_of, kept_of}
+use Rattle.worksheet.specs.InForce.{edits_of, changes_by, force_after, commits_in_force}
 use Rattle.worksheet.proofs.drafts.Openings.{degrees}
 
 -- two hours and a sunspot number in range, and an hour that is not
@@ -34,8 +34,8 @@ late = Hour (decimal 25 0)
 
 -- inputs that no open accepts, which a worksheet handed in may hold all the same: every showing of
 -- them is refused
-abbrev outOfRange : Inputs → Inputs
-outOfRange i = record { month = 1; ssn = decimal 100 0; gmt = decimal 25 0; route = i.route; psc = i.psc; pole = i.pole; model = 0 }
+abbrev out_of_range : Inputs → Inputs
+out_of_range i = record { month = 1; ssn = decimal 100 0; gmt = decimal 25 0; route = i.route; psc = i.psc; pole = i.pole; model = 0 }
 
 -- inputs that open accepts
 abbrev pub in_range : Inputs
@@ -49,9 +49,9 @@ in_range = record {
   model = 0;
 }
 
-pub in-range : (openOf in_range).answer ≡ Accepted
-unfolding openOf inputsCheck monthCheck sunspotCheck hourCheck routeCheck latitudeCheck longitudeCheck flagCheck factorsCheck factorCheck poleCheck modelCheck decimal minusDecimal round le
-in-range = refl
+pub in_range_law : (open_of in_range).answer ≡ Accepted
+unfolding open_of inputs_check month_check sunspot_check hour_check route_check latitude_check longitude_check flag_check factors_check factor_check pole_check model_check decimal minus_decimal round le
+in_range_law = refl
 
 abbrev entry : Call → Answer → Entry
 entry c r = record { call = c; answer = r }
@@ -60,12 +60,12 @@ module _ (source : Source) (i : Inputs) (x : Float) (a b c d : List Float) where
   -- the entries of a run on a worksheet just opened, and the shorter list's; every rule is open to
   -- computation
   full : Inputs → List Call → List Entry
-  unfolding run step freshSheet draftAt withDraft inputsOf staleOf movedTo outcome deskCheck closedCheck draftCheck freshCheck earlierCheck beginCheck beginOf changeCheck editedDraft changeOf commitCheck commitOf cancelCheck cancelOf setOf takeBackOf editCheck edited sunspotCheck hourCheck monthCheck latitudeCheck longitudeCheck factorCheck flagCheck routeCheck factorsCheck poleCheck modelCheck inputsCheck inputsShown askedCheck bufferCheck drawnCheck judgedCheck showCheck showOf showBuffer decimal minusDecimal round le
-  full j cs = (run source cs (freshSheet j)).entries
+  unfolding run step fresh_sheet draft_at with_draft inputs_of stale_of moved_to outcome desk_check closed_check draft_check fresh_check earlier_check begin_check begin_of change_check edited_draft change_of commit_check commit_of cancel_check cancel_of set_of take_back_of edit_check edited sunspot_check hour_check month_check latitude_check longitude_check factor_check flag_check route_check factors_check pole_check model_check inputs_check inputs_shown asked_check buffer_check drawn_check judged_check show_check show_of show_buffer decimal minus_decimal round le
+  full j cs = (run source cs (fresh_sheet j)).entries
 
   short : Inputs → List Call → List Entry
-  unfolding full keptOf shorter keptFor own
-  short j cs = keptOf source (freshSheet j) cs
+  unfolding full kept_of shorter kept_for own
+  short j cs = kept_of source (fresh_sheet j) cs
 
   -- the calls of the shorter list
   kept : List Call → List Call
@@ -80,26 +80,26 @@ module _ (source : Source) (i : Inputs) (x : Float) (a b c d : List Float) where
   moved_up = refl
 
   -- a cancelled draft's calls are dropped; the own begin is the last accepted one
-  last-begin : kept (begin 1 ∷ change 1 three ∷ show 1 a ∷ cancel 1 ∷ begin 1 ∷ change 1 four ∷ show 1 b ∷ commit 1 ∷ [])
+  last_begin : kept (begin 1 ∷ change 1 three ∷ show 1 a ∷ cancel 1 ∷ begin 1 ∷ change 1 four ∷ show 1 b ∷ commit 1 ∷ [])
       ≡ begin 1 ∷ change 1 four ∷ show 1 b ∷ commit 1 ∷ []
   unfolding kept
-  last-begin = refl
+  last_begin = refl
 
   -- a refused begin is no own begin
-  begun-once : kept (begin 1 ∷ change 1 three ∷ begin 1 ∷ change 1 hundred ∷ commit 1 ∷ [])
+  begun_once : kept (begin 1 ∷ change 1 three ∷ begin 1 ∷ change 1 hundred ∷ commit 1 ∷ [])
       ≡ begin 1 ∷ change 1 three ∷ change 1 hundred ∷ commit 1 ∷ []
   unfolding kept
-  begun-once = refl
+  begun_once = refl
 
   -- a refused change is dropped, a later one stays
-  refused-change : kept (begin 2 ∷ change 2 late ∷ show 2 a ∷ change 2 three ∷ commit 2 ∷ [])
+  refused_change : kept (begin 2 ∷ change 2 late ∷ show 2 a ∷ change 2 three ∷ commit 2 ∷ [])
       ≡ begin 2 ∷ show 2 a ∷ change 2 three ∷ commit 2 ∷ []
   unfolding kept
-  refused-change = refl
+  refused_change = refl
 
   -- refused showings, the own desk's and the worksheet's, are kept with their refusals; the buffers
   -- are as they were lent
-  refused-showings : short (outOfRange i) (begin 1 ∷ show 1 a ∷ show 0 b ∷ commit 1 ∷ show 0 c ∷ [])
+  refused_showings : short (out_of_range i) (begin 1 ∷ show 1 a ∷ show 0 b ∷ commit 1 ∷ show 0 c ∷ [])
       ≡ entry (show 0 b) (shown (NotShown BadHour) b)
       ∷ entry (begin 1) (told Accepted)
       ∷ entry (show 1 a) (shown (NotShown BadHour) a)
@@ -107,11 +107,11 @@ module _ (source : Source) (i : Inputs) (x : Float) (a b c d : List Float) where
       ∷ entry (show 0 c) (shown (NotShown BadHour) c)
       ∷ []
   unfolding short
-  refused-showings = refl
+  refused_showings = refl
 
   -- the same of inputs in range, refused 12 for their short buffers, before and after the draft was
   -- changed
-  refused-buffers : short in_range (begin 1 ∷ show 1 (x ∷ []) ∷ show 0 [] ∷ change 1 three ∷ show 1 [] ∷ commit 1 ∷ show 0 (x ∷ []) ∷ [])
+  refused_buffers : short in_range (begin 1 ∷ show 1 (x ∷ []) ∷ show 0 [] ∷ change 1 three ∷ show 1 [] ∷ commit 1 ∷ show 0 (x ∷ []) ∷ [])
       ≡ entry (show 0 []) (shown (NotShown Figures) [])
       ∷ entry (begin 1) (told Accepted)
       ∷ entry (show 1 (x ∷ [])) (shown (NotShown Figures) (x ∷ []))
@@ -121,84 +121,84 @@ module _ (source : Source) (i : Inputs) (x : Float) (a b c d : List Float) where
       ∷ entry (show 0 (x ∷ [])) (shown (NotShown Figures) (x ∷ []))
       ∷ []
   unfolding short
-  refused-buffers = refl
+  refused_buffers = refl
 
   -- refused so, a showing of another desk, of a cancelled draft or of a stale one is dropped with
   -- its draft's other calls
-  dropped-buffers : short in_range (begin 2 ∷ show 2 [] ∷ begin 1 ∷ begin 3 ∷ show 3 [] ∷ cancel 3 ∷ show 1 [] ∷ commit 1 ∷ show 2 [] ∷ [])
+  dropped_buffers : short in_range (begin 2 ∷ show 2 [] ∷ begin 1 ∷ begin 3 ∷ show 3 [] ∷ cancel 3 ∷ show 1 [] ∷ commit 1 ∷ show 2 [] ∷ [])
       ≡ entry (begin 1) (told Accepted)
       ∷ entry (show 1 []) (shown (NotShown Figures) [])
       ∷ entry (commit 1) (told Accepted)
       ∷ []
   unfolding short
-  dropped-buffers = refl
+  dropped_buffers = refl
 
   -- a desk's showing before its begin or after its commit, refused 16, is no own one
-  no-draft-showings : kept (show 1 a ∷ begin 1 ∷ show 1 b ∷ commit 1 ∷ show 1 c ∷ begin 1 ∷ commit 1 ∷ show 1 d ∷ [])
+  no_draft_showings : kept (show 1 a ∷ begin 1 ∷ show 1 b ∷ commit 1 ∷ show 1 c ∷ begin 1 ∷ commit 1 ∷ show 1 d ∷ [])
       ≡ begin 1 ∷ show 1 b ∷ commit 1 ∷ begin 1 ∷ commit 1 ∷ []
   unfolding kept
-  no-draft-showings = refl
+  no_draft_showings = refl
 
   -- another desk's showings and changes are dropped
-  other-desks : kept (begin 1 ∷ begin 2 ∷ show 1 a ∷ show 2 b ∷ show 3 c ∷ change 1 three ∷ commit 2 ∷ [])
+  other_desks : kept (begin 1 ∷ begin 2 ∷ show 1 a ∷ show 2 b ∷ show 3 c ∷ change 1 three ∷ commit 2 ∷ [])
       ≡ begin 2 ∷ show 2 b ∷ commit 2 ∷ []
   unfolding kept
-  other-desks = refl
+  other_desks = refl
 
   -- two desks: the second's draft is stale, its commit refused and its calls dropped
-  abbrev twoDesks : List Call
-  twoDesks = begin 1 ∷ begin 2 ∷ change 1 three ∷ change 2 hundred ∷ commit 1 ∷ commit 2 ∷ show 2 a ∷ show 0 b ∷ cancel 2 ∷ []
+  abbrev two_desks : List Call
+  two_desks = begin 1 ∷ begin 2 ∷ change 1 three ∷ change 2 hundred ∷ commit 1 ∷ commit 2 ∷ show 2 a ∷ show 0 b ∷ cancel 2 ∷ []
 
-  second-stale : kept twoDesks ≡ begin 1 ∷ change 1 three ∷ commit 1 ∷ show 0 b ∷ []
+  second_stale : kept two_desks ≡ begin 1 ∷ change 1 three ∷ commit 1 ∷ show 0 b ∷ []
   unfolding kept
-  second-stale = refl
+  second_stale = refl
 
   -- a take-back between begin and commit: the draft is stale; a second take-back is refused and
   -- dropped
-  taken_back : kept (begin 1 ∷ change 1 three ∷ commit 1 ∷ begin 2 ∷ change 2 hundred ∷ takeBack ∷ commit 2 ∷ takeBack ∷ show 0 a ∷ [])
-      ≡ begin 1 ∷ change 1 three ∷ commit 1 ∷ takeBack ∷ show 0 a ∷ []
+  taken_back : kept (begin 1 ∷ change 1 three ∷ commit 1 ∷ begin 2 ∷ change 2 hundred ∷ take_back ∷ commit 2 ∷ take_back ∷ show 0 a ∷ [])
+      ≡ begin 1 ∷ change 1 three ∷ commit 1 ∷ take_back ∷ show 0 a ∷ []
   unfolding kept
   taken_back = refl
 
   -- several commits, each with its own calls, one of them with no change; a stale draft is
   -- cancelled and begun anew
-  each-its-own : kept (begin 1 ∷ begin 2 ∷ change 2 three ∷ commit 1 ∷ cancel 2 ∷ begin 2 ∷ begin 3 ∷ change 2 four ∷ show 3 a ∷ commit 2 ∷ begin 1 ∷ change 1 hundred ∷ takeBack ∷ cancel 1 ∷ begin 1 ∷ commit 1 ∷ [])
-      ≡ begin 1 ∷ commit 1 ∷ begin 2 ∷ change 2 four ∷ commit 2 ∷ takeBack ∷ begin 1 ∷ commit 1 ∷ []
+  each_its_own : kept (begin 1 ∷ begin 2 ∷ change 2 three ∷ commit 1 ∷ cancel 2 ∷ begin 2 ∷ begin 3 ∷ change 2 four ∷ show 3 a ∷ commit 2 ∷ begin 1 ∷ change 1 hundred ∷ take_back ∷ cancel 1 ∷ begin 1 ∷ commit 1 ∷ [])
+      ≡ begin 1 ∷ commit 1 ∷ begin 2 ∷ change 2 four ∷ commit 2 ∷ take_back ∷ begin 1 ∷ commit 1 ∷ []
   unfolding kept
-  each-its-own = refl
+  each_its_own = refl
 
   -- no desk, no draft, no earlier set: all refused, nothing kept
-  nothing-kept : kept (begin 0 ∷ begin 5 ∷ change 1 three ∷ commit 9 ∷ commit 1 ∷ cancel 1 ∷ show 7 a ∷ show 1 b ∷ takeBack ∷ []) ≡ []
+  nothing_kept : kept (begin 0 ∷ begin 5 ∷ change 1 three ∷ commit 9 ∷ commit 1 ∷ cancel 1 ∷ show 7 a ∷ show 1 b ∷ take_back ∷ []) ≡ []
   unfolding kept
-  nothing-kept = refl
+  nothing_kept = refl
 
   -- another list of two desks, answer by answer
-  abbrev answersOf : List Entry → List Answer
-  answersOf [] = []
-  answersOf (x ∷ l) = x.answer ∷ answersOf l
+  abbrev answers_of : List Entry → List Answer
+  answers_of [] = []
+  answers_of (x ∷ l) = x.answer ∷ answers_of l
 
-  answers : answersOf (full i (begin 1 ∷ begin 2 ∷ begin 2 ∷ change 1 late ∷ change 3 three ∷ commit 1 ∷ commit 2 ∷ cancel 2 ∷ commit 2 ∷ takeBack ∷ takeBack ∷ begin 0 ∷ []))
+  answers : answers_of (full i (begin 1 ∷ begin 2 ∷ begin 2 ∷ change 1 late ∷ change 3 three ∷ commit 1 ∷ commit 2 ∷ cancel 2 ∷ commit 2 ∷ take_back ∷ take_back ∷ begin 0 ∷ []))
       ≡ told Accepted ∷ told Accepted ∷ told (Refused Drafted) ∷ told (Refused BadHour) ∷ told (Refused NoDraft) ∷ told Accepted
       ∷ told (Refused IsStale) ∷ told Accepted ∷ told (Refused NoDraft) ∷ told Accepted ∷ told (Refused NothingEarlier) ∷ told (Refused Desk) ∷ []
   unfolding full
   answers = refl
 
   -- the changes in force after a list of calls
-  inForceAfter : List Call → List Edit
-  unfolding full commitsInForce forceAfter changesBy editsOf own
-  inForceAfter cs = changesBy (commitsInForce (freshSheet i) (full i cs))
+  in_force_after : List Call → List Edit
+  unfolding full commits_in_force force_after changes_by edits_of own
+  in_force_after cs = changes_by (commits_in_force (fresh_sheet i) (full i cs))
 
   -- a draft not committed yet, a cancelled one and a refused change have no part in them
-  committed-only : inForceAfter (begin 1 ∷ change 1 three ∷ change 1 late ∷ begin 2 ∷ change 2 four ∷ cancel 2 ∷ commit 1 ∷ begin 3 ∷ change 3 hundred ∷ []) ≡ three ∷ []
-  unfolding inForceAfter
-  committed-only = refl
+  committed_only : in_force_after (begin 1 ∷ change 1 three ∷ change 1 late ∷ begin 2 ∷ change 2 four ∷ cancel 2 ∷ commit 1 ∷ begin 3 ∷ change 3 hundred ∷ []) ≡ three ∷ []
+  unfolding in_force_after
+  committed_only = refl
 
   -- commits add their changes in the order of the commits; a take-back takes the last one's away,
   -- and only that
-  in-commit-order : inForceAfter (begin 1 ∷ change 1 three ∷ commit 1 ∷ begin 2 ∷ change 2 hundred ∷ change 2 four ∷ commit 2 ∷ []) ≡ three ∷ hundred ∷ four ∷ []
-  unfolding inForceAfter
-  in-commit-order = refl
+  in_commit_order : in_force_after (begin 1 ∷ change 1 three ∷ commit 1 ∷ begin 2 ∷ change 2 hundred ∷ change 2 four ∷ commit 2 ∷ []) ≡ three ∷ hundred ∷ four ∷ []
+  unfolding in_force_after
+  in_commit_order = refl
 
-  last-taken-back : inForceAfter (begin 1 ∷ change 1 three ∷ commit 1 ∷ begin 2 ∷ change 2 hundred ∷ commit 2 ∷ takeBack ∷ takeBack ∷ begin 3 ∷ change 3 four ∷ commit 3 ∷ []) ≡ three ∷ four ∷ []
-  unfolding inForceAfter
-  last-taken-back = refl
+  last_taken_back : in_force_after (begin 1 ∷ change 1 three ∷ commit 1 ∷ begin 2 ∷ change 2 hundred ∷ commit 2 ∷ take_back ∷ take_back ∷ begin 3 ∷ change 3 four ∷ commit 3 ∷ []) ≡ three ∷ four ∷ []
+  unfolding in_force_after
+  last_taken_back = refl

@@ -9,139 +9,139 @@ use lib.Ieee.{Float}
 use borrow.Author.Tests.{eqb-true}
 use Rattle.base.specs.declared.refusal.Verdict.TheVariants.{Accepted}
 use Rattle.maps.specs.declared.inputs.Inputs.{Inputs}
-use Rattle.maps.specs.Figures.{sheetPath, figuresOf, pointsOr}
+use Rattle.maps.specs.Figures.{sheet_path, figures_of, points_or}
 use Rattle.worksheet.specs.declared.inputs.Edit.{Edit}
 use Rattle.worksheet.specs.declared.desks.Draft.{Draft}
 use Rattle.worksheet.specs.declared.desks.Draft.TheVariants.{Closed, Fresh}
 use Rattle.worksheet.specs.declared.desks.Earlier.TheVariants.{Nothing, Set}
 use Rattle.worksheet.specs.declared.desks.Worksheet.{Worksheet}
-use Rattle.base.specs.Refusal.{◌then◌, writtenOver}
-use Rattle.worksheet.specs.Inputs.{inputsCheck, edited}
-use Rattle.worksheet.specs.Desks.{draftAt, withDraft, inputsOf, movedTo, deskCheck, draftCheck, freshSheet, openOf, editedDraft}
-use Rattle.worksheet.specs.Showing.{Source, inputsShown, askedCheck, drawnCheck, judgedCheck, showCheck, showOf, showBuffer}
-use Rattle.worksheet.specs.Journal.{Call, begin, commit, cancel, change, takeBack, show, shown, Role, beginning, ending, settling, belonging, returning, showing, roleOf, accepted, Step, step, Demand3}
+use Rattle.base.specs.Refusal.{◌then◌, written_over}
+use Rattle.worksheet.specs.Inputs.{inputs_check, edited}
+use Rattle.worksheet.specs.Desks.{draft_at, with_draft, inputs_of, moved_to, desk_check, draft_check, fresh_sheet, open_of, edited_draft}
+use Rattle.worksheet.specs.Showing.{Source, inputs_shown, asked_check, drawn_check, judged_check, show_check, show_of, show_buffer}
+use Rattle.worksheet.specs.Journal.{Call, begin, commit, cancel, change, take_back, show, shown, Role, beginning, ending, settling, belonging, returning, showing, role_of, accepted, Step, step, Demand3}
 use Rattle.worksheet.specs.InForce.{changed}
-use Rattle.worksheet.proofs.drafts.Drafts.{atRest, FreshAt, alone, closed-not-fresh, fresh-same, rest-draft, rest-with, inputs-with, earlier-with, with-with, with-fresh, with-draft, with-other, moved-not-fresh, moved-rest, settled-not-fresh, settled-rest}
-use Rattle.worksheet.proofs.drafts.Effects.{accepting, edited-fresh, refused-unmoved, begun, begin-leaves, was-changed, change-leaves, change-fresh, committed, commit-leaves, cancel-leaves, taken_back, takeBack-leaves}
-use Rattle.worksheet.proofs.lists.Replay.{Local, sheetOf, Like, Law, OwnLaw, alike}
+use Rattle.worksheet.proofs.drafts.Drafts.{at_rest, FreshAt, alone, closed_not_fresh, fresh_same, rest_draft, rest_with, inputs_with, earlier_with, with_with, with_fresh, with_draft_law, with_other, moved_not_fresh, moved_rest, settled_not_fresh, settled_rest}
+use Rattle.worksheet.proofs.drafts.Effects.{accepting, edited_fresh, refused_unmoved, begun, begin_leaves, was_changed, change_leaves, change_fresh, committed, commit_leaves, cancel_leaves, taken_back, take_back_leaves}
+use Rattle.worksheet.proofs.lists.Replay.{Local, sheet_of, Like, Law, OwnLaw, alike}
 
 -- desk n's draft became d
-moved-alone : (n : ℕ) (d : Draft) (w v : Worksheet) → v ≡ withDraft n d w → Local n w v
-moved-alone n d w v h = record {
-  at_rest = ap atRest h ∙ rest-with n d w;
-  others = λ m x e f. sym (with-other n m d e w) ∙ sym (ap (draftAt m) h) ∙ f;
+moved_alone : (n : ℕ) (d : Draft) (w v : Worksheet) → v ≡ with_draft n d w → Local n w v
+moved_alone n d w v h = record {
+  at_rest = ap at_rest h ∙ rest_with n d w;
+  others = λ m x e f. sym (with_other n m d e w) ∙ sym (ap (draft_at m) h) ∙ f;
 }
 
 -- the worksheet is no desk's
-sheet-draft : (n : ℕ) (v : Worksheet) → eqb n 0 ≡ true → draftAt n v ≡ Closed
-unfolding draftAt
-sheet-draft n v e = ap (λ (k : ℕ). draftAt k v) (eqb-true n 0 e)
+sheet_draft : (n : ℕ) (v : Worksheet) → eqb n 0 ≡ true → draft_at n v ≡ Closed
+unfolding draft_at
+sheet_draft n v e = ap (λ (k : ℕ). draft_at k v) (eqb-true n 0 e)
 
 module _ (source : Source) where
   abbrev left : Call → Worksheet → Worksheet
-  left c w = sheetOf source c w
+  left c w = sheet_of source c w
 
   -- a call that is accepted on v and on w
   like : (c : Call) (w v u t : Worksheet) → step source c v ≡ accepting u → step source c w ≡ accepting t → Like source c w v u
   like c w v u t p q = p ∙ sym (ap (λ (s : Step). record { answer = s.answer; sheet = u }) q)
 
-  begin-law : (n : ℕ) (w : Worksheet) → Law source (beginning n) (begin n) w
-  begin-law n w = record {
-    refused = refused-unmoved source (begin n) w;
+  begin_law : (n : ℕ) (w : Worksheet) → Law source (beginning n) (begin n) w
+  begin_law n w = record {
+    refused = refused_unmoved source (begin n) w;
     done = λ a.
         let b = begun source n w a in
         let d = Fresh w.inputs in
-        let is = begin-leaves source n w b in
+        let is = begin_leaves source n w b in
         let at = ap (λ (s : Step). s.sheet) is in
         record {
-          local = moved-alone n d w (left (begin n) w) at;
-          copied = λ x h. sym (fresh-same (with-fresh n d w x (sym (ap (draftAt n) at) ∙ h)));
-          alike = λ x h. like (begin n) w (atRest w) (alone n x w) (withDraft n d w)
-              (begin-leaves source n (atRest w) (record { desk = b.desk; closed = rest-draft n w })
-              ∙ ap (λ (z : Draft). accepting (withDraft n z (atRest w))) (with-fresh n d w x (sym (ap (draftAt n) at) ∙ h)))
+          local = moved_alone n d w (left (begin n) w) at;
+          copied = λ x h. sym (fresh_same (with_fresh n d w x (sym (ap (draft_at n) at) ∙ h)));
+          alike = λ x h. like (begin n) w (at_rest w) (alone n x w) (with_draft n d w)
+              (begin_leaves source n (at_rest w) (record { desk = b.desk; closed = rest_draft n w })
+              ∙ ap (λ (z : Draft). accepting (with_draft n z (at_rest w))) (with_fresh n d w x (sym (ap (draft_at n) at) ∙ h)))
               is;
         };
   }
 
-  own-change : (n : ℕ) (e : Edit) (w : Worksheet) → accepted (step source (change n e) w).answer ≡ true → OwnLaw source n (e ∷ []) (change n e) w
+  own_change : (n : ℕ) (e : Edit) (w : Worksheet) → accepted (step source (change n e) w).answer ≡ true → OwnLaw source n (e ∷ []) (change n e) w
   unfolding changed
-  own-change n e w a =
-      let b = was-changed source n e w a in
-      let d = editedDraft e (draftAt n w) in
-      let is = change-leaves source n e w b in
+  own_change n e w a =
+      let b = was_changed source n e w a in
+      let d = edited_draft e (draft_at n w) in
+      let is = change_leaves source n e w b in
       let at = ap (λ (s : Step). s.sheet) is in
       record {
-        local = moved-alone n d w (left (change n e) w) at;
+        local = moved_alone n d w (left (change n e) w) at;
         alike = λ x h.
-            let f = edited-fresh e (draftAt n w) x (with-fresh n d w x (sym (ap (draftAt n) at) ∙ h)) in
+            let f = edited_fresh e (draft_at n w) x (with_fresh n d w x (sym (ap (draft_at n) at) ∙ h)) in
             let y = f.0 in (
               y,
               f.1,
               f.2,
-              like (change n e) w (alone n y w) (alone n x w) (withDraft n d w)
-                  (change-fresh source n e (alone n y w) y b.desk b.good (with-draft n w (atRest w) (Fresh y) y f.1)
-                  ∙ ap accepting (with-with n (Fresh (edited e y)) (Fresh y) (atRest w))
+              like (change n e) w (alone n y w) (alone n x w) (with_draft n d w)
+                  (change_fresh source n e (alone n y w) y b.desk b.good (with_draft_law n w (at_rest w) (Fresh y) y f.1)
+                  ∙ ap accepting (with_with n (Fresh (edited e y)) (Fresh y) (at_rest w))
                   ∙ ap (λ (z : Inputs). accepting (alone n z w)) (sym f.2))
                   is,
             );
       }
 
-  change-law : (n : ℕ) (e : Edit) (w : Worksheet) → Law source (belonging n false (e ∷ [])) (change n e) w
-  change-law n e w = record { refused = refused-unmoved source (change n e) w; done = own-change n e w }
+  change_law : (n : ℕ) (e : Edit) (w : Worksheet) → Law source (belonging n false (e ∷ [])) (change n e) w
+  change_law n e w = record { refused = refused_unmoved source (change n e) w; done = own_change n e w }
 
-  cancel-law : (n : ℕ) (w : Worksheet) → Law source (ending n) (cancel n) w
-  cancel-law n w = record {
-    refused = refused-unmoved source (cancel n) w;
+  cancel_law : (n : ℕ) (w : Worksheet) → Law source (ending n) (cancel n) w
+  cancel_law n w = record {
+    refused = refused_unmoved source (cancel n) w;
     done = λ a.
-        let at = ap (λ (s : Step). s.sheet) (cancel-leaves source n w a) in
+        let at = ap (λ (s : Step). s.sheet) (cancel_leaves source n w a) in
         record {
-          local = moved-alone n Closed w (left (cancel n) w) at;
-          none = λ x h. closed-not-fresh refl (with-fresh n Closed w x (sym (ap (draftAt n) at) ∙ h));
+          local = moved_alone n Closed w (left (cancel n) w) at;
+          none = λ x h. closed_not_fresh refl (with_fresh n Closed w x (sym (ap (draft_at n) at) ∙ h));
         };
   }
 
-  commit-law : (n : ℕ) (w : Worksheet) → Law source (settling n) (commit n) w
-  unfolding movedTo
-  commit-law n w = record {
-    refused = refused-unmoved source (commit n) w;
+  commit_law : (n : ℕ) (w : Worksheet) → Law source (settling n) (commit n) w
+  unfolding moved_to
+  commit_law n w = record {
+    refused = refused_unmoved source (commit n) w;
     done = λ a.
         let b = committed source n w a in
         let x = b.draft in
-        let moved = movedTo x (Set w.inputs) w in
-        let is = commit-leaves source n w x b.desk b.fresh in
+        let moved = moved_to x (Set w.inputs) w in
+        let is = commit_leaves source n w x b.desk b.fresh in
         let at = ap (λ (s : Step). s.sheet) is in
-        let none : (m : ℕ) (y : Inputs) → FreshAt m y (left (commit n) w) → ⊥ = λ m y h. settled-not-fresh n m x (Set w.inputs) w y (sym (ap (draftAt m) at) ∙ h) in
+        let none : (m : ℕ) (y : Inputs) → FreshAt m y (left (commit n) w) → ⊥ = λ m y h. settled_not_fresh n m x (Set w.inputs) w y (sym (ap (draft_at m) at) ∙ h) in
         record {
           draft = x;
           fresh = b.fresh;
-          inputs = ap (λ (u : Worksheet). u.inputs) at ∙ inputs-with n Closed moved;
-          earlier = ap (λ (u : Worksheet). u.earlier) at ∙ earlier-with n Closed moved;
-          alike = like (commit n) w (alone n x w) (atRest (left (commit n) w)) (withDraft n Closed moved)
-              (commit-leaves source n (alone n x w) x b.desk (with-draft n w (atRest w) (Fresh x) x b.fresh)
-              ∙ ap (λ (i : Inputs). accepting (withDraft n Closed (movedTo x (Set i) (alone n x w)))) (inputs-with n (Fresh x) (atRest w))
-              ∙ ap accepting (settled-rest n x x (Set w.inputs) w ∙ sym (ap atRest at)))
+          inputs = ap (λ (u : Worksheet). u.inputs) at ∙ inputs_with n Closed moved;
+          earlier = ap (λ (u : Worksheet). u.earlier) at ∙ earlier_with n Closed moved;
+          alike = like (commit n) w (alone n x w) (at_rest (left (commit n) w)) (with_draft n Closed moved)
+              (commit_leaves source n (alone n x w) x b.desk (with_draft_law n w (at_rest w) (Fresh x) x b.fresh)
+              ∙ ap (λ (i : Inputs). accepting (with_draft n Closed (moved_to x (Set i) (alone n x w)))) (inputs_with n (Fresh x) (at_rest w))
+              ∙ ap accepting (settled_rest n x x (Set w.inputs) w ∙ sym (ap at_rest at)))
               is;
           settled = λ m y h. absurd (none m y h);
           none = none;
         };
   }
 
-  takeBack-law : (w : Worksheet) → Law source returning takeBack w
-  unfolding movedTo
-  takeBack-law w = record {
-    refused = refused-unmoved source takeBack w;
+  take_back_law : (w : Worksheet) → Law source returning take_back w
+  unfolding moved_to
+  take_back_law w = record {
+    refused = refused_unmoved source take_back w;
     done = λ a.
         let b = taken_back source w a in
-        let is = takeBack-leaves source w b.0 b.1 in
+        let is = take_back_leaves source w b.0 b.1 in
         let at = ap (λ (s : Step). s.sheet) is in
-        let none : (m : ℕ) (x : Inputs) → FreshAt m x (left takeBack w) → ⊥ = λ m x h. moved-not-fresh m b.0 Nothing w x (sym (ap (draftAt m) at) ∙ h) in
+        let none : (m : ℕ) (x : Inputs) → FreshAt m x (left take_back w) → ⊥ = λ m x h. moved_not_fresh m b.0 Nothing w x (sym (ap (draft_at m) at) ∙ h) in
         record {
           set = b.0;
           was = b.1;
           inputs = ap (λ (u : Worksheet). u.inputs) at;
           earlier = ap (λ (u : Worksheet). u.earlier) at;
-          alike = like takeBack w (atRest w) (atRest (left takeBack w)) (movedTo b.0 Nothing w)
-              (takeBack-leaves source (atRest w) b.0 b.1 ∙ ap accepting (moved-rest b.0 Nothing w ∙ sym (ap atRest at)))
+          alike = like take_back w (at_rest w) (at_rest (left take_back w)) (moved_to b.0 Nothing w)
+              (take_back_leaves source (at_rest w) b.0 b.1 ∙ ap accepting (moved_rest b.0 Nothing w ∙ sym (ap at_rest at)))
               is;
           settled = λ m x h. absurd (none m x h);
           none = none;
@@ -149,20 +149,20 @@ module _ (source : Source) where
   }
 
   -- a showing goes by the worksheet's inputs and by the draft asked for
-  show-same : (n : ℕ) (lent : List Float) (v w : Worksheet) → v.inputs ≡ w.inputs → draftAt n v ≡ draftAt n w → Like source (show n lent) w v v
-  unfolding step showOf showBuffer showCheck judgedCheck askedCheck inputsShown
-  show-same n lent v w p q = ap₂ (λ (i : Inputs) (d : Draft).
-      let j = cond (eqb n 0) i (inputsOf d i) in
-      let check = (cond (eqb n 0) Accepted (deskCheck n then draftCheck d) then inputsCheck j) then drawnCheck (source j) (length lent) in
+  show_same : (n : ℕ) (lent : List Float) (v w : Worksheet) → v.inputs ≡ w.inputs → draft_at n v ≡ draft_at n w → Like source (show n lent) w v v
+  unfolding step show_of show_buffer show_check judged_check asked_check inputs_shown
+  show_same n lent v w p q = ap₂ (λ (i : Inputs) (d : Draft).
+      let j = cond (eqb n 0) i (inputs_of d i) in
+      let check = (cond (eqb n 0) Accepted (desk_check n then draft_check d) then inputs_check j) then drawn_check (source j) (length lent) in
       record {
-        answer = shown (pointsOr check (sheetPath j).count) (writtenOver check (figuresOf (source j).f2 (source j).file j) lent);
+        answer = shown (points_or check (sheet_path j).count) (written_over check (figures_of (source j).f2 (source j).file j) lent);
         sheet = v;
       }) p q
 
-  show-law : (n : ℕ) (lent : List Float) (w : Worksheet) (b : Bool) → eqb n 0 ≡ b → Law source (cond b showing (belonging n true [])) (show n lent) w
+  show_law : (n : ℕ) (lent : List Float) (w : Worksheet) (b : Bool) → eqb n 0 ≡ b → Law source (cond b showing (belonging n true [])) (show n lent) w
   unfolding step changed
-  show-law n lent w true e = record { same = refl; alike = show-same n lent (atRest w) w refl (sheet-draft n (atRest w) e ∙ sym (sheet-draft n w e)) }
-  show-law n lent w false e = record {
+  show_law n lent w true e = record { same = refl; alike = show_same n lent (at_rest w) w refl (sheet_draft n (at_rest w) e ∙ sym (sheet_draft n w e)) }
+  show_law n lent w false e = record {
     refused = λ h. absurd (true≢false h);
     done = λ h. record {
       local = record { at_rest = refl; others = λ m x q f. f };
@@ -170,25 +170,25 @@ module _ (source : Source) where
         x,
         f,
         refl,
-        show-same n lent (alone n x w) w (inputs-with n (Fresh x) (atRest w)) (with-draft n w (atRest w) (Fresh x) x f ∙ sym f),
+        show_same n lent (alone n x w) w (inputs_with n (Fresh x) (at_rest w)) (with_draft_law n w (at_rest w) (Fresh x) x f ∙ sym f),
       );
     };
   }
 
-  pub law : (c : Call) (w : Worksheet) → Law source (roleOf c) c w
-  law (begin n) w = begin-law n w
-  law (change n e) w = change-law n e w
-  law (cancel n) w = cancel-law n w
-  law (commit n) w = commit-law n w
-  law takeBack w = takeBack-law w
-  law (show n lent) w = show-law n lent w (eqb n 0) refl
+  pub law : (c : Call) (w : Worksheet) → Law source (role_of c) c w
+  law (begin n) w = begin_law n w
+  law (change n e) w = change_law n e w
+  law (cancel n) w = cancel_law n w
+  law (commit n) w = commit_law n w
+  law take_back w = take_back_law w
+  law (show n lent) w = show_law n lent w (eqb n 0) refl
 
   -- DEMAND 3 over any source of files: for every worksheet whose desks are closed, and every list
   -- of calls
-  pub demand-3-lent : (w : Worksheet) → atRest w ≡ w → (cs : List Call) → Demand3 source w cs
-  demand-3-lent w h cs = alike source law w h cs
+  pub demand_3_lent : (w : Worksheet) → at_rest w ≡ w → (cs : List Call) → Demand3 source w cs
+  demand_3_lent w h cs = alike source law w h cs
 
 -- DEMAND 3: for every source of files, every worksheet that open gives, and every list of calls
-pub demand-3 : (source : Source) (i : Inputs) → (openOf i).answer ≡ Accepted → (cs : List Call) → Demand3 source (openOf i).sheet cs
-unfolding openOf freshSheet
-demand-3 source i h cs = demand-3-lent source (openOf i).sheet refl cs
+pub demand_3 : (source : Source) (i : Inputs) → (open_of i).answer ≡ Accepted → (cs : List Call) → Demand3 source (open_of i).sheet cs
+unfolding open_of fresh_sheet
+demand_3 source i h cs = demand_3_lent source (open_of i).sheet refl cs

@@ -6,7 +6,7 @@ use Rattle.yearbook.proofs.is_good_at.Tie as tie
 returns : tie.Need-returns
 returns c = c.is-good.ensures
 
-pub is-good-at-spec : {M : Type 1} → statement M
-is-good-at-spec =
+pub is_good_at_spec : {M : Type 1} → statement M
+is_good_at_spec =
     tie.close
     (tie.spec (λ c. search rules) (λ c. search rules) (λ c. search rules) (λ c κs. search rules) returns)

@@ -6,18 +6,18 @@ use lib.ListN.{length}
 use Rattle.yearbook.proofs.pack_with.Statement.{statement}
 use Rattle.yearbook.proofs.pack_with.Tie as tie
 
-abbrev invariant-loop : tie.invariant-loop
-invariant-loop year₀ sizes₀ at₀ k₀ year sizes at k = (k ≤ 14) × (at ≤ 1048576) × (length sizes ≡ 14)
+abbrev invariant_loop : tie.invariant_loop
+invariant_loop year₀ sizes₀ at₀ k₀ year sizes at k = (k ≤ 14) × (at ≤ 1048576) × (length sizes ≡ 14)
 
-abbrev decreases-loop : tie.decreases-loop
-decreases-loop year₀ sizes₀ at₀ k₀ year sizes at k = 14 - k
+abbrev decreases_loop : tie.decreases_loop
+decreases_loop year₀ sizes₀ at₀ k₀ year sizes at k = 14 - k
 
-pub pack-with-spec : {M : Type 1} → statement M
-pack-with-spec =
+pub pack_with_spec : {M : Type 1} → statement M
+pack_with_spec =
     tie.close
     (tie.spec
-    invariant-loop
-    decreases-loop
+    invariant_loop
+    decreases_loop
     (λ c. search rules)
     (λ c. search rules)
     (λ c κs. search rules)

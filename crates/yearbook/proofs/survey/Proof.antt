@@ -4,26 +4,26 @@ use Prim.Native.Nat.{◌≤◌, ◌-◌}
 use Rattle.yearbook.proofs.survey.Statement.{statement}
 use Rattle.yearbook.proofs.survey.Tie as tie
 
-abbrev invariant-loop2 : tie.invariant-loop2
-invariant-loop2 year month model₀ model = (model ≤ 2) × (month ≤ 12)
+abbrev invariant_loop2 : tie.invariant_loop2
+invariant_loop2 year month model₀ model = (model ≤ 2) × (month ≤ 12)
 
-abbrev decreases-loop2 : tie.decreases-loop2
-decreases-loop2 year month model₀ model = 2 - model
+abbrev decreases_loop2 : tie.decreases_loop2
+decreases_loop2 year month model₀ model = 2 - model
 
-abbrev invariant-loop : tie.invariant-loop
-invariant-loop year month₀ month = month ≤ 13
+abbrev invariant_loop : tie.invariant_loop
+invariant_loop year month₀ month = month ≤ 13
 
-abbrev decreases-loop : tie.decreases-loop
-decreases-loop year month₀ month = 13 - month
+abbrev decreases_loop : tie.decreases_loop
+decreases_loop year month₀ month = 13 - month
 
-pub survey-spec : {M : Type 1} → statement M
-survey-spec =
+pub survey_spec : {M : Type 1} → statement M
+survey_spec =
     tie.close
     (tie.spec
-    invariant-loop2
-    decreases-loop2
-    invariant-loop
-    decreases-loop
+    invariant_loop2
+    decreases_loop2
+    invariant_loop
+    decreases_loop
     (λ c. search rules)
     (λ c. search rules)
     (λ c κs. search rules)

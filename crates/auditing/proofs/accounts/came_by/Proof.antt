@@ -1,18 +1,18 @@
--- `came_by` is `cameBy`, by the case of the origin.
+-- `came_by` is `came_by`, by the case of the origin.
 use borrow.Author.Rules.{rules}
 use mathlib.Core.Path.{sym, ap, ◌∙◌}
 use Rattle.listing.specs.declared.account.Came.TheVariants as came
-use Rattle.auditing.specs.Accounts.{cameBy}
+use Rattle.auditing.specs.Accounts.{came_by}
 use Rattle.auditing.proofs.accounts.came_by.Statement.{statement}
 use Rattle.auditing.proofs.accounts.came_by.Tie as tie
 
 returns : tie.Need-returns
 returns c =
     let a = c.before.before.before.before.args in
-    sym (ap (cameBy a.opened a.marks.now a.numbers.now) c.enum_told.given.1)
+    sym (ap (came_by a.opened a.marks.now a.numbers.now) c.enum_told.given.1)
 
-returns-2 : tie.Need-returns-2
-returns-2 c =
+returns_2 : tie.Need-returns-2
+returns_2 c =
     let d = c.before.before in
     let o = d.before.before in
     let a = o.before.before.before.before.args in
@@ -20,10 +20,10 @@ returns-2 c =
     let line = c.before.number_at.ensures in
     let settled = c.number-at2.ensures in
     (λ t. came.Set (desk t) (line t) (settled t))
-    ∙ sym (ap (cameBy a.opened a.marks.now a.numbers.now) o.origin.given.1)
+    ∙ sym (ap (came_by a.opened a.marks.now a.numbers.now) o.origin.given.1)
 
-pub came-by-spec : {M : Type 1} → statement M
-came-by-spec =
+pub came_by_spec : {M : Type 1} → statement M
+came_by_spec =
     tie.close
     (tie.spec
     (λ c. search rules)
@@ -32,4 +32,4 @@ came-by-spec =
     (λ c κs. search rules)
     (λ c κs. search rules)
     returns
-    returns-2)
+    returns_2)

@@ -1,25 +1,25 @@
--- `opened_as` is `openedAs`, field by field.
+-- `opened_as` is `opened_as`, field by field.
 use borrow.Author.Rules.{rules}
 use mathlib.Core.Path.{◌≡◌, ap, ◌∙◌}
 use Rattle.worksheet.specs.declared.desks.Outcome.{Outcome}
-use Rattle.worksheet.specs.Desks.{openOf}
-use Rattle.wording.specs.Written.{inputsWritten}
-use Rattle.auditing.specs.Gathered.{stageOf, openedAs}
+use Rattle.worksheet.specs.Desks.{open_of}
+use Rattle.wording.specs.Written.{inputs_written}
+use Rattle.auditing.specs.Gathered.{stage_of, opened_as}
 use Rattle.auditing.proofs.gathering.opened_as.Statement.{statement}
 use Rattle.auditing.proofs.gathering.opened_as.Tie as tie
 
 returns : tie.Need-returns
-unfolding openedAs
+unfolding opened_as
 returns c =
     let o = c.before.before.«open» in
     let a = c.before.before.before.before.args in
     let i = c.before.before.before.inputs-written.ensures in
-    let first : o.result ≡ openOf (inputsWritten a.o) = o.ensures ∙ ap openOf i in
-    let stage = c.stage-of.ensures ∙ ap (λ (x : Outcome). stageOf x.answer) first in
+    let first : o.result ≡ open_of (inputs_written a.o) = o.ensures ∙ ap open_of i in
+    let stage = c.stage-of.ensures ∙ ap (λ (x : Outcome). stage_of x.answer) first in
     λ t. record { stage = stage t; sheet = (first t).sheet; count = 0; opened = a.n; start = a.s }
 
-pub opened-as-spec : {M : Type 1} → statement M
-opened-as-spec =
+pub opened_as_spec : {M : Type 1} → statement M
+opened_as_spec =
     tie.close
     (tie.spec
     (λ c κs. search rules)

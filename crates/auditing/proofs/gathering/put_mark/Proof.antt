@@ -5,15 +5,15 @@ use lib.Seq.{set_out}
 use Rattle.auditing.proofs.gathering.put_mark.Statement.{statement}
 use Rattle.auditing.proofs.gathering.put_mark.Tie as tie
 
-returns-2 : tie.Need-returns-2
-returns-2 c = let a = c.before.args in sym (set_out a.out.now a.k a.mark c.if1.false)
+returns_2 : tie.Need-returns-2
+returns_2 c = let a = c.before.args in sym (set_out a.out.now a.k a.mark c.if1.false)
 
-pub put-mark-spec : {M : Type 1} → statement M
-put-mark-spec =
+pub put_mark_spec : {M : Type 1} → statement M
+put_mark_spec =
     tie.close
     (tie.spec
     (λ c. search rules)
     (λ c. search rules)
     (λ c. search rules)
     (λ c. search rules)
-    returns-2)
+    returns_2)

@@ -5,15 +5,15 @@ use lib.Seq.{set_out}
 use Rattle.auditing.proofs.gathering.put_number.Statement.{statement}
 use Rattle.auditing.proofs.gathering.put_number.Tie as tie
 
-returns-2 : tie.Need-returns-2
-returns-2 c = let a = c.before.args in sym (set_out a.out.now a.k a.n c.if1.false)
+returns_2 : tie.Need-returns-2
+returns_2 c = let a = c.before.args in sym (set_out a.out.now a.k a.n c.if1.false)
 
-pub put-number-spec : {M : Type 1} → statement M
-put-number-spec =
+pub put_number_spec : {M : Type 1} → statement M
+put_number_spec =
     tie.close
     (tie.spec
     (λ c. search rules)
     (λ c. search rules)
     (λ c. search rules)
     (λ c. search rules)
-    returns-2)
+    returns_2)

@@ -1,14 +1,14 @@
--- `is_done` is `isDone`, by whether the sort is this one.
+-- `is_done` is `is_done`, by whether the sort is this one.
 use borrow.Author.Tests.{eq-eqb, ne_eqb}
-use Rattle.auditing.proofs.places.Flags.{and-on, and-off}
+use Rattle.auditing.proofs.places.Flags.{and_on, and_off}
 use Rattle.auditing.proofs.marks.is_done.Statement.{statement}
 use Rattle.auditing.proofs.marks.is_done.Tie as tie
 
 returns : tie.Need-returns
-returns c = and-on _ (eq-eqb _ _ c.if1.true)
+returns c = and_on _ (eq-eqb _ _ c.if1.true)
 
-returns-2 : tie.Need-returns-2
-returns-2 c = and-off _ (ne_eqb _ _ c.if1.false)
+returns_2 : tie.Need-returns-2
+returns_2 c = and_off _ (ne_eqb _ _ c.if1.false)
 
-pub is-done-spec : {M : Type 1} → statement M
-is-done-spec = tie.close (tie.spec returns returns-2)
+pub is_done_spec : {M : Type 1} → statement M
+is_done_spec = tie.close (tie.spec returns returns_2)

@@ -5,23 +5,23 @@ use Prim.Native.Nat.{ℕ, ◌-◌, ◌≤◌}
 use mathlib.Core.Path.{◌≡◌, refl, ap, ◌∙◌}
 use native.Mathlib.Omega.{arith}
 use lib.ListN.{length}
-use Rattle.auditing.specs.Marks.{keptPlaces, pile, allGiven}
-use Rattle.auditing.proofs.places.Piles.{kept-start, kept_next, all-kept}
+use Rattle.auditing.specs.Marks.{kept_places, pile, all_given}
+use Rattle.auditing.proofs.places.Piles.{kept_start, kept_next, all_kept}
 use Rattle.auditing.proofs.marks.kept_in.Statement.{statement}
 use Rattle.auditing.proofs.marks.kept_in.Tie as tie
 
-abbrev invariant-loop : tie.invariant-loop
-invariant-loop marks count out₀ size₀ j₀ out size j =
-    (j ≤ count) × (length out ≡ length out₀) × (pile size out ≡ allGiven (keptPlaces marks j) (pile 0 out₀))
+abbrev invariant_loop : tie.invariant_loop
+invariant_loop marks count out₀ size₀ j₀ out size j =
+    (j ≤ count) × (length out ≡ length out₀) × (pile size out ≡ all_given (kept_places marks j) (pile 0 out₀))
 
-abbrev decreases-loop : tie.decreases-loop
-decreases-loop marks count out₀ size₀ j₀ out size j = count - j
+abbrev decreases_loop : tie.decreases_loop
+decreases_loop marks count out₀ size₀ j₀ out size j = count - j
 
-loop-holds : tie.Need-loop-init invariant-loop decreases-loop
-loop-holds c = let a = c.before.before.args in (search rules, refl, kept-start a.marks.now (pile 0 a.out.now))
+loop_holds : tie.Need-loop-init invariant_loop decreases_loop
+loop_holds c = let a = c.before.before.args in (search rules, refl, kept_start a.marks.now (pile 0 a.out.now))
 
-loop-again : tie.Need-loop-preserved invariant-loop decreases-loop
-loop-again c =
+loop_again : tie.Need-loop-preserved invariant_loop decreases_loop
+loop_again c =
     let p = c.before.before in
     let t = p.before.before in
     let l = t.before.loop in
@@ -31,24 +31,24 @@ loop-again c =
       kept_next _ l.j (pile 0 a.out.now) l.invariant.2 p.push-Kept.ensures,
     )
 
-returns : tie.Need-returns invariant-loop decreases-loop
+returns : tie.Need-returns invariant_loop decreases_loop
 returns c =
     let l = c.before.loop in
     let a = c.before.before.before.before.args in
     let e : l.j ≡ a.count = omega arith in
-    all-kept (keptPlaces a.marks.now a.count) a.out.now l.out l.size
-    (l.invariant.2 ∙ ap (λ (i : ℕ). allGiven (keptPlaces a.marks.now i) (pile 0 a.out.now)) e)
+    all_kept (kept_places a.marks.now a.count) a.out.now l.out l.size
+    (l.invariant.2 ∙ ap (λ (i : ℕ). all_given (kept_places a.marks.now i) (pile 0 a.out.now)) e)
 
-pub kept-in-spec : {M : Type 1} → statement M
-kept-in-spec =
+pub kept_in_spec : {M : Type 1} → statement M
+kept_in_spec =
     tie.close
     (tie.spec
-    invariant-loop
-    decreases-loop
-    loop-holds
+    invariant_loop
+    decreases_loop
+    loop_holds
     (λ c κs. search rules)
     (λ c. search rules)
     (λ c. search rules)
-    loop-again
+    loop_again
     (λ c. search rules)
     returns)

@@ -1,11 +1,11 @@
--- `sheet_part` writes `sheetPart`: the heading, the sheet, and nothing after it.
+-- `sheet_part` writes `sheet_part`: the heading, the sheet, and nothing after it.
 use borrow.Author.Rules.{rules}
 use Prim.Native.Nat.{suc}
 use mathlib.Core.Path.{refl, sym}
 use native.Mathlib.Omega.{arith}
 use borrow.Author.Tests.{le-leb, lt-leb}
 use Rattle.worksheet.specs.Showing.{lent_as}
-use Rattle.auditing.proofs.pages.Parts.{part-as, sheet-head, sheet-itself, sheet-past}
+use Rattle.auditing.proofs.pages.Parts.{part_as, sheet_head_law, sheet_itself, sheet_past}
 use Rattle.auditing.proofs.page.sheet_part.Statement.{statement}
 use Rattle.auditing.proofs.page.sheet_part.Tie as tie
 
@@ -14,26 +14,26 @@ returns c =
     let a = c.before.before.before.before.before.before.before.args in
     let e = c.before.laid.ensures in
     let source = lent_as a.lent a.a.now a.b.now in
-    part-as _ c.more.ensures e.0 (sheet-head source a.g a.k (omega arith))
+    part_as _ c.more.ensures e.0 (sheet_head_law source a.g a.k (omega arith))
     (sym (lt-leb 2 (suc a.k) (omega arith))) e.1
 
-returns-2 : tie.Need-returns-2
-returns-2 c =
+returns_2 : tie.Need-returns-2
+returns_2 c =
     let a = c.before.before.before.before.before.before.before.before.args in
     let e = c.before.sheet-account.ensures in
     let source = lent_as a.lent a.a.now a.b.now in
-    part-as _ c.done.ensures e.0 (sheet-itself source a.g a.k (omega arith))
+    part_as _ c.done.ensures e.0 (sheet_itself source a.g a.k (omega arith))
     (sym (le-leb 2 (suc a.k) (omega arith))) e.1
 
-returns-3 : tie.Need-returns-3
-returns-3 c =
+returns_3 : tie.Need-returns-3
+returns_3 c =
     let a = c.before.before.before.before.before.args in
     let source = lent_as a.lent a.a.now a.b.now in
-    part-as _ c.done2.ensures refl (sheet-past source a.g a.k (λ q. omega arith) (λ q. omega arith))
+    part_as _ c.done2.ensures refl (sheet_past source a.g a.k (λ q. omega arith) (λ q. omega arith))
     (sym (le-leb 2 (suc a.k) (omega arith))) (omega arith, refl)
 
-pub sheet-part-spec : {M : Type 1} → statement M
-sheet-part-spec =
+pub sheet_part_spec : {M : Type 1} → statement M
+sheet_part_spec =
     tie.close
     (tie.spec
     (λ c. search rules)
@@ -42,6 +42,6 @@ sheet-part-spec =
     returns
     (λ c κs. search rules)
     (λ c κs. search rules)
-    returns-2
+    returns_2
     (λ c κs. search rules)
-    returns-3)
+    returns_3)

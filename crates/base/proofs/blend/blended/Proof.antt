@@ -6,5 +6,5 @@ use Rattle.base.proofs.blend.blended.Tie as tie
 returns : tie.Need-returns
 returns c = refl
 
-pub blended-spec : {M : Type 1} → statement M
-blended-spec = tie.close (tie.spec returns)
+pub blended_spec : {M : Type 1} → statement M
+blended_spec = tie.close (tie.spec returns)

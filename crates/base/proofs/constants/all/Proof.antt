@@ -11,5 +11,5 @@ returns : tie.Need-returns
 unfolding D2R R2D PI PI2 PIO2 RZ VOFL GAMA DCL decimal round of_bits
 returns c = refl
 
-pub all-spec : {M : Type 1} → statement M
-all-spec = tie.close (tie.spec returns)
+pub all_spec : {M : Type 1} → statement M
+all_spec = tie.close (tie.spec returns)

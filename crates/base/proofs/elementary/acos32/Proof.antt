@@ -1,14 +1,14 @@
 -- `acos32` widens, works in `f64` and narrows, as its definition does.
 use Rattle.std.proofs.Common.{ap, ◌∙◌, rules}
-use Rattle.base.specs.Number.{narrowOf}
-use Rattle.base.specs.Elementary.{acosOf, acos32Of}
+use Rattle.base.specs.Number.{narrow_of}
+use Rattle.base.specs.Elementary.{acos_of, acos32_of}
 use Rattle.base.proofs.elementary.acos32.Statement.{statement}
 use Rattle.base.proofs.elementary.acos32.Tie as tie
 
 returns : tie.Need-returns
-unfolding acos32Of
-returns c = c.narrow.ensures ∙ ap narrowOf (c.before.acos64.ensures ∙ ap acosOf c.before.before.widen.ensures)
+unfolding acos32_of
+returns c = c.narrow.ensures ∙ ap narrow_of (c.before.acos64.ensures ∙ ap acos_of c.before.before.widen.ensures)
 
-pub acos32-spec : {M : Type 1} → statement M
-acos32-spec =
+pub acos32_spec : {M : Type 1} → statement M
+acos32_spec =
     tie.close (tie.spec (λ c κs. search rules) (λ c κs. search rules) (λ c κs. search rules) returns)

@@ -1,17 +1,17 @@
--- `atan_series` is `atanSeries`: its table is the fractions, and `horner` is the sum.
+-- `atan_series` is `atan_series`: its table is the fractions, and `horner` is the sum.
 use Rattle.std.proofs.Common.{List, ap, ◌∙◌, rules}
 use lib.Ieee.{Float, round, of_bits}
 use Rattle.base.specs.Double.{◌⊗◌, fraction}
-use Rattle.base.specs.Elementary.{horner, atanSeries}
-use Rattle.base.proofs.steps.Terms.{atan-tied}
+use Rattle.base.specs.Elementary.{horner, atan_series}
+use Rattle.base.proofs.steps.Terms.{atan_tied}
 use Rattle.base.proofs.elementary.atan_series.Statement.{statement}
 use Rattle.base.proofs.elementary.atan_series.Tie as tie
 
 returns : tie.Need-returns
-unfolding atanSeries fraction round of_bits
+unfolding atan_series fraction round of_bits
 returns c =
     let a = c.before.before.args.a in
-    ap (λ (s : Float). a ⊗ s) (c.horner.ensures ∙ ap (λ (t : List Float). horner t (a ⊗ a)) atan-tied)
+    ap (λ (s : Float). a ⊗ s) (c.horner.ensures ∙ ap (λ (t : List Float). horner t (a ⊗ a)) atan_tied)
 
-pub atan-series-spec : {M : Type 1} → statement M
-atan-series-spec = tie.close (tie.spec (λ c. search rules) (λ c κs. search rules) returns)
+pub atan_series_spec : {M : Type 1} → statement M
+atan_series_spec = tie.close (tie.spec (λ c. search rules) (λ c κs. search rules) returns)

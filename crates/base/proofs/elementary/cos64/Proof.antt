@@ -1,27 +1,27 @@
--- `cos64` is `cosOf`: up to 1000 in size by `split` and `cos_at`, and else 0 / 0.
+-- `cos64` is `cos_of`: up to 1000 in size by `split` and `cos_at`, and else 0 / 0.
 use Rattle.std.proofs.Common.{◌≡◌, true, T, sym, ap, ◌∙◌, subst, rules}
 use lib.Ieee.{Float, binary64, le, round, of_bits}
 use Rattle.base.specs.Double.{fraction}
-use Rattle.base.specs.Number.{absOf}
-use Rattle.base.specs.Elementary.{cosOf, cosAt}
+use Rattle.base.specs.Number.{abs_of}
+use Rattle.base.specs.Elementary.{cos_of, cos_at}
 use Rattle.base.proofs.rounding.Patterns.{no_number}
-use Rattle.base.proofs.verdicts.Picks.{cond-true, cond-false}
+use Rattle.base.proofs.verdicts.Picks.{cond_true, cond_false}
 use Rattle.base.proofs.elementary.cos64.Statement.{statement}
 use Rattle.base.proofs.elementary.cos64.Tie as tie
 
-within : (c : tie.Then1) → le (absOf c.before.before.args.v) (fraction 1000 1) ≡ true
+within : (c : tie.Then1) → le (abs_of c.before.before.args.v) (fraction 1000 1) ≡ true
 unfolding fraction round of_bits
 within c = ap (λ (a : Float). le a (fraction 1000 1)) (sym c.before.abs64.ensures) ∙ c.if1.true
 
 returns : tie.Need-returns
-unfolding cosOf
+unfolding cos_of
 returns c =
     let p = c.before.split.ensures in
-    c.cos-at.ensures ∙ (λ i. cosAt (p.0 i) (p.1 i)) ∙ sym (cond-true _ _ (within c.before.before))
+    c.cos_at_law.ensures ∙ (λ i. cos_at (p.0 i) (p.1 i)) ∙ sym (cond_true _ _ (within c.before.before))
 
-returns-2 : tie.Need-returns-2
-unfolding cosOf fraction round of_bits
-returns-2 c = no_number binary64 ∙ sym (cond-false _ _ (ap (λ (a : Float). le a (fraction 1000 1)) (sym c.before.abs64.ensures) ∙ c.if1.false))
+returns_2 : tie.Need-returns-2
+unfolding cos_of fraction round of_bits
+returns_2 c = no_number binary64 ∙ sym (cond_false _ _ (ap (λ (a : Float). le a (fraction 1000 1)) (sym c.before.abs64.ensures) ∙ c.if1.false))
 
-pub cos64-spec : {M : Type 1} → statement M
-cos64-spec = tie.close (tie.spec (λ c κs. search rules) (λ c κs. subst T (sym (within c)) tt) (λ c κs. search rules) returns returns-2)
+pub cos64_spec : {M : Type 1} → statement M
+cos64_spec = tie.close (tie.spec (λ c κs. search rules) (λ c κs. subst T (sym (within c)) tt) (λ c κs. search rules) returns returns_2)

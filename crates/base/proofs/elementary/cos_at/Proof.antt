@@ -1,31 +1,31 @@
--- `cos_at` goes by the quarter as `cosAt` does.
+-- `cos_at` goes by the quarter as `cos_at` does.
 use Rattle.std.proofs.Common.{◌≡◌, ℕ, zero, suc, ◌-◌, sym, refl, ap, ◌∙◌, rules}
 use lib.Ieee.{Float, neg}
-use Rattle.base.specs.Elementary.{cosAt, sinSeries}
+use Rattle.base.specs.Elementary.{cos_at, sin_series}
 use Rattle.base.proofs.elementary.cos_at.Statement.{statement}
 use Rattle.base.proofs.elementary.cos_at.Tie as tie
 
-rest : (q : ℕ) (a : Float) → (q ≡ 0 → ⊥) → (q ≡ 1 → ⊥) → (q ≡ 2 → ⊥) → sinSeries a ≡ cosAt q a
-unfolding cosAt
+rest : (q : ℕ) (a : Float) → (q ≡ 0 → ⊥) → (q ≡ 1 → ⊥) → (q ≡ 2 → ⊥) → sin_series a ≡ cos_at q a
+unfolding cos_at
 rest zero a x y z = absurd (x refl)
 rest (suc zero) a x y z = absurd (y refl)
 rest (suc (suc zero)) a x y z = absurd (z refl)
 rest (suc (suc (suc q))) a x y z = refl
 
 returns : tie.Need-returns
-unfolding cosAt
-returns c = c.cos-series.ensures ∙ ap (λ (q : ℕ). cosAt q c.before.before.args.a) (sym c.before.if1.true)
+unfolding cos_at
+returns c = c.cos-series.ensures ∙ ap (λ (q : ℕ). cos_at q c.before.before.args.a) (sym c.before.if1.true)
 
-returns-2 : tie.Need-returns-2
-unfolding cosAt
-returns-2 c = ap neg c.sin-series.ensures ∙ ap (λ (q : ℕ). cosAt q c.before.before.before.args.a) (sym c.before.if2.true)
+returns_2 : tie.Need-returns-2
+unfolding cos_at
+returns_2 c = ap neg c.sin-series.ensures ∙ ap (λ (q : ℕ). cos_at q c.before.before.before.args.a) (sym c.before.if2.true)
 
-returns-3 : tie.Need-returns-3
-unfolding cosAt
-returns-3 c = ap neg c.cos-series2.ensures ∙ ap (λ (q : ℕ). cosAt q c.before.before.before.before.args.a) (sym c.before.if3.true)
+returns_3 : tie.Need-returns-3
+unfolding cos_at
+returns_3 c = ap neg c.cos-series2.ensures ∙ ap (λ (q : ℕ). cos_at q c.before.before.before.before.args.a) (sym c.before.if3.true)
 
-returns-4 : tie.Need-returns-4
-returns-4 c = c.sin-series2.ensures ∙ rest c.before.before.before.before.args.q c.before.before.before.before.args.a c.before.before.before.if1.false c.before.before.if2.false c.before.if3.false
+returns_4 : tie.Need-returns-4
+returns_4 c = c.sin-series2.ensures ∙ rest c.before.before.before.before.args.q c.before.before.before.before.args.a c.before.before.before.if1.false c.before.before.if2.false c.before.if3.false
 
-pub cos-at-spec : {M : Type 1} → statement M
-cos-at-spec = tie.close (tie.spec (λ c κs. search rules) (λ c κs. search rules) (λ c κs. search rules) (λ c κs. search rules) returns returns-2 returns-3 returns-4)
+pub cos_at_spec : {M : Type 1} → statement M
+cos_at_spec = tie.close (tie.spec (λ c κs. search rules) (λ c κs. search rules) (λ c κs. search rules) (λ c κs. search rules) returns returns_2 returns_3 returns_4)

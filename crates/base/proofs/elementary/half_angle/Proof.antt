@@ -1,14 +1,14 @@
--- `half_angle` is `halfAngle`, the root by its definition.
+-- `half_angle` is `half_angle`, the root by its definition.
 use Rattle.std.proofs.Common.{◌-◌, ap, rules}
 use lib.Ieee.{Float, round, of_bits}
 use Rattle.base.specs.Double.{◌⊕◌, ◌⊘◌, fraction}
-use Rattle.base.specs.Elementary.{halfAngle}
+use Rattle.base.specs.Elementary.{half_angle}
 use Rattle.base.proofs.elementary.half_angle.Statement.{statement}
 use Rattle.base.proofs.elementary.half_angle.Tie as tie
 
 returns : tie.Need-returns
-unfolding halfAngle fraction round of_bits
+unfolding half_angle fraction round of_bits
 returns c = ap (λ (s : Float). c.before.args.a ⊘ (fraction 1 1 ⊕ s)) c.sqrt64.ensures
 
-pub half-angle-spec : {M : Type 1} → statement M
-half-angle-spec = tie.close (tie.spec (λ c κs. search rules) returns)
+pub half_angle_spec : {M : Type 1} → statement M
+half_angle_spec = tie.close (tie.spec (λ c κs. search rules) returns)

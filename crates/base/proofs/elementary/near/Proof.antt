@@ -2,13 +2,13 @@
 use Rattle.std.proofs.Common.{ap, rules}
 use lib.Ieee.{Float, round, of_bits}
 use Rattle.base.specs.Double.{◌⊖◌, fraction}
-use Rattle.base.specs.Elementary.{nearOf}
+use Rattle.base.specs.Elementary.{near_of}
 use Rattle.base.proofs.elementary.near.Statement.{statement}
 use Rattle.base.proofs.elementary.near.Tie as tie
 
 returns : tie.Need-returns
-unfolding nearOf fraction round of_bits
+unfolding near_of fraction round of_bits
 returns c = ap (λ (s : Float). s ⊖ fraction 6755399441055744 1) c.shifted.ensures
 
-pub near-spec : {M : Type 1} → statement M
-near-spec = tie.close (tie.spec (λ c κs. search rules) returns)
+pub near_spec : {M : Type 1} → statement M
+near_spec = tie.close (tie.spec (λ c κs. search rules) returns)

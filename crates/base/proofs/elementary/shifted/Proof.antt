@@ -9,5 +9,5 @@ returns : tie.Need-returns
 unfolding fraction round of_bits
 returns c = refl
 
-pub shifted-spec : {M : Type 1} → statement M
-shifted-spec = tie.close (tie.spec returns)
+pub shifted_spec : {M : Type 1} → statement M
+shifted_spec = tie.close (tie.spec returns)

@@ -1,17 +1,17 @@
--- `sin_series` is `sinSeries`: its table is the fractions, and `horner` is the sum.
+-- `sin_series` is `sin_series`: its table is the fractions, and `horner` is the sum.
 use Rattle.std.proofs.Common.{List, ap, ◌∙◌, rules}
 use lib.Ieee.{Float, round, of_bits}
 use Rattle.base.specs.Double.{◌⊗◌, fraction}
-use Rattle.base.specs.Elementary.{horner, sinSeries}
-use Rattle.base.proofs.steps.Terms.{sin-tied}
+use Rattle.base.specs.Elementary.{horner, sin_series}
+use Rattle.base.proofs.steps.Terms.{sin_tied}
 use Rattle.base.proofs.elementary.sin_series.Statement.{statement}
 use Rattle.base.proofs.elementary.sin_series.Tie as tie
 
 returns : tie.Need-returns
-unfolding sinSeries fraction round of_bits
+unfolding sin_series fraction round of_bits
 returns c =
     let a = c.before.before.args.a in
-    ap (λ (s : Float). a ⊗ s) (c.horner.ensures ∙ ap (λ (t : List Float). horner t (a ⊗ a)) sin-tied)
+    ap (λ (s : Float). a ⊗ s) (c.horner.ensures ∙ ap (λ (t : List Float). horner t (a ⊗ a)) sin_tied)
 
-pub sin-series-spec : {M : Type 1} → statement M
-sin-series-spec = tie.close (tie.spec (λ c. search rules) (λ c κs. search rules) returns)
+pub sin_series_spec : {M : Type 1} → statement M
+sin_series_spec = tie.close (tie.spec (λ c. search rules) (λ c κs. search rules) returns)

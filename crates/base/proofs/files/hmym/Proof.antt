@@ -1,14 +1,14 @@
--- `hmym` answers `fileCheck`, and fills the array with `hmymOf` or leaves it, by the verdict.
+-- `hmym` answers `file_check`, and fills the array with `hmym_of` or leaves it, by the verdict.
 use Rattle.std.proofs.Common.{sym, ◌∙◌, rules}
-use Rattle.base.proofs.layout.Readers.{file-length, file-finite, written, left}
+use Rattle.base.proofs.layout.Readers.{file_length, file_finite, written, left}
 use Rattle.base.proofs.files.hmym.Statement.{statement}
 use Rattle.base.proofs.files.hmym.Tie as tie
 
-hmym-of-requires : tie.Need-hmym-of-requires
-hmym-of-requires c κs =
+hmym_of_requires : tie.Need-hmym-of-requires
+hmym_of_requires c κs =
     let e = c.before.before.before.file-check.ensures in
     let good = sym e ∙ c.before.enum_told.given.1 in
-    (file-length _ good, file-finite _ good)
+    (file_length _ good, file_finite _ good)
 
 returns : tie.Need-returns
 returns c =
@@ -16,19 +16,19 @@ returns c =
     let z = c.before.before.enum_told.given.1 in
     (sym z ∙ e, written e _ z c.hmym-of.ensures)
 
-returns-2 : tie.Need-returns-2
-returns-2 c =
+returns_2 : tie.Need-returns-2
+returns_2 c =
     let e = c.before.before.before.file-check.ensures in
     let z = c.before.verdict.given.1 in
     (sym z ∙ e, left e _ _ z)
 
-pub hmym-spec : {M : Type 1} → statement M
-hmym-spec =
+pub hmym_spec : {M : Type 1} → statement M
+hmym_spec =
     tie.close
     (tie.spec
     (λ c κs. search rules)
     (λ c. search rules)
-    hmym-of-requires
+    hmym_of_requires
     (λ c. search rules)
     returns
-    returns-2)
+    returns_2)

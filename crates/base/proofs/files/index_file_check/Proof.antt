@@ -1,28 +1,28 @@
--- `index_file_check` is `indexFileCheck`, by the walk's verdict: where it accepts, the index table is judged.
+-- `index_file_check` is `index_file_check`, by the walk's verdict: where it accepts, the index table is judged.
 use Rattle.std.proofs.Common.{◌≡◌, sym, ap, ◌∙◌, rules}
 use Rattle.base.specs.declared.refusal.Verdict.{Verdict}
-use Rattle.base.specs.Index.{indexCheck}
+use Rattle.base.specs.Index.{index_check}
 use Rattle.base.specs.Refusal.{◌then◌}
-use Rattle.base.specs.Files.{indexFileCheck}
+use Rattle.base.specs.Files.{index_file_check}
 use Rattle.base.proofs.files.index_file_check.Statement.{statement}
 use Rattle.base.proofs.files.index_file_check.Tie as tie
 
 returns : tie.Need-returns
-unfolding indexFileCheck
+unfolding index_file_check
 returns c =
     let month = c.before.before.before.before.before.args.month.now in
     let walked = sym c.before.before.before.month-file-check.ensures ∙ c.before.enum_told.given.1 in
-    c.index-check.ensures ∙ sym (ap (λ (v : Verdict). v then indexCheck month) walked)
+    c.index-check.ensures ∙ sym (ap (λ (v : Verdict). v then index_check month) walked)
 
-returns-2 : tie.Need-returns-2
-unfolding indexFileCheck
-returns-2 c =
+returns_2 : tie.Need-returns-2
+unfolding index_file_check
+returns_2 c =
     let month = c.before.before.before.before.before.args.month.now in
     let walked = sym c.before.before.before.month-file-check.ensures ∙ c.before.walked.given.1 in
-    sym (ap (λ (v : Verdict). v then indexCheck month) walked)
+    sym (ap (λ (v : Verdict). v then index_check month) walked)
 
-pub index-file-check-spec : {M : Type 1} → statement M
-index-file-check-spec =
+pub index_file_check_spec : {M : Type 1} → statement M
+index_file_check_spec =
     tie.close
     (tie.spec
     (λ c κs. search rules)
@@ -30,4 +30,4 @@ index-file-check-spec =
     (λ c κs. search rules)
     (λ c. search rules)
     returns
-    returns-2)
+    returns_2)

@@ -1,32 +1,32 @@
--- `redmap` answers `filesCheck`, and fills the four arrays or leaves them, by the verdict.
+-- `redmap` answers `files_check`, and fills the four arrays or leaves them, by the verdict.
 use Rattle.std.proofs.Common.{◌≡◌, sym, ◌∙◌, rules}
 use Rattle.base.specs.declared.refusal.Verdict.TheVariants.{Accepted}
-use Rattle.base.specs.Files.{filesCheck}
-use Rattle.base.proofs.layout.Readers.{files-record, files-length, files-record-finite, files-finite, written, left}
+use Rattle.base.specs.Files.{files_check}
+use Rattle.base.proofs.layout.Readers.{files_record, files_length, files_record_finite, files_finite, written, left}
 use Rattle.base.proofs.files.redmap.Statement.{statement}
 use Rattle.base.proofs.files.redmap.Tie as tie
 
 good :
     (c : tie.After-enum-told) →
     let a = c.before.before.before.before.before.args in
-    filesCheck a.f2.now a.month.now ≡ Accepted
+    files_check a.f2.now a.month.now ≡ Accepted
 good c = sym c.before.before.files-check.ensures ∙ c.enum_told.given.1
 
-index-of-requires : tie.Need-index-of-requires
-index-of-requires c κs = files-length _ _ (good c.before)
+index_of_requires : tie.Need-index-of-requires
+index_of_requires c κs = files_length _ _ (good c.before)
 
-cofion-of-requires : tie.Need-cofion-of-requires
-cofion-of-requires c κs =
+cofion_of_requires : tie.Need-cofion-of-requires
+cofion_of_requires c κs =
     let e = good c.before.before.before in
-    (files-record _ _ e, files-length _ _ e, files-record-finite _ _ e, files-finite _ _ e)
+    (files_record _ _ e, files_length _ _ e, files_record_finite _ _ e, files_finite _ _ e)
 
-hmym-of-requires : tie.Need-hmym-of-requires
-hmym-of-requires c κs =
-    let e = good c.before.before.before.before.before in (files-length _ _ e, files-finite _ _ e)
+hmym_of_requires : tie.Need-hmym-of-requires
+hmym_of_requires c κs =
+    let e = good c.before.before.before.before.before in (files_length _ _ e, files_finite _ _ e)
 
-fakmap-of-requires : tie.Need-fakmap-of-requires
-fakmap-of-requires c κs =
-    let e = good c.before.before.before.before.before.before.before in (files-length _ _ e, files-finite _ _ e)
+fakmap_of_requires : tie.Need-fakmap-of-requires
+fakmap_of_requires c κs =
+    let e = good c.before.before.before.before.before.before.before in (files_length _ _ e, files_finite _ _ e)
 
 returns : tie.Need-returns
 returns c =
@@ -41,22 +41,22 @@ returns c =
     let fakmap = written e _ z c.fakmap-of.ensures in
     (sym z ∙ e, (index, (cofion, (hmym, fakmap))))
 
-returns-2 : tie.Need-returns-2
-returns-2 c =
+returns_2 : tie.Need-returns-2
+returns_2 c =
     let e = c.before.before.before.files-check.ensures in
     let z = c.before.verdict.given.1 in
     (sym z ∙ e, (left e _ _ z, (left e _ _ z, (left e _ _ z, left e _ _ z))))
 
-pub redmap-spec : {M : Type 1} → statement M
-redmap-spec =
+pub redmap_spec : {M : Type 1} → statement M
+redmap_spec =
     tie.close
     (tie.spec
     (λ c κs. search rules)
     (λ c. search rules)
-    index-of-requires
-    cofion-of-requires
-    hmym-of-requires
-    fakmap-of-requires
+    index_of_requires
+    cofion_of_requires
+    hmym_of_requires
+    fakmap_of_requires
     (λ c. search rules)
     returns
-    returns-2)
+    returns_2)

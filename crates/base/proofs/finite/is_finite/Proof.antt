@@ -8,16 +8,16 @@ returns : tie.Need-returns
 unfolding tells
 returns c = sym (ap tells c.enum_told.given.1) ∙ ap tells c.before.before.table-word.ensures ∙ told _ _
 
-returns-2 : tie.Need-returns-2
+returns_2 : tie.Need-returns-2
 unfolding tells
-returns-2 c = sym (ap tells c.enum-told2.given.1) ∙ ap tells c.before.before.table-word.ensures ∙ told _ _
+returns_2 c = sym (ap tells c.enum-told2.given.1) ∙ ap tells c.before.before.table-word.ensures ∙ told _ _
 
-pub is-finite-spec : {M : Type 1} → statement M
-is-finite-spec =
+pub is_finite_spec : {M : Type 1} → statement M
+is_finite_spec =
     tie.close
     (tie.spec
     (λ c κs. search rules)
     (λ c. search rules)
     (λ c. search rules)
     returns
-    returns-2)
+    returns_2)

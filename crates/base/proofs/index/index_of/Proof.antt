@@ -9,5 +9,5 @@ returns : tie.Need-returns
 unfolding index_of
 returns c = c.read-words.ensures ∙ ap (tabulate _) (search rules)
 
-pub index-of-spec : {M : Type 1} → statement M
-index-of-spec = tie.close (tie.spec (λ c κs. search rules) returns)
+pub index_of_spec : {M : Type 1} → statement M
+index_of_spec = tie.close (tie.spec (λ c κs. search rules) returns)

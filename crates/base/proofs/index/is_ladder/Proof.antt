@@ -3,62 +3,62 @@
 use Rattle.std.proofs.Common.{ℕ, ◌-◌, ℤ, sym, refl, ap, ◌∙◌, rules}
 use borrow.Author.Tests.{not-true, not-false}
 use Rattle.base.specs.Index.{climbs}
-use Rattle.base.proofs.ladder.Ladders.{Climbed, same-words, stops, falls, goes-up, ends-up}
+use Rattle.base.proofs.ladder.Ladders.{Climbed, same_words, stops, falls, goes_up, ends_up}
 use Rattle.base.proofs.index.is_ladder.Statement.{statement}
 use Rattle.base.proofs.index.is_ladder.Tie as tie
 
-abbrev invariant-loop : tie.invariant-loop
-invariant-loop month k p₀ j₀ p j = Climbed month k p j
+abbrev invariant_loop : tie.invariant_loop
+invariant_loop month k p₀ j₀ p j = Climbed month k p j
 
-abbrev decreases-loop : tie.decreases-loop
-decreases-loop month k p₀ j₀ p j = 8 - j
+abbrev decreases_loop : tie.decreases_loop
+decreases_loop month k p₀ j₀ p j = 8 - j
 
-loop-holds : tie.Need-loop-init invariant-loop decreases-loop
-loop-holds c = record { turns = search rules; is = c.ikim-word.ensures; small = c.before.before.requires.1; same = refl }
+loop_holds : tie.Need-loop-init invariant_loop decreases_loop
+loop_holds c = record { turns = search rules; is = c.ikim-word.ensures; small = c.before.before.requires.1; same = refl }
 
-returns : tie.Need-returns invariant-loop decreases-loop
+returns : tie.Need-returns invariant_loop decreases_loop
 returns c =
     let q = c.before in
     let l = q.before.before.loop in
-    sym (ap (λ (w : ℕ → ℤ). climbs w 8 0) (same-words _ _) ∙ stops _ _ l.p l.j _ l.invariant q.before.loop-test.true q.ikim-word2.ensures c.if1.true)
+    sym (ap (λ (w : ℕ → ℤ). climbs w 8 0) (same_words _ _) ∙ stops _ _ l.p l.j _ l.invariant q.before.loop-test.true q.ikim-word2.ensures c.if1.true)
 
-returns-2 : tie.Need-returns-2 invariant-loop decreases-loop
-returns-2 c =
+returns_2 : tie.Need-returns-2 invariant_loop decreases_loop
+returns_2 c =
     let q = c.before.before.before in
     let l = q.before.before.loop in
     sym
-    (ap (λ (w : ℕ → ℤ). climbs w 8 0) (same-words _ _)
+    (ap (λ (w : ℕ → ℤ). climbs w 8 0) (same_words _ _)
     ∙ falls _ _ l.p l.j _ l.invariant q.before.loop-test.true q.ikim-word2.ensures c.before.before.if1.false
     c.before.is-next.ensures
     (not-true _ c.if2.true))
 
-loop-again : tie.Need-loop-preserved invariant-loop decreases-loop
-loop-again c =
+loop_again : tie.Need-loop-preserved invariant_loop decreases_loop
+loop_again c =
     let q = c.before.before.before in
     let l = q.before.before.loop in
-    goes-up _ _ l.p l.j _ l.invariant q.before.loop-test.true q.ikim-word2.ensures c.before.before.if1.false
+    goes_up _ _ l.p l.j _ l.invariant q.before.loop-test.true q.ikim-word2.ensures c.before.before.if1.false
     c.before.is-next.ensures
     (not-false _ c.if2.false)
 
-returns-3 : tie.Need-returns-3 invariant-loop decreases-loop
-returns-3 c =
+returns_3 : tie.Need-returns-3 invariant_loop decreases_loop
+returns_3 c =
     let l = c.before.loop in
-    sym (ap (λ (w : ℕ → ℤ). climbs w 8 0) (same-words _ _) ∙ ends-up _ _ l.p l.j l.invariant c.loop-test.false)
+    sym (ap (λ (w : ℕ → ℤ). climbs w 8 0) (same_words _ _) ∙ ends_up _ _ l.p l.j l.invariant c.loop-test.false)
 
-pub is-ladder-spec : {M : Type 1} → statement M
-is-ladder-spec =
+pub is_ladder_spec : {M : Type 1} → statement M
+is_ladder_spec =
     tie.close
     (tie.spec
-    invariant-loop
-    decreases-loop
+    invariant_loop
+    decreases_loop
     (λ c κs. search rules)
-    loop-holds
+    loop_holds
     (λ c. search rules)
     (λ c κs. search rules)
     returns
     (λ c κs. search rules)
-    returns-2
+    returns_2
     (λ c. search rules)
     (λ c. search rules)
-    loop-again
-    returns-3)
+    loop_again
+    returns_3)

@@ -6,8 +6,8 @@ use Rattle.base.proofs.month_file.is_marker.Tie as tie
 returns : tie.Need-returns
 returns c = ap (λ (x : ℕ). eqb x c.before.before.args.n) c.word.ensures
 
-pub is-marker-spec : {M : Type 1} → statement M
-is-marker-spec =
+pub is_marker_spec : {M : Type 1} → statement M
+is_marker_spec =
     tie.close
     (tie.spec
     (λ c κs. search rules)

@@ -1,20 +1,20 @@
--- `month_record_check` is `monthRecordCheck`: the month is judged first, then the file's length, by
+-- `month_record_check` is `month_record_check`: the month is judged first, then the file's length, by
 -- what the calls ensure.
 use Rattle.std.proofs.Common.{◌∙◌, rules}
 use Rattle.base.specs.Refusal.{◌then◌}
-use Rattle.base.specs.MonthFile.{monthRecordCheck}
+use Rattle.base.specs.MonthFile.{month_record_check}
 use Rattle.base.proofs.month_file.month_record_check.Statement.{statement}
 use Rattle.base.proofs.month_file.month_record_check.Tie as tie
 
 returns : tie.Need-returns
-unfolding monthRecordCheck
+unfolding month_record_check
 returns c =
     let month = c.before.before.month-check.ensures in
     let room = c.before.refuse-unless.ensures in
     c.then.ensures ∙ (λ i. month i then room i)
 
-pub month-record-check-spec : {M : Type 1} → statement M
-month-record-check-spec =
+pub month_record_check_spec : {M : Type 1} → statement M
+month_record_check_spec =
     tie.close
     (tie.spec
     (λ c. search rules)

@@ -8,8 +8,8 @@ use Rattle.base.proofs.month_file.size.Tie as tie
 returns : tie.Need-returns
 returns c = sized c.args.k (search rules)
 
-pub size-spec : {M : Type 1} → statement M
-size-spec =
+pub size_spec : {M : Type 1} → statement M
+size_spec =
     tie.close
     (tie.spec
     (λ c. search rules)

@@ -1,16 +1,16 @@
 -- `bits32` is `to_bits`, whose pattern for a NaN is the one written here.
 use Rattle.std.proofs.Common.{sym, ap, rules}
 use lib.Ieee.{binary32, to_bits}
-use Rattle.base.proofs.rounding.Patterns.{is-nan, no_nan}
+use Rattle.base.proofs.rounding.Patterns.{is_nan_law, no_nan}
 use Rattle.base.proofs.number.bits32.Statement.{statement}
 use Rattle.base.proofs.number.bits32.Tie as tie
 
 returns : tie.Need-returns
 unfolding to_bits
-returns c = sym (ap (to_bits binary32) (is-nan c.before.args.x c.if1.true))
+returns c = sym (ap (to_bits binary32) (is_nan_law c.before.args.x c.if1.true))
 
-float-to-bits-result : tie.Need-float-to-bits-result
-float-to-bits-result c = no_nan c.before.args.x c.if1.false
+float_to_bits_result : tie.Need-float-to-bits-result
+float_to_bits_result c = no_nan c.before.args.x c.if1.false
 
-pub bits32-spec : {M : Type 1} → statement M
-bits32-spec = tie.close (tie.spec returns float-to-bits-result (λ c. search rules))
+pub bits32_spec : {M : Type 1} → statement M
+bits32_spec = tie.close (tie.spec returns float_to_bits_result (λ c. search rules))

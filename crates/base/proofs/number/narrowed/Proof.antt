@@ -1,5 +1,5 @@
--- `narrowed` is `narrowOf`: the bits with 29 digits cleared are those of the `f64` that has the
--- same value as the `f32` of `mid-case`, and two floats of one format with the same value are the
+-- `narrowed` is `narrow_of`: the bits with 29 digits cleared are those of the `f64` that has the
+-- same value as the `f32` of `mid_case`, and two floats of one format with the same value are the
 -- same, since their bits are.
 use Rattle.std.proofs.Common.{◌≡◌, ℕ, ◌+◌, ◌-◌, ◌*◌, ◌/◌, ◌%◌, ◌^◌, ◌<◌, ◌≤◌, Bool, true, false, cond, not, T, sym, refl, ap, ◌∙◌, subst, inr, lt_of_lt_of_le, mul_right_comm, arith, lit≤, pow_pos, pow_mono, shl_lt, rules}
 use native.Mathlib.Decide.{dec_lt}
@@ -8,11 +8,11 @@ use lib.Ieee.Fits.{down_pos, fits_widens}
 use lib.Ieee.Exact.{HasValue, units_val}
 use lib.Ieee.Nearest.{closest, div_same}
 use lib.Ieee.Bits.{of_bits-to_bits}
-use Rattle.base.specs.Number.{narrowOf}
+use Rattle.base.specs.Number.{narrow_of}
 use Rattle.base.proofs.rounding.Halves.{half_up}
-use Rattle.base.proofs.rounding.Narrowing.{mid-case}
-use Rattle.base.proofs.rounding.Patterns.{is-nan, no_nan, no-nan-bits, wide, read_back}
-use Rattle.base.proofs.rounding.Rounding.{shifts, closest-le, closest-ge, units-fit, units-bits}
+use Rattle.base.proofs.rounding.Narrowing.{mid_case}
+use Rattle.base.proofs.rounding.Patterns.{is_nan_law, no_nan, no_nan_bits, wide, read_back}
+use Rattle.base.proofs.rounding.Rounding.{shifts, closest_le, closest_ge, units_fit, units_bits}
 use Rattle.base.proofs.number.narrowed.Statement.{statement}
 use Rattle.base.proofs.number.narrowed.Tie as tie
 
@@ -33,10 +33,10 @@ bits_of f (inf t) s a c C h = absurd h
 bits_of f (fin t m e) s a c C h =
     ap (bits f t) (scaled (m * up e) (down e) a c (2 ^ low f) (down_pos e) C h.1) ∙ ap (λ (b : Bool). bits f b (a * 2 ^ low f / c)) h.0
 
-same-value :
+same_value :
     (f : Format) (x y : Float) (s : Bool) (a c b d : ℕ) → T (fits f x) → T (fits f y) → 0 < c → 0 < d → a * d ≡ b * c →
     HasValue x s a c → HasValue y s b d → x ≡ y
-same-value f x y s a c b d p q C D e v w =
+same_value f x y s a c b d p q C D e v w =
     sym (of_bits-to_bits f x p)
     ∙ ap (of_bits f) (bits_of f x s a c C v ∙ ap (bits f s) (scaled a c b d (2 ^ low f) C D e) ∙ sym (bits_of f y s b d D w))
     ∙ of_bits-to_bits f y q
@@ -50,34 +50,34 @@ module _ (s : Bool) (e q : ℕ) (low' : 897 ≤ e) (high : e < 1150) (least : 2 
   wide_room : q * 2 ^ 29 * 2 ^ (e - 1) < 2 ^ 2098
   wide_room = lt_of_lt_of_le (shl_lt 54 (e - 1) (omega arith)) (pow_mono {i = 54 + (e - 1)} {j = 2098} (omega arith))
 
-  wide-bits :
+  wide_bits :
       of_bits binary64 (cond s (2 ^ 63) 0 + ((e - 1) * 2 ^ 52 + q * 2 ^ 29)) ≡ of_bits binary32 (cond s (2 ^ 31) 0 + ((e - 897) * 2 ^ 23 + q))
-  wide-bits =
-      sym (units-bits binary64 s (q * 2 ^ 29) (e - 1) (omega arith, inr (omega arith)) wide_room)
-      ∙ same-value binary64 (units binary64 s (q * 2 ^ 29) (e - 1)) (units binary32 s q (e - 897)) s
+  wide_bits =
+      sym (units_bits binary64 s (q * 2 ^ 29) (e - 1) (omega arith, inr (omega arith)) wide_room)
+      ∙ same_value binary64 (units binary64 s (q * 2 ^ 29) (e - 1)) (units binary32 s q (e - 897)) s
       (q * 2 ^ 29 * 2 ^ (e - 1)) (2 ^ 1074) (q * 2 ^ (e - 897)) (2 ^ 149)
-      (units-fit binary64 s (q * 2 ^ 29) (e - 1) (omega arith) wide_room) (fits_widens _ (units-fit binary32 s q (e - 897) most room))
+      (units_fit binary64 s (q * 2 ^ 29) (e - 1) (omega arith) wide_room) (fits_widens _ (units_fit binary32 s q (e - 897) most room))
       (pow_pos 1074) (pow_pos 149) (shifts q 29 (e - 1) 149 (e - 897) 1074 (omega arith))
       (units_val binary64 s (q * 2 ^ 29) (e - 1) wide_room) (units_val binary32 s q (e - 897) room)
-      ∙ units-bits binary32 s q (e - 897) (most, inr least) room
+      ∙ units_bits binary32 s q (e - 897) (most, inr least) room
 
 -- ---- the code's numbers
 
-nan-case : (x : Float) → x ≡ nan → x ≡ narrowOf x
-unfolding narrowOf
-nan-case x e = e ∙ ap narrowOf (sym e)
+nan_case : (x : Float) → x ≡ nan → x ≡ narrow_of x
+unfolding narrow_of
+nan_case x e = e ∙ ap narrow_of (sym e)
 
 returns : tie.Need-returns
-returns c = nan-case c.before.args.x (is-nan c.before.args.x c.if1.true)
+returns c = nan_case c.before.args.x (is_nan_law c.before.args.x c.if1.true)
 
-float-to-bits-b : tie.Need-float-to-bits-b
-float-to-bits-b c = no_nan c.before.args.x c.if1.false
+float_to_bits_b : tie.Need-float-to-bits-b
+float_to_bits_b c = no_nan c.before.args.x c.if1.false
 
-returns-2 : tie.Need-returns-2
-returns-2 c = c.widen.ensures ∙ c.before.narrow.ensures
+returns_2 : tie.Need-returns-2
+returns_2 c = c.widen.ensures ∙ c.before.narrow.ensures
 
-returns-3 : tie.Need-returns-3
-returns-3 c = c.widen2.ensures ∙ c.before.narrow2.ensures
+returns_3 : tie.Need-returns-3
+returns_3 c = c.widen2.ensures ∙ c.before.narrow2.ensures
 
 -- rounding does not see the digits above
 above : (k m o : ℕ) → k * 2 ^ 29 + m + 268435455 + o - (k * 2 ^ 29 + m + 268435455 + o) % 2 ^ 29 ≡ k * 2 ^ 29 + (m + 268435455 + o) / 2 ^ 29 * 2 ^ 29
@@ -101,8 +101,8 @@ module _ (b : ℕ) (few : 897 ≤ b % 2 ^ 63 / 2 ^ 52) (many : b % 2 ^ 63 / 2 ^ 
   abbrev R : ℕ
   R = b + 268435455 + b / 2 ^ 29 % 2
 
-  same-digit : b / 2 ^ 29 % 2 ≡ M / 2 ^ 29 % 2
-  same-digit = omega arith
+  same_digit : b / 2 ^ 29 % 2 ≡ M / 2 ^ 29 % 2
+  same_digit = omega arith
 
   split : b ≡ (b / 2 ^ 63 * 2 ^ 34 + (E - 1) * 2 ^ 23) * 2 ^ 29 + M
   split = omega arith
@@ -110,62 +110,62 @@ module _ (b : ℕ) (few : 897 ≤ b % 2 ^ 63 / 2 ^ 52) (many : b % 2 ^ 63 / 2 ^ 
   cleared : R - R % 2 ^ 29 ≡ (b / 2 ^ 63 * 2 ^ 34 + (E - 1) * 2 ^ 23) * 2 ^ 29 + closest M (2 ^ 29) * 2 ^ 29
   cleared =
       let k = b / 2 ^ 63 * 2 ^ 34 + (E - 1) * 2 ^ 23 in
-      let e : R ≡ k * 2 ^ 29 + M + 268435455 + M / 2 ^ 29 % 2 = ap (λ (x : ℕ). x + 268435455 + b / 2 ^ 29 % 2) split ∙ ap (λ (x : ℕ). k * 2 ^ 29 + M + 268435455 + x) same-digit in
+      let e : R ≡ k * 2 ^ 29 + M + 268435455 + M / 2 ^ 29 % 2 = ap (λ (x : ℕ). x + 268435455 + b / 2 ^ 29 % 2) split ∙ ap (λ (x : ℕ). k * 2 ^ 29 + M + 268435455 + x) same_digit in
       ap (λ (x : ℕ). x - x % 2 ^ 29) e
       ∙ above k M (M / 2 ^ 29 % 2)
       ∙ ap (λ (x : ℕ). k * 2 ^ 29 + x * 2 ^ 29) (half_up M (2 ^ 28) (2 ^ 29) (lit≤ tt) refl)
 
   kept : (2 ^ 23 ≤ closest M (2 ^ 29)) × (closest M (2 ^ 29) ≤ 2 ^ 24)
-  kept = (closest-ge 23 M 29 (omega arith), closest-le 24 M 29 (omega arith))
+  kept = (closest_ge 23 M 29 (omega arith), closest_le 24 M 29 (omega arith))
 
-  pub no-pattern : T (not (nan_bits binary64 (R - R % 2 ^ 29)))
-  no-pattern =
-      no-nan-bits binary64 (R - R % 2 ^ 29)
+  pub no_pattern : T (not (nan_bits binary64 (R - R % 2 ^ 29)))
+  no_pattern =
+      no_nan_bits binary64 (R - R % 2 ^ 29)
       (subst (λ (n : ℕ). n % 2 ^ 63 ≤ 2047 * 2 ^ 52) (sym cleared) (below (b / 2 ^ 63) E (closest M (2 ^ 29)) many kept.1))
 
-  signed : (s : Bool) → b / 2 ^ 63 * 2 ^ 63 ≡ cond s (2 ^ 63) 0 → of_bits binary64 (R - R % 2 ^ 29) ≡ narrowOf (of_bits binary64 b)
+  signed : (s : Bool) → b / 2 ^ 63 * 2 ^ 63 ≡ cond s (2 ^ 63) 0 → of_bits binary64 (R - R % 2 ^ 29) ≡ narrow_of (of_bits binary64 b)
   signed s h =
       let q = closest M (2 ^ 29) in
       let e : (b / 2 ^ 63 * 2 ^ 34 + (E - 1) * 2 ^ 23) * 2 ^ 29 + q * 2 ^ 29 ≡ cond s (2 ^ 63) 0 + ((E - 1) * 2 ^ 52 + q * 2 ^ 29) =
       placed (b / 2 ^ 63) (E - 1) q (cond s (2 ^ 63) 0) h in
       let d : cond s (2 ^ 63) 0 + b % 2 ^ 63 ≡ b = omega arith in
       ap (of_bits binary64) (cleared ∙ e)
-      ∙ wide-bits s E q few many kept.0 kept.1
-      ∙ mid-case (b % 2 ^ 63) (omega arith) few (omega arith) s
-      ∙ ap (λ (x : ℕ). narrowOf (of_bits binary64 x)) d
+      ∙ wide_bits s E q few many kept.0 kept.1
+      ∙ mid_case (b % 2 ^ 63) (omega arith) few (omega arith) s
+      ∙ ap (λ (x : ℕ). narrow_of (of_bits binary64 x)) d
 
-  pub number : b < 2 ^ 64 → of_bits binary64 (R - R % 2 ^ 29) ≡ narrowOf (of_bits binary64 b)
+  pub number : b < 2 ^ 64 → of_bits binary64 (R - R % 2 ^ 29) ≡ narrow_of (of_bits binary64 b)
   number h = elim (dec_lt b (2 ^ 63)) [ yes l ↦ signed false (omega arith) | no l ↦ signed true (omega arith) ]
 
-add-up : tie.Need-overflow-add-up
-add-up c = omega (arith, wide binary64 c.before.before.before.args.x c.before.before.before.well-formed.0.1)
+add_up : tie.Need-overflow-add-up
+add_up c = omega (arith, wide binary64 c.before.before.before.args.x c.before.before.before.well-formed.0.1)
 
-add-up-2 : tie.Need-overflow-add-up-2
-add-up-2 c = omega (arith, wide binary64 c.before.before.before.args.x c.before.before.before.well-formed.0.1)
+add_up_2 : tie.Need-overflow-add-up-2
+add_up_2 c = omega (arith, wide binary64 c.before.before.before.args.x c.before.before.before.well-formed.0.1)
 
-float-from-bits-result : tie.Need-float-from-bits-result
-float-from-bits-result c = no-pattern (to_bits binary64 c.before.before.before.args.x) (omega arith) (omega arith)
+float_from_bits_result : tie.Need-float-from-bits-result
+float_from_bits_result c = no_pattern (to_bits binary64 c.before.before.before.args.x) (omega arith) (omega arith)
 
-returns-4 : tie.Need-returns-4
-returns-4 c =
+returns_4 : tie.Need-returns-4
+returns_4 c =
     let k = c.before.before.before in
     number (to_bits binary64 k.args.x) (omega arith) (omega arith) (wide binary64 k.args.x k.well-formed.0.1)
-    ∙ ap narrowOf (read_back binary64 k.args.x k.well-formed.0.1)
+    ∙ ap narrow_of (read_back binary64 k.args.x k.well-formed.0.1)
 
-pub narrowed-spec : {M : Type 1} → statement M
-narrowed-spec =
+pub narrowed_spec : {M : Type 1} → statement M
+narrowed_spec =
     tie.close
     (tie.spec
     returns
-    float-to-bits-b
+    float_to_bits_b
     (λ c κs. search rules)
     (λ c κs. search rules)
-    returns-2
+    returns_2
     (λ c κs. search rules)
     (λ c κs. search rules)
-    returns-3
-    add-up
-    add-up-2
+    returns_3
+    add_up
+    add_up_2
     (λ c. search rules)
-    float-from-bits-result
-    returns-4)
+    float_from_bits_result
+    returns_4)

@@ -2,26 +2,26 @@
 -- range does.
 use Rattle.std.proofs.Common.{T, sym, subst, rules}
 use lib.Ieee.{of_bits, neg}
-use Rattle.base.proofs.rounding.Patterns.{is-nan}
-use Rattle.base.proofs.rounding.Signs.{unsigned-nan, unsigned-low, unsigned-high}
+use Rattle.base.proofs.rounding.Patterns.{is_nan_law}
+use Rattle.base.proofs.rounding.Signs.{unsigned_nan, unsigned_low, unsigned_high}
 use Rattle.base.proofs.number.to_u64.Statement.{statement}
 use Rattle.base.proofs.number.to_u64.Tie as tie
 
-truncating-f64-to-u64-requires : tie.Need-truncating-f64-to-u64-requires
+truncating_f64_to_u64_requires : tie.Need-truncating-f64-to-u64-requires
 unfolding of_bits neg
-truncating-f64-to-u64-requires c κs = (subst T (sym c.if2.true) tt, subst T (sym c.before.if1.true) tt)
+truncating_f64_to_u64_requires c κs = (subst T (sym c.if2.true) tt, subst T (sym c.before.if1.true) tt)
 
-returns-2 : tie.Need-returns-2
+returns_2 : tie.Need-returns-2
 unfolding of_bits neg
-returns-2 c = unsigned-low c.before.before.args.x c.before.if1.true c.if2.false
+returns_2 c = unsigned_low c.before.before.args.x c.before.if1.true c.if2.false
 
-returns-3 : tie.Need-returns-3
-returns-3 c = unsigned-nan c.before.before.args.x (is-nan c.before.before.args.x c.if3.true)
+returns_3 : tie.Need-returns-3
+returns_3 c = unsigned_nan c.before.before.args.x (is_nan_law c.before.before.args.x c.if3.true)
 
-returns-4 : tie.Need-returns-4
+returns_4 : tie.Need-returns-4
 unfolding of_bits neg
-returns-4 c = unsigned-high c.before.before.args.x c.before.if1.false c.if3.false
+returns_4 c = unsigned_high c.before.before.args.x c.before.if1.false c.if3.false
 
-pub to-u64-spec : {M : Type 1} → statement M
-to-u64-spec =
-    tie.close (tie.spec truncating-f64-to-u64-requires (λ c. search rules) returns-2 returns-3 returns-4)
+pub to_u64_spec : {M : Type 1} → statement M
+to_u64_spec =
+    tie.close (tie.spec truncating_f64_to_u64_requires (λ c. search rules) returns_2 returns_3 returns_4)

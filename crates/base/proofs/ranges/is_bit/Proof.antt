@@ -1,4 +1,4 @@
--- `is_bit` is `isBit`: a word of at most 1 is 0 or 1, by the two tests.
+-- `is_bit` is `is_bit`: a word of at most 1 is 0 or 1, by the two tests.
 use Rattle.std.proofs.Common.{◌≡◌, ℕ, Bool, true, false, ◌||◌, eqb, leb, refl, arith, eqb-true, le-leb}
 use borrow.Author.Tests.{eqb-false, lt-leb}
 use Rattle.base.proofs.ranges.is_bit.Statement.{statement}
@@ -18,5 +18,5 @@ at_most_one w = go (eqb w 0) (eqb w 1) refl refl
 returns : tie.Need-returns
 returns c = at_most_one c.args.w
 
-pub is-bit-spec : {M : Type 1} → statement M
-is-bit-spec = tie.close (tie.spec returns)
+pub is_bit_spec : {M : Type 1} → statement M
+is_bit_spec = tie.close (tie.spec returns)

@@ -1,18 +1,18 @@
--- `longitude_check` is `longitudeCheck`: the ends of the range are the decimals, by computation.
+-- `longitude_check` is `longitude_check`: the ends of the range are the decimals, by computation.
 use Rattle.std.proofs.Common.{rules}
 use lib.Ieee.{of_bits, round, neg}
-use Rattle.base.specs.Single.{decimal, minusDecimal}
-use Rattle.base.specs.Ranges.{longitudeCheck}
-use Rattle.base.proofs.verdicts.Refusals.{by-test}
+use Rattle.base.specs.Single.{decimal, minus_decimal}
+use Rattle.base.specs.Ranges.{longitude_check}
+use Rattle.base.proofs.verdicts.Refusals.{by_test}
 use Rattle.base.proofs.ranges.longitude_check.Statement.{statement}
 use Rattle.base.proofs.ranges.longitude_check.Tie as tie
 
 returns : tie.Need-returns
-unfolding longitudeCheck decimal minusDecimal round of_bits neg
-returns c = by-test _ c.refuse-unless.ensures c.before.is-to.ensures
+unfolding longitude_check decimal minus_decimal round of_bits neg
+returns c = by_test _ c.refuse-unless.ensures c.before.is_to_law.ensures
 
-pub longitude-check-spec : {M : Type 1} → statement M
-longitude-check-spec =
+pub longitude_check_spec : {M : Type 1} → statement M
+longitude_check_spec =
     tie.close
     (tie.spec
     (λ c κs. search rules)

@@ -5,14 +5,14 @@ use Rattle.base.specs.Refusal.{◌then◌}
 use Rattle.base.proofs.refusal.then.Statement.{statement}
 use Rattle.base.proofs.refusal.then.Tie as tie
 
-returns-2 : tie.Need-returns-2
-returns-2 c = sym (ap (λ (v : Verdict). v then c.before.before.before.args.next) c.before.first.given.1)
+returns_2 : tie.Need-returns-2
+returns_2 c = sym (ap (λ (v : Verdict). v then c.before.before.before.args.next) c.before.first.given.1)
 
-pub then-spec : {M : Type 1} → statement M
-then-spec =
+pub then_spec : {M : Type 1} → statement M
+then_spec =
     tie.close
     (tie.spec
     (λ c. search rules)
     (λ c. search rules)
     (λ c. search rules)
-    returns-2)
+    returns_2)

@@ -3,7 +3,7 @@
 use Rattle.std.proofs.Common.{◌≡◌, ℕ, List, [], ◌∷◌, map, get_or, sym, ap, ◌∙◌, rules}
 use lib.ListN.{get_or-map}
 use Rattle.base.specs.MonthFile.{Part}
-use Rattle.base.specs.Tables.{numbered, noSuchTable, bytesIn, part_of}
+use Rattle.base.specs.Tables.{numbered, no_such_table, bytes_in, part_of}
 use Rattle.base.proofs.layout.Parts.{no_part}
 use Rattle.base.proofs.tables.table_place.Statement.{statement}
 use Rattle.base.proofs.tables.table_place.Tie as tie
@@ -16,24 +16,24 @@ abbrev of_row : List ℕ → Part
 of_row l = record { from = get_or l 0 0; size = get_or l 1 0 }
 
 abbrev rows : List (List ℕ)
-rows = map row (map bytesIn numbered)
+rows = map row (map bytes_in numbered)
 
-of-rows : (k : ℕ) → part_of k ≡ of_row (get_or rows k [])
+of_rows : (k : ℕ) → part_of k ≡ of_row (get_or rows k [])
 unfolding part_of
-of-rows k = sym (get_or-map bytesIn numbered k noSuchTable) ∙ get_or-map of_row rows k []
+of_rows k = sym (get_or-map bytes_in numbered k no_such_table) ∙ get_or-map of_row rows k []
 
 returns : tie.Need-returns
 returns c =
     let e = no_part c.before.args.number c.if1.true in
     (sym (ap (λ (p : Part). p.from) e), sym (ap (λ (p : Part). p.size) e))
 
-returns-2 : tie.Need-returns-2
-returns-2 c =
-    let e = of-rows c.before.before.args.number in
+returns_2 : tie.Need-returns-2
+returns_2 c =
+    let e = of_rows c.before.before.args.number in
     (sym (ap (λ (p : Part). p.from) e), sym (ap (λ (p : Part). p.size) e))
 
-pub table-place-spec : {M : Type 1} → statement M
-table-place-spec =
+pub table_place_spec : {M : Type 1} → statement M
+table_place_spec =
     tie.close
     (tie.spec
     returns
@@ -41,4 +41,4 @@ table-place-spec =
     (λ c. search rules)
     (λ c. search rules)
     (λ c. search rules)
-    returns-2)
+    returns_2)

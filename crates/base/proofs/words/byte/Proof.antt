@@ -4,14 +4,14 @@ use lib.ListN.{get_or-eq_default}
 use Rattle.base.proofs.words.byte.Statement.{statement}
 use Rattle.base.proofs.words.byte.Tie as tie
 
-returns-2 : tie.Need-returns-2
-returns-2 c = (sym (get_or-eq_default c.before.before.args.s.now 0 c.if1.false), search rules)
+returns_2 : tie.Need-returns-2
+returns_2 c = (sym (get_or-eq_default c.before.before.args.s.now 0 c.if1.false), search rules)
 
-pub byte-spec : {M : Type 1} → statement M
-byte-spec =
+pub byte_spec : {M : Type 1} → statement M
+byte_spec =
     tie.close
     (tie.spec
     (λ c. search rules)
     (λ c κs. search rules)
     (λ c. search rules)
-    returns-2)
+    returns_2)

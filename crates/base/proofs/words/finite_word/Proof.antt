@@ -3,19 +3,19 @@ use Rattle.std.proofs.Common.{ℕ, T, sym, ap, subst, rules}
 use lib.Ieee.{binary32, of_bits}
 use lib.Ieee.Scale.{finite}
 use Rattle.base.specs.Words.{float_at}
-use Rattle.base.proofs.rounding.Exponents.{finite-no-nan}
+use Rattle.base.proofs.rounding.Exponents.{finite_no_nan}
 use Rattle.base.proofs.words.finite_word.Statement.{statement}
 use Rattle.base.proofs.words.finite_word.Tie as tie
 
-float-from-bits-result : tie.Need-float-from-bits-result
+float_from_bits_result : tie.Need-float-from-bits-result
 unfolding float_at
-float-from-bits-result c =
-    finite-no-nan c.whole_word.result
+float_from_bits_result c =
+    finite_no_nan c.whole_word.result
     (subst (λ (x : ℕ). T (finite (of_bits binary32 x))) (sym c.whole_word.ensures) c.before.before.requires.1)
 
 returns : tie.Need-returns
 unfolding float_at
 returns c = ap (of_bits binary32) c.whole_word.ensures
 
-pub finite-word-spec : {M : Type 1} → statement M
-finite-word-spec = tie.close (tie.spec (λ c κs. search rules) float-from-bits-result returns)
+pub finite_word_spec : {M : Type 1} → statement M
+finite_word_spec = tie.close (tie.spec (λ c κs. search rules) float_from_bits_result returns)

@@ -9,8 +9,8 @@ returns : tie.Need-returns
 unfolding float_at
 returns c = c.float32.ensures ∙ ap (of_bits binary32) c.before.word.ensures
 
-pub float-spec : {M : Type 1} → statement M
-float-spec =
+pub float_spec : {M : Type 1} → statement M
+float_spec =
     tie.close
     (tie.spec
     (λ c κs. search rules)

@@ -2,36 +2,36 @@
 use Rattle.std.proofs.Common.{◌≡◌, ℕ, ◌+◌, ◌-◌, ◌*◌, ◌≤◌, length, sym, refl, arith, rules}
 use Rattle.base.specs.Fill.{fill}
 use Rattle.base.specs.Words.{word_at}
-use Rattle.base.proofs.lists.Fills.{fill-first, filled}
+use Rattle.base.proofs.lists.Fills.{fill_first, filled}
 use Rattle.base.proofs.words.read_words.Statement.{statement}
 use Rattle.base.proofs.words.read_words.Tie as tie
 
-abbrev invariant-loop : tie.invariant-loop
-invariant-loop s at out₀ i₀ out i =
+abbrev invariant_loop : tie.invariant_loop
+invariant_loop s at out₀ i₀ out i =
     (i ≤ length out₀) × (length out ≡ length out₀) × (out ≡ fill (λ j. word_at s (at + j * 4)) 0 out₀ i)
 
-abbrev decreases-loop : tie.decreases-loop
-decreases-loop s at out₀ i₀ out i = length out₀ - i
+abbrev decreases_loop : tie.decreases_loop
+decreases_loop s at out₀ i₀ out i = length out₀ - i
 
-loop-holds : tie.Need-loop-init invariant-loop decreases-loop
+loop_holds : tie.Need-loop-init invariant_loop decreases_loop
 unfolding fill
-loop-holds c = (search rules, refl, refl)
+loop_holds c = (search rules, refl, refl)
 
-loop-again : tie.Need-loop-preserved invariant-loop decreases-loop
-loop-again c =
+loop_again : tie.Need-loop-preserved invariant_loop decreases_loop
+loop_again c =
     let so_far = c.before.before.loop.invariant.2 in
-    (search rules, search rules, rw (c.whole_word.ensures, so_far) (sym (fill-first _ _ _)))
+    (search rules, search rules, rw (c.whole_word.ensures, so_far) (sym (fill_first _ _ _)))
 
-returns : tie.Need-returns invariant-loop decreases-loop
+returns : tie.Need-returns invariant_loop decreases_loop
 returns c = filled _ _ c.before.loop.invariant.2 (omega arith)
 
-pub read-words-spec : {M : Type 1} → statement M
-read-words-spec =
+pub read_words_spec : {M : Type 1} → statement M
+read_words_spec =
     tie.close
     (tie.spec
-    invariant-loop
-    decreases-loop
-    loop-holds
+    invariant_loop
+    decreases_loop
+    loop_holds
     (λ c. search rules)
     (λ c. search rules)
     (λ c κs. search rules)
@@ -39,6 +39,6 @@ read-words-spec =
     (λ c. search rules)
     (λ c. search rules)
     (λ c. search rules)
-    loop-again
+    loop_again
     (λ c. search rules)
     returns)

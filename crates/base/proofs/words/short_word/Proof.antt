@@ -20,11 +20,11 @@ returns : tie.Need-returns
 unfolding word_at
 returns c = omega arith
 
-returns-2 : tie.Need-returns-2
-returns-2 c = past c.before.before.args.s.now c.before.before.args.at c.if1.false
+returns_2 : tie.Need-returns-2
+returns_2 c = past c.before.before.args.s.now c.before.before.args.at c.if1.false
 
-pub short-word-spec : {M : Type 1} → statement M
-short-word-spec =
+pub short_word_spec : {M : Type 1} → statement M
+short_word_spec =
     tie.close
     (tie.spec
     (λ c κs. search rules)
@@ -36,4 +36,4 @@ short-word-spec =
     (λ c κs. search rules)
     (λ c κs. search rules)
     returns
-    returns-2)
+    returns_2)

@@ -8,8 +8,8 @@ returns : tie.Need-returns
 unfolding word_at
 returns c = omega arith
 
-pub whole-word-spec : {M : Type 1} → statement M
-whole-word-spec =
+pub whole_word_spec : {M : Type 1} → statement M
+whole_word_spec =
     tie.close
     (tie.spec
     (λ c. search rules)

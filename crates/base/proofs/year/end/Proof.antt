@@ -8,8 +8,8 @@ returns : tie.Need-returns
 unfolding end_at
 returns c = ap₂ (λ (a b : ℕ). a + b) c.before.offset.ensures.0 c.size.ensures.0
 
-pub end-spec : {M : Type 1} → statement M
-end-spec =
+pub end_spec : {M : Type 1} → statement M
+end_spec =
     tie.close
     (tie.spec
     (λ c κs. search rules)

@@ -8,8 +8,8 @@ returns : tie.Need-returns
 unfolding length_at
 returns c = (c.word.ensures, omega arith)
 
-pub size-spec : {M : Type 1} → statement M
-size-spec =
+pub size_spec : {M : Type 1} → statement M
+size_spec =
     tie.close
     (tie.spec
     (λ c. search rules)

@@ -1,4 +1,4 @@
--- `year_month` is the part `yearMonth` of the file, by what `month_place` ensures: it lies within.
+-- `year_month` is the part `year_month` of the file, by what `month_place` ensures: it lies within.
 use Rattle.std.proofs.Common.{sym, arith, rules}
 use Rattle.base.proofs.layout.Records.{part_of}
 use Rattle.base.proofs.year.year_month.Statement.{statement}
@@ -9,8 +9,8 @@ returns c =
     let e = c.before.before.month-place.ensures in
     part_of _ _ _ _ _ (sym e.0) (omega (arith, e.1.0))
 
-pub year-month-spec : {M : Type 1} → statement M
-year-month-spec =
+pub year_month_spec : {M : Type 1} → statement M
+year_month_spec =
     tie.close
     (tie.spec
     (λ c κs. search rules)

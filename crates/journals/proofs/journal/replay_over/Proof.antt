@@ -4,18 +4,18 @@ use Prim.Native.Nat.{◌≤◌}
 use Rattle.journals.proofs.journal.replay_over.Statement.{statement}
 use Rattle.journals.proofs.journal.replay_over.Tie as tie
 
-abbrev invariant-loop : tie.invariant-loop
-invariant-loop fd year start t₀ left₀ t7 t left = 0 ≤ left
+abbrev invariant_loop : tie.invariant_loop
+invariant_loop fd year start t₀ left₀ t7 t left = 0 ≤ left
 
-abbrev decreases-loop : tie.decreases-loop
-decreases-loop fd year start t₀ left₀ t7 t left = left
+abbrev decreases_loop : tie.decreases_loop
+decreases_loop fd year start t₀ left₀ t7 t left = left
 
-pub replay-over-spec : {M : Type 1} → statement M
-replay-over-spec =
+pub replay_over_spec : {M : Type 1} → statement M
+replay_over_spec =
     tie.close
     (tie.spec
-    invariant-loop
-    decreases-loop
+    invariant_loop
+    decreases_loop
     (λ c κs. search rules)
     (λ c. search rules)
     (λ c. search rules)

@@ -4,18 +4,18 @@ use Prim.Native.Nat.{◌≤◌}
 use Rattle.journals.proofs.journal.replay_years.Statement.{statement}
 use Rattle.journals.proofs.journal.replay_years.Tie as tie
 
-abbrev invariant-loop : tie.invariant-loop
-invariant-loop fd t₀ left₀ t4 t left = 0 ≤ left
+abbrev invariant_loop : tie.invariant_loop
+invariant_loop fd t₀ left₀ t4 t left = 0 ≤ left
 
-abbrev decreases-loop : tie.decreases-loop
-decreases-loop fd t₀ left₀ t4 t left = left
+abbrev decreases_loop : tie.decreases_loop
+decreases_loop fd t₀ left₀ t4 t left = left
 
-pub replay-years-spec : {M : Type 1} → statement M
-replay-years-spec =
+pub replay_years_spec : {M : Type 1} → statement M
+replay_years_spec =
     tie.close
     (tie.spec
-    invariant-loop
-    decreases-loop
+    invariant_loop
+    decreases_loop
     (λ c κs. search rules)
     (λ c κs. search rules)
     (λ c. search rules)

@@ -4,18 +4,18 @@ use Prim.Native.Nat.{◌≤◌}
 use Rattle.journals.proofs.pages.replay_all.Statement.{statement}
 use Rattle.journals.proofs.pages.replay_all.Tie as tie
 
-abbrev invariant-loop : tie.invariant-loop
-invariant-loop fd t₀ pairs left₀ t5 t left = 0 ≤ left
+abbrev invariant_loop : tie.invariant_loop
+invariant_loop fd t₀ pairs left₀ t5 t left = 0 ≤ left
 
-abbrev decreases-loop : tie.decreases-loop
-decreases-loop fd t₀ pairs left₀ t5 t left = left
+abbrev decreases_loop : tie.decreases_loop
+decreases_loop fd t₀ pairs left₀ t5 t left = left
 
-pub replay-all-spec : {M : Type 1} → statement M
-replay-all-spec =
+pub replay_all_spec : {M : Type 1} → statement M
+replay_all_spec =
     tie.close
     (tie.spec
-    invariant-loop
-    decreases-loop
+    invariant_loop
+    decreases_loop
     (λ c κs. search rules)
     (λ c κs. search rules)
     (λ c. search rules)

@@ -5,18 +5,18 @@ use lib.ListN.{length}
 use Rattle.journals.proofs.wanted.say.Statement.{statement}
 use Rattle.journals.proofs.wanted.say.Tie as tie
 
-abbrev invariant-loop : tie.invariant-loop
-invariant-loop wanted at text at₀ i₀ at' i = i ≤ length text
+abbrev invariant_loop : tie.invariant_loop
+invariant_loop wanted at text at₀ i₀ at' i = i ≤ length text
 
-abbrev decreases-loop : tie.decreases-loop
-decreases-loop wanted at text at₀ i₀ at' i = length text - i
+abbrev decreases_loop : tie.decreases_loop
+decreases_loop wanted at text at₀ i₀ at' i = length text - i
 
-pub say-spec : {M : Type 1} → statement M
-say-spec =
+pub say_spec : {M : Type 1} → statement M
+say_spec =
     tie.close
     (tie.spec
-    invariant-loop
-    decreases-loop
+    invariant_loop
+    decreases_loop
     (λ c. search rules)
     (λ c. search rules)
     (λ c. search rules)

@@ -8,8 +8,8 @@ returns : tie.Need-returns
 unfolding answer_of
 returns c = cc
 
-pub answered-spec : {M : Type 1} → statement M
-answered-spec =
+pub answered_spec : {M : Type 1} → statement M
+answered_spec =
     tie.close
     (tie.spec
     (λ c κs. search rules)

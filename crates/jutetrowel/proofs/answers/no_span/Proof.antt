@@ -8,8 +8,8 @@ returns : tie.Need-returns
 unfolding span_of
 returns c = cc
 
-pub no-span-spec : {M : Type 1} → statement M
-no-span-spec =
+pub no_span_spec : {M : Type 1} → statement M
+no_span_spec =
     tie.close
     (tie.spec
     (λ c κs. search rules)

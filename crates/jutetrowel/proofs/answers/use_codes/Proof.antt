@@ -1,11 +1,11 @@
--- `use_codes` is `useCodes`, call by call.
+-- `use_codes` is `use_codes`, call by call.
 use borrow.Author.Rules.{rules}
-use Rattle.jutetrowel.specs.Answers.{useCodes}
+use Rattle.jutetrowel.specs.Answers.{use_codes}
 use Rattle.jutetrowel.proofs.answers.use_codes.Statement.{statement}
 use Rattle.jutetrowel.proofs.answers.use_codes.Tie as tie
 
 returns : tie.Need-returns
-unfolding useCodes
+unfolding use_codes
 returns c =
     rw (
       c.use-code5.ensures,
@@ -15,8 +15,8 @@ returns c =
       c.before.before.before.before.use-code.ensures,
     )
 
-pub use-codes-spec : {M : Type 1} → statement M
-use-codes-spec =
+pub use_codes_spec : {M : Type 1} → statement M
+use_codes_spec =
     tie.close
     (tie.spec
     (λ c κs. search rules)

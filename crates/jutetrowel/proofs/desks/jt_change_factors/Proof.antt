@@ -9,5 +9,5 @@ use Rattle.jutetrowel.proofs.desks.jt_change_factors.Tie as tie
 returns : tie.Need-returns
 returns c = changed (ap Psc c.before.before.factors.ensures) c.made.ensures
 
-pub jt-change-factors-spec : {M : Type 1} → statement M
-jt-change-factors-spec = tie.close (tie.spec (λ c κs. search rules) (λ c κs. search rules) returns)
+pub jt_change_factors_spec : {M : Type 1} → statement M
+jt_change_factors_spec = tie.close (tie.spec (λ c κs. search rules) (λ c κs. search rules) returns)

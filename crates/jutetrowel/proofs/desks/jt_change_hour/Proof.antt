@@ -8,5 +8,5 @@ use Rattle.jutetrowel.proofs.desks.jt_change_hour.Tie as tie
 returns : tie.Need-returns
 returns c = changed refl c.made.ensures
 
-pub jt-change-hour-spec : {M : Type 1} → statement M
-jt-change-hour-spec = tie.close (tie.spec (λ c κs. search rules) returns)
+pub jt_change_hour_spec : {M : Type 1} → statement M
+jt_change_hour_spec = tie.close (tie.spec (λ c κs. search rules) returns)

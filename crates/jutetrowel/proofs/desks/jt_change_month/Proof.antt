@@ -8,5 +8,5 @@ use Rattle.jutetrowel.proofs.desks.jt_change_month.Tie as tie
 returns : tie.Need-returns
 returns c = changed refl c.made.ensures
 
-pub jt-change-month-spec : {M : Type 1} → statement M
-jt-change-month-spec = tie.close (tie.spec (λ c κs. search rules) returns)
+pub jt_change_month_spec : {M : Type 1} → statement M
+jt_change_month_spec = tie.close (tie.spec (λ c κs. search rules) returns)

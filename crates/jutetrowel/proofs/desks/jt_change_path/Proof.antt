@@ -9,5 +9,5 @@ use Rattle.jutetrowel.proofs.desks.jt_change_path.Tie as tie
 returns : tie.Need-returns
 returns c = changed (ap Path c.before.before.route.ensures) c.made.ensures
 
-pub jt-change-path-spec : {M : Type 1} → statement M
-jt-change-path-spec = tie.close (tie.spec (λ c κs. search rules) (λ c κs. search rules) returns)
+pub jt_change_path_spec : {M : Type 1} → statement M
+jt_change_path_spec = tie.close (tie.spec (λ c κs. search rules) (λ c κs. search rules) returns)

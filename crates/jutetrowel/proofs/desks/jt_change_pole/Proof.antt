@@ -9,5 +9,5 @@ use Rattle.jutetrowel.proofs.desks.jt_change_pole.Tie as tie
 returns : tie.Need-returns
 returns c = changed (ap Pole c.before.before.pole.ensures) c.made.ensures
 
-pub jt-change-pole-spec : {M : Type 1} → statement M
-jt-change-pole-spec = tie.close (tie.spec (λ c κs. search rules) (λ c κs. search rules) returns)
+pub jt_change_pole_spec : {M : Type 1} → statement M
+jt_change_pole_spec = tie.close (tie.spec (λ c κs. search rules) (λ c κs. search rules) returns)

@@ -9,5 +9,5 @@ use Rattle.jutetrowel.proofs.desks.jt_change_sunspot.Tie as tie
 returns : tie.Need-returns
 returns c = changed refl c.made.ensures
 
-pub jt-change-sunspot-spec : {M : Type 1} → statement M
-jt-change-sunspot-spec = tie.close (tie.spec (λ c κs. search rules) returns)
+pub jt_change_sunspot_spec : {M : Type 1} → statement M
+jt_change_sunspot_spec = tie.close (tie.spec (λ c κs. search rules) returns)

@@ -2,9 +2,9 @@
 -- `show` ensure.
 use borrow.Author.Rules.{rules}
 use mathlib.Core.Path.{ap, ◌∙◌}
-use Rattle.worksheet.specs.Showing.{showOf, showBuffer}
+use Rattle.worksheet.specs.Showing.{show_of, show_buffer}
 use Rattle.worksheet.specs.Journal.{step}
-use Rattle.jutetrowel.specs.Answers.{showingOf}
+use Rattle.jutetrowel.specs.Answers.{showing_of}
 use Rattle.jutetrowel.proofs.desks.jt_show.Statement.{statement}
 use Rattle.jutetrowel.proofs.desks.jt_show.Tie as tie
 
@@ -13,10 +13,10 @@ unfolding step
 returns c =
     let w = c.before.before.before.before.before.load.ensures in
     let s = c.before.before.before.show.ensures in
-    (c.shown-as.ensures ∙ ap showingOf (s.0 ∙ ap (showOf _ _ _) w), s.1 ∙ ap (showBuffer _ _ _) w)
+    (c.shown_as.ensures ∙ ap showing_of (s.0 ∙ ap (show_of _ _ _) w), s.1 ∙ ap (show_buffer _ _ _) w)
 
-pub jt-show-spec : {M : Type 1} → statement M
-jt-show-spec =
+pub jt_show_spec : {M : Type 1} → statement M
+jt_show_spec =
     tie.close
     (tie.spec
     (λ c κs. search rules)

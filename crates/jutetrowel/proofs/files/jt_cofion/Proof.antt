@@ -10,5 +10,5 @@ returns c =
     let f = c.before.cofion.ensures in
     (c.answered.ensures ∙ ap answer_of f.0, f.1)
 
-pub jt-cofion-spec : {M : Type 1} → statement M
-jt-cofion-spec = tie.close (tie.spec (λ c κs. search rules) (λ c κs. search rules) returns)
+pub jt_cofion_spec : {M : Type 1} → statement M
+jt_cofion_spec = tie.close (tie.spec (λ c κs. search rules) (λ c κs. search rules) returns)

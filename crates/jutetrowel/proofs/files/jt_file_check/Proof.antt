@@ -8,5 +8,5 @@ use Rattle.jutetrowel.proofs.files.jt_file_check.Tie as tie
 returns : tie.Need-returns
 returns c = c.answered.ensures ∙ ap answer_of c.before.file-check.ensures
 
-pub jt-file-check-spec : {M : Type 1} → statement M
-jt-file-check-spec = tie.close (tie.spec (λ c κs. search rules) (λ c κs. search rules) returns)
+pub jt_file_check_spec : {M : Type 1} → statement M
+jt_file_check_spec = tie.close (tie.spec (λ c κs. search rules) (λ c κs. search rules) returns)

@@ -10,5 +10,5 @@ returns c =
     let f = c.before.hmym.ensures in
     (c.answered.ensures ∙ ap answer_of f.0, f.1)
 
-pub jt-hmym-spec : {M : Type 1} → statement M
-jt-hmym-spec = tie.close (tie.spec (λ c κs. search rules) (λ c κs. search rules) returns)
+pub jt_hmym_spec : {M : Type 1} → statement M
+jt_hmym_spec = tie.close (tie.spec (λ c κs. search rules) (λ c κs. search rules) returns)

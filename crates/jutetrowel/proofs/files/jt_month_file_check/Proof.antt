@@ -8,5 +8,5 @@ use Rattle.jutetrowel.proofs.files.jt_month_file_check.Tie as tie
 returns : tie.Need-returns
 returns c = c.answered.ensures ∙ ap answer_of c.before.month-file-check.ensures
 
-pub jt-month-file-check-spec : {M : Type 1} → statement M
-jt-month-file-check-spec = tie.close (tie.spec (λ c κs. search rules) (λ c κs. search rules) returns)
+pub jt_month_file_check_spec : {M : Type 1} → statement M
+jt_month_file_check_spec = tie.close (tie.spec (λ c κs. search rules) (λ c κs. search rules) returns)

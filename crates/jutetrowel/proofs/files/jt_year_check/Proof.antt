@@ -8,5 +8,5 @@ use Rattle.jutetrowel.proofs.files.jt_year_check.Tie as tie
 returns : tie.Need-returns
 returns c = c.answered.ensures ∙ ap answer_of c.before.year-check.ensures
 
-pub jt-year-check-spec : {M : Type 1} → statement M
-jt-year-check-spec = tie.close (tie.spec (λ c κs. search rules) (λ c κs. search rules) returns)
+pub jt_year_check_spec : {M : Type 1} → statement M
+jt_year_check_spec = tie.close (tie.spec (λ c κs. search rules) (λ c κs. search rules) returns)

@@ -1,25 +1,25 @@
--- `jt_year_month` is the span of `yearMonth` unless its check refuses, by what its calls ensure.
+-- `jt_year_month` is the span of `year_month` unless its check refuses, by what its calls ensure.
 use borrow.Author.Rules.{rules}
 use mathlib.Core.Path.{ap₂, ◌∙◌}
 use Rattle.base.specs.Refusal.{◌then◌}
 use Rattle.base.specs.MonthFile.{Part}
-use Rattle.base.specs.Year.{yearMonthCheck}
-use Rattle.jutetrowel.specs.Answers.{spanUnless}
+use Rattle.base.specs.Year.{year_month_check}
+use Rattle.jutetrowel.specs.Answers.{span_unless}
 use Rattle.jutetrowel.proofs.files.jt_year_month.Statement.{statement}
 use Rattle.jutetrowel.proofs.files.jt_year_month.Tie as tie
 
 returns : tie.Need-returns
-unfolding yearMonthCheck
+unfolding year_month_check
 returns c =
     let p = c.before.month-place.ensures in
     let v = c.before.before in
     let check = v.then.ensures ∙ ap₂ ◌then◌ v.before.before.month-check.ensures v.before.year-check.ensures in
     let start = p.0 in
     let size = p.1.0 in
-    c.span-unless.ensures ∙ (λ t. spanUnless (check t) (record { from = start t; size = size t }))
+    c.span-unless.ensures ∙ (λ t. span_unless (check t) (record { from = start t; size = size t }))
 
-pub jt-year-month-spec : {M : Type 1} → statement M
-jt-year-month-spec =
+pub jt_year_month_spec : {M : Type 1} → statement M
+jt_year_month_spec =
     tie.close
     (tie.spec
     (λ c κs. search rules)

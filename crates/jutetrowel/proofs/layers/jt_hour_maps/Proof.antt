@@ -10,5 +10,5 @@ returns c =
     let h = c.before.hour-maps.ensures in
     (c.answered.ensures ∙ ap answer_of h.0, h.1)
 
-pub jt-hour-maps-spec : {M : Type 1} → statement M
-jt-hour-maps-spec = tie.close (tie.spec (λ c κs. search rules) (λ c κs. search rules) returns)
+pub jt_hour_maps_spec : {M : Type 1} → statement M
+jt_hour_maps_spec = tie.close (tie.spec (λ c κs. search rules) (λ c κs. search rules) returns)

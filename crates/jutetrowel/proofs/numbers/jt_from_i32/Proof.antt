@@ -10,5 +10,5 @@ use Rattle.jutetrowel.proofs.numbers.jt_from_i32.Tie as tie
 returns : tie.Need-returns
 returns c = c.from-i32.ensures ∙ ap (of_int binary32) (to_z-of_z (search rules))
 
-pub jt-from-i32-spec : {M : Type 1} → statement M
-jt-from-i32-spec = tie.close (tie.spec (λ c κs. search rules) returns)
+pub jt_from_i32_spec : {M : Type 1} → statement M
+jt_from_i32_spec = tie.close (tie.spec (λ c κs. search rules) returns)

@@ -6,7 +6,7 @@ use Prim.Native.Nat.{ℕ, ◌+◌, ◌≤◌, ◌-◌}
 use native.Mathlib.Omega.{arith}
 use lib.ListN.{length, set}
 use Rattle.base.specs.Fill.{fill}
-use Rattle.base.proofs.lists.Fills.{fill-next}
+use Rattle.base.proofs.lists.Fills.{fill_next}
 use Rattle.jutetrowel.specs.Words.{word_in}
 use Rattle.jutetrowel.proofs.words.copy.Statement.{statement}
 use Rattle.jutetrowel.proofs.words.copy.Tie as tie
@@ -15,27 +15,27 @@ use Rattle.jutetrowel.proofs.words.copy.Tie as tie
 abbrev after : List ℕ → ℕ → ℕ → ℕ
 after l at k = word_in l (at + k)
 
-abbrev invariant-loop : tie.invariant-loop
-invariant-loop from at out₀ to n k₀ out k = (k ≤ n) × (length out ≡ length out₀) × (out ≡ fill (after from at) to out₀ k)
+abbrev invariant_loop : tie.invariant_loop
+invariant_loop from at out₀ to n k₀ out k = (k ≤ n) × (length out ≡ length out₀) × (out ≡ fill (after from at) to out₀ k)
 
-abbrev decreases-loop : tie.decreases-loop
-decreases-loop from at out₀ to n k₀ out k = n - k
+abbrev decreases_loop : tie.decreases_loop
+decreases_loop from at out₀ to n k₀ out k = n - k
 
-loop-holds : tie.Need-loop-init invariant-loop decreases-loop
+loop_holds : tie.Need-loop-init invariant_loop decreases_loop
 unfolding fill
-loop-holds c = (search rules, search rules, refl)
+loop_holds c = (search rules, search rules, refl)
 
-loop-again : tie.Need-loop-preserved invariant-loop decreases-loop
-loop-again c =
+loop_again : tie.Need-loop-preserved invariant_loop decreases_loop
+loop_again c =
     let a = c.before.before.before.args in
     let l = c.before.before.loop in
     let f = after a.from.now a.at in (
       search rules,
       search rules,
-      ap (λ (x : List ℕ). set x (a.to + l.k) (f l.k)) l.invariant.2 ∙ sym (fill-next f a.to a.out.now l.k),
+      ap (λ (x : List ℕ). set x (a.to + l.k) (f l.k)) l.invariant.2 ∙ sym (fill_next f a.to a.out.now l.k),
     )
 
-returns : tie.Need-returns invariant-loop decreases-loop
+returns : tie.Need-returns invariant_loop decreases_loop
 returns c =
     let a = c.before.before.args in
     let l = c.before.loop in
@@ -46,9 +46,9 @@ pub copy_spec : {M : Type 1} → statement M
 copy_spec =
     tie.close
     (tie.spec
-    invariant-loop
-    decreases-loop
-    loop-holds
+    invariant_loop
+    decreases_loop
+    loop_holds
     (λ c. search rules)
     (λ c. search rules)
     (λ c. search rules)
@@ -57,6 +57,6 @@ copy_spec =
     (λ c. search rules)
     (λ c. search rules)
     (λ c. search rules)
-    loop-again
+    loop_again
     (λ c. search rules)
     returns)

@@ -1,11 +1,11 @@
--- `load` is `worksheetOf`, set by set.
+-- `load` is `worksheet_of`, set by set.
 use borrow.Author.Rules.{rules}
-use Rattle.jutetrowel.specs.Words.{worksheetOf}
+use Rattle.jutetrowel.specs.Words.{worksheet_of}
 use Rattle.jutetrowel.proofs.words.load.Statement.{statement}
 use Rattle.jutetrowel.proofs.words.load.Tie as tie
 
 returns : tie.Need-returns
-unfolding worksheetOf
+unfolding worksheet_of
 returns c = cc
 
 pub load_spec : {M : Type 1} → statement M

@@ -1,6 +1,6 @@
--- `words_of` is `sheetWords`: the six sets, copied one after the other, are appended.
+-- `words_of` is `sheet_words`: the six sets, copied one after the other, are appended.
 use borrow.Author.Rules.{rules}
-use Rattle.jutetrowel.proofs.crossing.Stored.{six-sets}
+use Rattle.jutetrowel.proofs.crossing.Stored.{six_sets}
 use Rattle.jutetrowel.proofs.words.words_of.Statement.{statement}
 use Rattle.jutetrowel.proofs.words.words_of.Tie as tie
 
@@ -12,7 +12,7 @@ returns c =
     let c3 = c4.before.before.before.before.before in
     let c2 = c3.before.before.before.before.before in
     let c1 = c2.before.before.before.before.before in
-    six-sets c1.before.before.before.before.before.args.w
+    six_sets c1.before.before.before.before.before.args.w
     c1.before.before.before.set_words.ensures
     c2.before.before.before.earlier-words.ensures
     c3.before.before.before.draft-words.ensures
@@ -26,8 +26,8 @@ returns c =
     c5.copy5.ensures
     c6.copy6.ensures
 
-pub words-of-spec : {M : Type 1} → statement M
-words-of-spec =
+pub words_of_spec : {M : Type 1} → statement M
+words_of_spec =
     tie.close
     (tie.spec
     (λ c κs. search rules)

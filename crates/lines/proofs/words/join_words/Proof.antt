@@ -8,21 +8,21 @@ use Rattle.io.proofs.Counting.{prefix_len_of_le}
 use Rattle.lines.proofs.words.join_words.Statement.{statement}
 use Rattle.lines.proofs.words.join_words.Tie as tie
 
-abbrev invariant-loop : tie.invariant-loop
-invariant-loop out₀ n words at₀ k₀ out at k = (at ≤ length out) × (k ≤ length words) × (length out ≡ length out₀)
+abbrev invariant_loop : tie.invariant_loop
+invariant_loop out₀ n words at₀ k₀ out at k = (at ≤ length out) × (k ≤ length words) × (length out ≡ length out₀)
 
-abbrev decreases-loop : tie.decreases-loop
-decreases-loop out₀ n words at₀ k₀ out at k = length words - k
+abbrev decreases_loop : tie.decreases_loop
+decreases_loop out₀ n words at₀ k₀ out at k = length words - k
 
-returns : tie.Need-returns invariant-loop decreases-loop
+returns : tie.Need-returns invariant_loop decreases_loop
 returns c = prefix_len_of_le _ _ (search rules)
 
-pub join-words-spec : {M : Type 1} → statement M
-join-words-spec =
+pub join_words_spec : {M : Type 1} → statement M
+join_words_spec =
     tie.close
     (tie.spec
-    invariant-loop
-    decreases-loop
+    invariant_loop
+    decreases_loop
     (λ c. search rules)
     (λ c. search rules)
     (λ c. search rules)

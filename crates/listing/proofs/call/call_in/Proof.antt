@@ -11,7 +11,7 @@ use lib.Ieee.{Float}
 use Rattle.worksheet.specs.declared.inputs.Edit.TheVariants.{Sunspot, Hour, Month, Model}
 use Rattle.worksheet.specs.declared.journal.Call.TheVariants.{Begin, Commit, Cancel, Show}
 use Rattle.listing.specs.declared.call.Read.TheVariants.{Call as Called}
-use Rattle.listing.specs.Calls.{Operation, unknown, operations, changeIn, call_in}
+use Rattle.listing.specs.Calls.{Operation, unknown, operations, change_in, call_in}
 use Rattle.listing.proofs.call.call_in.Statement.{statement}
 use Rattle.listing.proofs.call.call_in.Tie as tie
 
@@ -23,67 +23,67 @@ returns : tie.Need-returns
 unfolding call_in
 returns c = ap (λ (d : ℕ). Called (Begin d)) c.word.ensures ∙ of_number _ 1 c.before.match.keys1
 
-returns-2 : tie.Need-returns-2
+returns_2 : tie.Need-returns-2
 unfolding call_in
-returns-2 c =
+returns_2 c =
     let s = c.before.before.before.before.args.s.now in
-    c.change-in.ensures ∙ ap (λ (x : Float). changeIn s (Sunspot x)) c.before.float.ensures ∙ of_number s 2 c.before.before.match.keys2
+    c.change-in.ensures ∙ ap (λ (x : Float). change_in s (Sunspot x)) c.before.float.ensures ∙ of_number s 2 c.before.before.match.keys2
 
-returns-3 : tie.Need-returns-3
+returns_3 : tie.Need-returns-3
 unfolding call_in
-returns-3 c =
+returns_3 c =
     let s = c.before.before.before.before.args.s.now in
-    c.change-in2.ensures ∙ ap (λ (x : Float). changeIn s (Hour x)) c.before.float2.ensures ∙ of_number s 3 c.before.before.match.keys3
+    c.change-in2.ensures ∙ ap (λ (x : Float). change_in s (Hour x)) c.before.float2.ensures ∙ of_number s 3 c.before.before.match.keys3
 
-returns-4 : tie.Need-returns-4
+returns_4 : tie.Need-returns-4
 unfolding call_in
-returns-4 c =
+returns_4 c =
     let s = c.before.before.before.before.args.s.now in
-    c.change-in3.ensures ∙ ap (changeIn s) c.before.path-in.ensures ∙ of_number s 4 c.before.before.match.keys4
+    c.change-in3.ensures ∙ ap (change_in s) c.before.path-in.ensures ∙ of_number s 4 c.before.before.match.keys4
 
-returns-5 : tie.Need-returns-5
+returns_5 : tie.Need-returns-5
 unfolding call_in
-returns-5 c =
+returns_5 c =
     let s = c.before.before.before.before.args.s.now in
-    c.change-in4.ensures ∙ ap (changeIn s) c.before.psc-in.ensures ∙ of_number s 5 c.before.before.match.keys5
+    c.change-in4.ensures ∙ ap (change_in s) c.before.psc-in.ensures ∙ of_number s 5 c.before.before.match.keys5
 
-returns-6 : tie.Need-returns-6
+returns_6 : tie.Need-returns-6
 unfolding call_in
-returns-6 c =
+returns_6 c =
     let s = c.before.before.before.before.args.s.now in
-    c.change-in5.ensures ∙ ap (changeIn s) c.before.pole-in.ensures ∙ of_number s 6 c.before.before.match.keys6
+    c.change-in5.ensures ∙ ap (change_in s) c.before.pole_in.ensures ∙ of_number s 6 c.before.before.match.keys6
 
-returns-7 : tie.Need-returns-7
+returns_7 : tie.Need-returns-7
 unfolding call_in
-returns-7 c = ap (λ (d : ℕ). Called (Commit d)) c.word2.ensures ∙ of_number _ 7 c.before.match.keys7
+returns_7 c = ap (λ (d : ℕ). Called (Commit d)) c.word2.ensures ∙ of_number _ 7 c.before.match.keys7
 
-returns-8 : tie.Need-returns-8
+returns_8 : tie.Need-returns-8
 unfolding call_in
-returns-8 c = ap (λ (d : ℕ). Called (Cancel d)) c.word3.ensures ∙ of_number _ 8 c.before.match.keys8
+returns_8 c = ap (λ (d : ℕ). Called (Cancel d)) c.word3.ensures ∙ of_number _ 8 c.before.match.keys8
 
-returns-9 : tie.Need-returns-9
+returns_9 : tie.Need-returns-9
 unfolding call_in
-returns-9 c = of_number _ 9 c.match.keys9
+returns_9 c = of_number _ 9 c.match.keys9
 
-returns-10 : tie.Need-returns-10
+returns_10 : tie.Need-returns-10
 unfolding call_in
-returns-10 c = ap (λ (d : ℕ). Called (Show d)) c.word4.ensures ∙ of_number _ 10 c.before.match.keys10
+returns_10 c = ap (λ (d : ℕ). Called (Show d)) c.word4.ensures ∙ of_number _ 10 c.before.match.keys10
 
-returns-11 : tie.Need-returns-11
+returns_11 : tie.Need-returns-11
 unfolding call_in
-returns-11 c =
+returns_11 c =
     let s = c.before.before.before.before.args.s.now in
-    c.change-in6.ensures ∙ ap (λ (x : ℕ). changeIn s (Month x)) c.before.word5.ensures ∙ of_number s 11 c.before.before.match.keys11
+    c.change-in6.ensures ∙ ap (λ (x : ℕ). change_in s (Month x)) c.before.word5.ensures ∙ of_number s 11 c.before.before.match.keys11
 
-returns-12 : tie.Need-returns-12
+returns_12 : tie.Need-returns-12
 unfolding call_in
-returns-12 c =
+returns_12 c =
     let s = c.before.before.before.before.args.s.now in
-    c.change-in7.ensures ∙ ap (λ (x : ℕ). changeIn s (Model x)) c.before.word6.ensures ∙ of_number s 12 c.before.before.match.keys12
+    c.change-in7.ensures ∙ ap (λ (x : ℕ). change_in s (Model x)) c.before.word6.ensures ∙ of_number s 12 c.before.before.match.keys12
 
-returns-13 : tie.Need-returns-13
+returns_13 : tie.Need-returns-13
 unfolding call_in
-returns-13 c =
+returns_13 c =
     let n = c.before.before.args.operation in
     let s = c.before.before.args.s.now in
     let r = c.match.rest in
@@ -96,8 +96,8 @@ returns-13 c =
           let z : n ≡ 0 = omega (arith, b, q.1, q.0.1, q.0.0.1, q.0.0.0.1) in of_number s 0 z
     ]
 
-pub call-in-spec : {M : Type 1} → statement M
-call-in-spec =
+pub call_in_spec : {M : Type 1} → statement M
+call_in_spec =
     tie.close
     (tie.spec
     (λ c κs. search rules)
@@ -119,15 +119,15 @@ call-in-spec =
     (λ c κs. search rules)
     (λ c κs. search rules)
     returns
-    returns-2
-    returns-3
-    returns-4
-    returns-5
-    returns-6
-    returns-7
-    returns-8
-    returns-9
-    returns-10
-    returns-11
-    returns-12
-    returns-13)
+    returns_2
+    returns_3
+    returns_4
+    returns_5
+    returns_6
+    returns_7
+    returns_8
+    returns_9
+    returns_10
+    returns_11
+    returns_12
+    returns_13)

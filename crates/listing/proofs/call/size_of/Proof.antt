@@ -19,8 +19,8 @@ bytes o = 4 * o.words
 abbrev sizes : List ℕ
 sizes = map bytes operations
 
-is-most : ℕ → ℕ → Bool
-is-most k n = leb n 24
+is_most : ℕ → ℕ → Bool
+is_most k n = leb n 24
 
 returns : tie.Need-returns
 unfolding size_of
@@ -28,17 +28,17 @@ returns c =
     let n = c.before.args.operation in
     (sym (ap bytes (get_or-eq_default operations unknown {n = n} (omega arith))), omega arith)
 
-returns-2 : tie.Need-returns-2
-unfolding size_of is-most
-returns-2 c =
+returns_2 : tie.Need-returns-2
+unfolding size_of is_most
+returns_2 c =
     let n = c.before.args.operation in
-    (get_or-map bytes operations n unknown, leb→le (get_or sizes n 0) 24 (entry is-most sizes tt n (omega arith)))
+    (get_or-map bytes operations n unknown, leb→le (get_or sizes n 0) 24 (entry is_most sizes tt n (omega arith)))
 
-pub size-of-spec : {M : Type 1} → statement M
-size-of-spec =
+pub size_of_spec : {M : Type 1} → statement M
+size_of_spec =
     tie.close
     (tie.spec
     returns
     (λ c. search rules)
     (λ c. search rules)
-    returns-2)
+    returns_2)

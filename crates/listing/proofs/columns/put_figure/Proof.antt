@@ -4,33 +4,33 @@ use mathlib.Core.Path.{ap}
 use native.Mathlib.Omega.{arith}
 use lib.ListN.{length}
 use Rattle.listing.specs.Columns.{cell}
-use Rattle.listing.proofs.digits.Values.{length-decimal}
+use Rattle.listing.proofs.digits.Values.{length_decimal}
 use Rattle.listing.proofs.pieces.Puts.{put_as, counts}
 use Rattle.listing.proofs.columns.put_figure.Statement.{statement}
 use Rattle.listing.proofs.columns.put_figure.Tie as tie
 
-array-share-prefix-text : tie.Need-array-share-prefix-text
-array-share-prefix-text c = (counts c.before.before.put-float.ensures (omega (arith, length-decimal c.before.before.before.before.before.args.x))).0
+array_share_prefix_text : tie.Need-array-share-prefix-text
+array_share_prefix_text c = (counts c.before.before.put-float.ensures (omega (arith, length_decimal c.before.before.before.before.before.args.x))).0
 
-slice-aggregate-put-cell : tie.Need-slice-aggregate-put-cell
-slice-aggregate-put-cell c = (counts c.before.before.before.put-float.ensures (omega (arith, length-decimal c.before.before.before.before.before.before.args.x))).1
+slice_aggregate_put_cell : tie.Need-slice-aggregate-put-cell
+slice_aggregate_put_cell c = (counts c.before.before.before.put-float.ensures (omega (arith, length_decimal c.before.before.before.before.before.before.args.x))).1
 
-put-cell-requires : tie.Need-put-cell-requires
-put-cell-requires c κs =
+put_cell_requires : tie.Need-put-cell-requires
+put_cell_requires c κs =
     let e = ap length c.before.before.before.put-float.ensures.text in
-    (omega (arith, e, length-decimal c.before.before.before.before.before.before.args.x), search rules)
+    (omega (arith, e, length_decimal c.before.before.before.before.before.before.args.x), search rules)
 
 returns : tie.Need-returns
 returns c = put_as c.before.before.put-cell.ensures (ap cell c.before.before.before.before.before.before.put-float.ensures.text)
 
-pub put-figure-spec : {M : Type 1} → statement M
-put-figure-spec =
+pub put_figure_spec : {M : Type 1} → statement M
+put_figure_spec =
     tie.close
     (tie.spec
     (λ c. search rules)
     (λ c κs. search rules)
-    array-share-prefix-text
-    slice-aggregate-put-cell
-    put-cell-requires
+    array_share_prefix_text
+    slice_aggregate_put_cell
+    put_cell_requires
     (λ c. search rules)
     returns)

@@ -9,8 +9,8 @@ returns : tie.Need-returns
 unfolding cell
 returns c = joined c.before.before.before.before.before.before.put.ensures c.before.before.put_whole.ensures
 
-pub put-point-number-spec : {M : Type 1} → statement M
-put-point-number-spec =
+pub put_point_number_spec : {M : Type 1} → statement M
+put_point_number_spec =
     tie.close
     (tie.spec
     (λ c. search rules)

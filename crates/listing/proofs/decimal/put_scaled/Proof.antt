@@ -1,48 +1,48 @@
--- `put_scaled` puts `scaledText`: sign, number, sign of the power and number, joined, which fit.
+-- `put_scaled` puts `scaled_text`: sign, number, sign of the power and number, joined, which fit.
 use borrow.Author.Rules.{rules}
 use native.Mathlib.Omega.{arith}
-use Rattle.listing.specs.Decimal.{minusOf, scaledText}
-use Rattle.listing.proofs.digits.Places.{at-most-20}
+use Rattle.listing.specs.Decimal.{minus_of, scaled_text}
+use Rattle.listing.proofs.digits.Places.{at_most_20}
 use Rattle.listing.proofs.pieces.Puts.{joined}
-use Rattle.listing.proofs.digits.Values.{length-minus}
+use Rattle.listing.proofs.digits.Values.{length_minus}
 use Rattle.listing.proofs.decimal.put_scaled.Statement.{statement}
 use Rattle.listing.proofs.decimal.put_scaled.Tie as tie
 
-put-number-requires : tie.Need-put-number-requires
-unfolding minusOf
-put-number-requires c κs =
+put_number_requires : tie.Need-put-number-requires
+unfolding minus_of
+put_number_requires c κs =
     let a = c.before.before.before.before.before.before.before.args in
-    omega (arith, length-minus a.negative, at-most-20 a.q)
+    omega (arith, length_minus a.negative, at_most_20 a.q)
 
-put-requires : tie.Need-put-requires
-unfolding minusOf
-put-requires c κs =
+put_requires : tie.Need-put-requires
+unfolding minus_of
+put_requires c κs =
     let a = c.before.before.before.before.before.before.before.before.before.before.before.before.args in
-    omega (arith, length-minus a.negative, at-most-20 a.q)
+    omega (arith, length_minus a.negative, at_most_20 a.q)
 
-put-number-requires-2 : tie.Need-put-number-requires-2
-unfolding minusOf
-put-number-requires-2 c κs =
+put_number_requires_2 : tie.Need-put-number-requires-2
+unfolding minus_of
+put_number_requires_2 c κs =
     let p = c.before.before.before in
     let a = p.before.before.before.before.before.before.before.before.before.before.before.before.before.args in
-    omega (arith, length-minus a.negative, at-most-20 a.q, at-most-20 a.k)
+    omega (arith, length_minus a.negative, at_most_20 a.q, at_most_20 a.k)
 
 returns : tie.Need-returns
-unfolding minusOf scaledText
+unfolding minus_of scaled_text
 returns c =
     let p = c.before.before.before.before.before.before in
     let n = p.before.before.before.before.before in
     joined n.before.before.before.before.put_if.ensures (joined n.put-number.ensures (joined p.put.ensures c.before.before.put-number2.ensures))
 
-pub put-scaled-spec : {M : Type 1} → statement M
-put-scaled-spec =
+pub put_scaled_spec : {M : Type 1} → statement M
+put_scaled_spec =
     tie.close
     (tie.spec
     (λ c. search rules)
     (λ c κs. search rules)
-    put-number-requires
+    put_number_requires
     (λ c. search rules)
-    put-requires
-    put-number-requires-2
+    put_requires
+    put_number_requires_2
     (λ c. search rules)
     returns)

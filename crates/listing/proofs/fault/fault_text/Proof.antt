@@ -1,13 +1,13 @@
--- `fault_text` writes `faultText`: words, numbers and what is said, joined, which fit the buffer.
+-- `fault_text` writes `fault_text`: words, numbers and what is said, joined, which fit the buffer.
 use borrow.Author.Rules.{rules}
 use native.Mathlib.Omega.{arith}
-use Rattle.listing.specs.Fault.{faultText}
+use Rattle.listing.specs.Fault.{fault_text}
 use Rattle.listing.proofs.pieces.Puts.{joined, counts}
 use Rattle.listing.proofs.fault.fault_text.Statement.{statement}
 use Rattle.listing.proofs.fault.fault_text.Tie as tie
 
 returns : tie.Need-returns
-unfolding faultText
+unfolding fault_text
 returns c =
     let s = c.before.before.before in
     let t = s.before.before in
@@ -19,8 +19,8 @@ returns c =
     (joined u.put_count.ensures.0 (joined t.put2.ensures (joined s.put_wanted.ensures.0 c.put3.ensures)))) in
     (whole.text, counts whole (omega arith))
 
-pub fault-text-spec : {M : Type 1} → statement M
-fault-text-spec =
+pub fault_text_spec : {M : Type 1} → statement M
+fault_text_spec =
     tie.close
     (tie.spec
     (λ c κs. search rules)

@@ -6,22 +6,22 @@ use Prim.Native.Nat.{ℕ}
 use lib.ListN.{length, get_or}
 use Rattle.wording.specs.Token.{ascii}
 use Rattle.listing.proofs.pieces.Puts.{put_as}
-use Rattle.listing.proofs.pieces.Faults.{text_at, letters-at, letters-fit, text-most, nameRows, same_names, name-at}
+use Rattle.listing.proofs.pieces.Faults.{text_at, letters_at, letters_fit, text_most, name_rows, same_names, name_at_law}
 use Rattle.listing.proofs.fault.put_name.Statement.{statement}
 use Rattle.listing.proofs.fault.put_name.Tie as tie
 
-array-share-prefix-row : tie.Need-array-share-prefix-row
-array-share-prefix-row c = letters-fit 7 nameRows same_names _ c.before.before.name-row.ensures.1
+array_share_prefix_row : tie.Need-array-share-prefix-row
+array_share_prefix_row c = letters_fit 7 name_rows same_names _ c.before.before.name-row.ensures.1
 
-slice-aggregate-put : tie.Need-slice-aggregate-put
-slice-aggregate-put c = letters-at 7 nameRows same_names _ c.before.before.before.name-row.ensures.1
+slice_aggregate_put : tie.Need-slice-aggregate-put
+slice_aggregate_put c = letters_at 7 name_rows same_names _ c.before.before.before.name-row.ensures.1
 
-put-requires : tie.Need-put-requires
-put-requires c κs =
+put_requires : tie.Need-put-requires
+put_requires c κs =
     let s = c.before.before.before in
     let k = s.name-row.result in
     let h = s.name-row.ensures.1 in
-    omega (arith, ap length (text_at 7 nameRows same_names k h), text-most 7 nameRows same_names k h)
+    omega (arith, ap length (text_at 7 name_rows same_names k h), text_most 7 name_rows same_names k h)
 
 returns : tie.Need-returns
 returns c =
@@ -30,13 +30,13 @@ returns c =
     let u = t.before.before in
     let k = t.name-row.result in
     let h = t.name-row.ensures.1 in
-    let e = text_at 7 nameRows same_names k h in (
-      put_as s.put.ensures (e ∙ ap (λ (j : ℕ). ascii (get_or nameRows j "")) t.name-row.ensures.0 ∙ ap ascii (name-at u.args.k)),
-      omega (arith, ap length e, text-most 7 nameRows same_names k h),
+    let e = text_at 7 name_rows same_names k h in (
+      put_as s.put.ensures (e ∙ ap (λ (j : ℕ). ascii (get_or name_rows j "")) t.name-row.ensures.0 ∙ ap ascii (name_at_law u.args.k)),
+      omega (arith, ap length e, text_most 7 name_rows same_names k h),
     )
 
-pub put-name-spec : {M : Type 1} → statement M
-put-name-spec =
+pub put_name_spec : {M : Type 1} → statement M
+put_name_spec =
     tie.close
     (tie.spec
     (λ c κs. search rules)
@@ -44,8 +44,8 @@ put-name-spec =
     (λ c. search rules)
     (λ c. search rules)
     (λ c. search rules)
-    array-share-prefix-row
-    slice-aggregate-put
-    put-requires
+    array_share_prefix_row
+    slice_aggregate_put
+    put_requires
     (λ c. search rules)
     returns)

@@ -7,22 +7,22 @@ use lib.ListN.{length, get_or}
 use Rattle.wording.specs.Token.{ascii}
 use Rattle.listing.specs.Fault.{sayings}
 use Rattle.listing.proofs.pieces.Puts.{put_as}
-use Rattle.listing.proofs.pieces.Faults.{text_at, letters-at, letters-fit, text-most, same-sayings}
+use Rattle.listing.proofs.pieces.Faults.{text_at, letters_at, letters_fit, text_most, same_sayings}
 use Rattle.listing.proofs.fault.put_saying.Statement.{statement}
 use Rattle.listing.proofs.fault.put_saying.Tie as tie
 
-array-share-prefix-row : tie.Need-array-share-prefix-row
-array-share-prefix-row c = letters-fit 89 sayings same-sayings _ c.before.before.row_of.ensures.1
+array_share_prefix_row : tie.Need-array-share-prefix-row
+array_share_prefix_row c = letters_fit 89 sayings same_sayings _ c.before.before.row_of.ensures.1
 
-slice-aggregate-put : tie.Need-slice-aggregate-put
-slice-aggregate-put c = letters-at 89 sayings same-sayings _ c.before.before.before.row_of.ensures.1
+slice_aggregate_put : tie.Need-slice-aggregate-put
+slice_aggregate_put c = letters_at 89 sayings same_sayings _ c.before.before.before.row_of.ensures.1
 
-put-requires : tie.Need-put-requires
-put-requires c κs =
+put_requires : tie.Need-put-requires
+put_requires c κs =
     let s = c.before.before.before in
     let k = s.row_of.result in
     let h = s.row_of.ensures.1 in
-    omega (arith, ap length (text_at 89 sayings same-sayings k h), text-most 89 sayings same-sayings k h)
+    omega (arith, ap length (text_at 89 sayings same_sayings k h), text_most 89 sayings same_sayings k h)
 
 returns : tie.Need-returns
 returns c =
@@ -30,13 +30,13 @@ returns c =
     let t = s.before.before.before.before in
     let k = t.row_of.result in
     let h = t.row_of.ensures.1 in
-    let e = text_at 89 sayings same-sayings k h in (
+    let e = text_at 89 sayings same_sayings k h in (
       put_as s.put.ensures (e ∙ ap (λ (j : ℕ). ascii (get_or sayings j "")) t.row_of.ensures.0),
-      omega (arith, ap length e, text-most 89 sayings same-sayings k h),
+      omega (arith, ap length e, text_most 89 sayings same_sayings k h),
     )
 
-pub put-saying-spec : {M : Type 1} → statement M
-put-saying-spec =
+pub put_saying_spec : {M : Type 1} → statement M
+put_saying_spec =
     tie.close
     (tie.spec
     (λ c κs. search rules)
@@ -44,8 +44,8 @@ put-saying-spec =
     (λ c. search rules)
     (λ c. search rules)
     (λ c. search rules)
-    array-share-prefix-row
-    slice-aggregate-put
-    put-requires
+    array_share_prefix_row
+    slice_aggregate_put
+    put_requires
     (λ c. search rules)
     returns)

@@ -1,11 +1,11 @@
--- `put_flag` puts `flagName` at the right, by the flag.
+-- `put_flag` puts `flag_name` at the right, by the flag.
 use borrow.Author.Rules.{rules}
 use borrow.Author.Tests.{eq-eqb, ne_eqb}
 use mathlib.Core.Path.{sym, ap, ◌∙◌}
 use Prim.Native.String.{String}
-use Rattle.base.proofs.verdicts.Picks.{cond-true, cond-false}
+use Rattle.base.proofs.verdicts.Picks.{cond_true, cond_false}
 use Rattle.wording.specs.Token.{ascii}
-use Rattle.listing.specs.Fields.{atRight}
+use Rattle.listing.specs.Fields.{at_right}
 use Rattle.listing.proofs.pieces.Puts.{put_as}
 use Rattle.listing.proofs.fields.put_flag.Statement.{statement}
 use Rattle.listing.proofs.fields.put_flag.Tie as tie
@@ -13,22 +13,22 @@ use Rattle.listing.proofs.fields.put_flag.Tie as tie
 returns : tie.Need-returns
 returns c =
     put_as c.before.before.put_right.ensures
-    (ap (λ (s : String). atRight (ascii s)) (sym (cond-true _ _ (eq-eqb _ _ c.before.before.before.before.before.if1.true))))
+    (ap (λ (s : String). at_right (ascii s)) (sym (cond_true _ _ (eq-eqb _ _ c.before.before.before.before.before.if1.true))))
 
-returns-2 : tie.Need-returns-2
-returns-2 c =
+returns_2 : tie.Need-returns-2
+returns_2 c =
     let t = c.before.before.before.before.before in
     put_as c.before.before.put-right2.ensures
-    (ap (λ (s : String). atRight (ascii s)) (sym (cond-false _ _ (ne_eqb _ _ t.before.if1.false) ∙ cond-true _ _ (eq-eqb _ _ t.if2.true))))
+    (ap (λ (s : String). at_right (ascii s)) (sym (cond_false _ _ (ne_eqb _ _ t.before.if1.false) ∙ cond_true _ _ (eq-eqb _ _ t.if2.true))))
 
-returns-3 : tie.Need-returns-3
-returns-3 c =
+returns_3 : tie.Need-returns-3
+returns_3 c =
     let t = c.before.before.before.before.before in
     put_as c.before.before.put-right3.ensures
-    (ap (λ (s : String). atRight (ascii s)) (sym (cond-false _ _ (ne_eqb _ _ t.before.if1.false) ∙ cond-false _ _ (ne_eqb _ _ t.if2.false))))
+    (ap (λ (s : String). at_right (ascii s)) (sym (cond_false _ _ (ne_eqb _ _ t.before.if1.false) ∙ cond_false _ _ (ne_eqb _ _ t.if2.false))))
 
-pub put-flag-spec : {M : Type 1} → statement M
-put-flag-spec =
+pub put_flag_spec : {M : Type 1} → statement M
+put_flag_spec =
     tie.close
     (tie.spec
     (λ c. search rules)
@@ -38,8 +38,8 @@ put-flag-spec =
     (λ c. search rules)
     (λ c κs. search rules)
     (λ c. search rules)
-    returns-2
+    returns_2
     (λ c. search rules)
     (λ c κs. search rules)
     (λ c. search rules)
-    returns-3)
+    returns_3)

@@ -1,22 +1,22 @@
--- `put_row` puts `rowText`: name, number, unit and line feed, joined, which fit.
+-- `put_row` puts `row_text`: name, number, unit and line feed, joined, which fit.
 use borrow.Author.Rules.{rules}
 use native.Mathlib.Omega.{arith}
-use Rattle.listing.specs.Page.{rowText}
+use Rattle.listing.specs.Page.{row_text}
 use Rattle.listing.proofs.pieces.Puts.{put_as, joined}
-use Rattle.listing.proofs.pieces.Rows.{length-unit, length-value}
+use Rattle.listing.proofs.pieces.Rows.{length_unit, length_value}
 use Rattle.listing.proofs.page.put_row.Statement.{statement}
 use Rattle.listing.proofs.page.put_row.Tie as tie
 
-put-unit-requires : tie.Need-put-unit-requires
-put-unit-requires c κs = omega (arith, length-value c.before.before.before.before.before.before.before.before.before.before.before.before.before.before.args.x)
+put_unit_requires : tie.Need-put-unit-requires
+put_unit_requires c κs = omega (arith, length_value c.before.before.before.before.before.before.before.before.before.before.before.before.before.before.args.x)
 
-put-requires-2 : tie.Need-put-requires-2
-put-requires-2 c κs =
+put_requires_2 : tie.Need-put-requires-2
+put_requires_2 c κs =
     let n = c.before.before.before.before.before.before.before.before.before.before.before.before.before.before.before.before in
-    omega (arith, length-value n.before.before.before.args.x, length-unit n.unit.result)
+    omega (arith, length_value n.before.before.before.args.x, length_unit n.unit.result)
 
 returns : tie.Need-returns
-unfolding rowText
+unfolding row_text
 returns c =
     let u = c.before.before.before.before.before.before.before in
     let v = u.before.before.before.before.before in
@@ -24,8 +24,8 @@ returns c =
     let t = n.before.before.before in
     joined (put_as n.put.ensures t.before.name.ensures) (joined v.put-value.ensures (joined (put_as u.put-unit.ensures t.unit.ensures) c.before.before.put2.ensures))
 
-pub put-row-spec : {M : Type 1} → statement M
-put-row-spec =
+pub put_row_spec : {M : Type 1} → statement M
+put_row_spec =
     tie.close
     (tie.spec
     (λ c κs. search rules)
@@ -33,8 +33,8 @@ put-row-spec =
     (λ c. search rules)
     (λ c κs. search rules)
     (λ c κs. search rules)
-    put-unit-requires
+    put_unit_requires
     (λ c. search rules)
-    put-requires-2
+    put_requires_2
     (λ c. search rules)
     returns)

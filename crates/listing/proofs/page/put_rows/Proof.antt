@@ -1,62 +1,62 @@
--- `put_rows` puts `rowsText`. The loop's invariant: after k turns the lines of k numbers stand
+-- `put_rows` puts `rows_text`. The loop's invariant: after k turns the lines of k numbers stand
 -- there.
 use borrow.Author.Rules.{rules}
 use mathlib.Core.Path.{◌≡◌, subst}
 use Prim.Native.Nat.{ℕ, ◌≤◌, ◌-◌}
 use native.Mathlib.Omega.{arith}
 use Rattle.listing.specs.Text.{Put}
-use Rattle.listing.specs.Page.{rowsText}
+use Rattle.listing.specs.Page.{rows_text}
 use Rattle.listing.proofs.pieces.Puts.{put_as, joined}
-use Rattle.listing.proofs.pieces.Rows.{no_rows, next_row, length-rows}
+use Rattle.listing.proofs.pieces.Rows.{no_rows, next_row, length_rows}
 use Rattle.listing.proofs.page.put_rows.Statement.{statement}
 use Rattle.listing.proofs.page.put_rows.Tie as tie
 
-abbrev invariant-loop : tie.invariant-loop
-invariant-loop out₀ at first xs from n next₀ k₀ out next k = (k ≤ n) × Put out₀ at (rowsText first xs from k) out next
+abbrev invariant_loop : tie.invariant_loop
+invariant_loop out₀ at first xs from n next₀ k₀ out next k = (k ≤ n) × Put out₀ at (rows_text first xs from k) out next
 
-abbrev decreases-loop : tie.decreases-loop
-decreases-loop out₀ at first xs from n next₀ k₀ out next k = n - k
+abbrev decreases_loop : tie.decreases_loop
+decreases_loop out₀ at first xs from n next₀ k₀ out next k = n - k
 
-loop-holds : tie.Need-loop-init invariant-loop decreases-loop
-loop-holds c =
+loop_holds : tie.Need-loop-init invariant_loop decreases_loop
+loop_holds c =
     let a = c.before.before.args in
     (search rules, no_rows a.first a.xs.now a.from a.out.now a.at)
 
-put-row-requires : tie.Need-put-row-requires invariant-loop decreases-loop
-put-row-requires c κs =
+put_row_requires : tie.Need-put-row-requires invariant_loop decreases_loop
+put_row_requires c κs =
     let l = c.before.before.before.loop in
     let s = c.before.before.before.before.before.before in
     let a = s.args in
-    let e = length-rows a.first a.xs.now a.from l.k (omega arith) in
+    let e = length_rows a.first a.xs.now a.from l.k (omega arith) in
     (search rules, omega arith)
 
-loop-again : tie.Need-loop-preserved invariant-loop decreases-loop
-loop-again c =
+loop_again : tie.Need-loop-preserved invariant_loop decreases_loop
+loop_again c =
     let l = c.before.before.before.before.before.before.loop in
     let a = c.before.before.before.before.before.before.before.before.before.args in
     (search rules, put_as (joined l.invariant.1 c.before.before.put-row.ensures) (next_row a.first a.xs.now a.from l.k))
 
-returns : tie.Need-returns invariant-loop decreases-loop
+returns : tie.Need-returns invariant_loop decreases_loop
 returns c =
     let l = c.before.loop in
     let a = c.before.before.before.before.args in
     let e : l.k ≡ a.n = omega arith in
-    subst (λ (k : ℕ). Put a.out.now a.at (rowsText a.first a.xs.now a.from k) l.out l.next) e l.invariant.1
+    subst (λ (k : ℕ). Put a.out.now a.at (rows_text a.first a.xs.now a.from k) l.out l.next) e l.invariant.1
 
-pub put-rows-spec : {M : Type 1} → statement M
-put-rows-spec =
+pub put_rows_spec : {M : Type 1} → statement M
+put_rows_spec =
     tie.close
     (tie.spec
-    invariant-loop
-    decreases-loop
-    loop-holds
+    invariant_loop
+    decreases_loop
+    loop_holds
     (λ c. search rules)
     (λ c. search rules)
     (λ c. search rules)
     (λ c. search rules)
-    put-row-requires
+    put_row_requires
     (λ c. search rules)
     (λ c. search rules)
-    loop-again
+    loop_again
     (λ c. search rules)
     returns)

@@ -1,21 +1,21 @@
--- `put_points_noun` puts `pointsNoun`, by whether there is one point.
+-- `put_points_noun` puts `points_noun`, by whether there is one point.
 use borrow.Author.Rules.{rules}
 use borrow.Author.Tests.{eq-eqb, ne_eqb}
 use mathlib.Core.Path.{sym, ap}
-use Rattle.base.proofs.verdicts.Picks.{cond-true, cond-false}
+use Rattle.base.proofs.verdicts.Picks.{cond_true, cond_false}
 use Rattle.wording.specs.Token.{ascii}
 use Rattle.listing.proofs.pieces.Puts.{put_as}
 use Rattle.listing.proofs.spoken.put_points_noun.Statement.{statement}
 use Rattle.listing.proofs.spoken.put_points_noun.Tie as tie
 
 returns : tie.Need-returns
-returns c = put_as c.before.before.put.ensures (ap ascii (sym (cond-true _ _ (eq-eqb _ _ c.before.before.before.before.before.if1.true))))
+returns c = put_as c.before.before.put.ensures (ap ascii (sym (cond_true _ _ (eq-eqb _ _ c.before.before.before.before.before.if1.true))))
 
-returns-2 : tie.Need-returns-2
-returns-2 c = put_as c.before.before.put2.ensures (ap ascii (sym (cond-false _ _ (ne_eqb _ _ c.before.before.before.before.before.if1.false))))
+returns_2 : tie.Need-returns-2
+returns_2 c = put_as c.before.before.put2.ensures (ap ascii (sym (cond_false _ _ (ne_eqb _ _ c.before.before.before.before.before.if1.false))))
 
-pub put-points-noun-spec : {M : Type 1} → statement M
-put-points-noun-spec =
+pub put_points_noun_spec : {M : Type 1} → statement M
+put_points_noun_spec =
     tie.close
     (tie.spec
     (λ c. search rules)
@@ -25,4 +25,4 @@ put-points-noun-spec =
     (λ c. search rules)
     (λ c κs. search rules)
     (λ c. search rules)
-    returns-2)
+    returns_2)

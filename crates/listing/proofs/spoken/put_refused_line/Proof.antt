@@ -1,25 +1,25 @@
--- `put_refused_line` puts `refusedLine`: the words and line feed, joined, which fit.
+-- `put_refused_line` puts `refused_line`: the words and line feed, joined, which fit.
 use borrow.Author.Rules.{rules}
 use native.Mathlib.Omega.{arith}
-use Rattle.listing.specs.Survey.{refusedLine}
+use Rattle.listing.specs.Survey.{refused_line}
 use Rattle.listing.proofs.pieces.Puts.{joined}
-use Rattle.listing.proofs.pieces.Reasons.{length-refused}
+use Rattle.listing.proofs.pieces.Reasons.{length_refused}
 use Rattle.listing.proofs.spoken.put_refused_line.Statement.{statement}
 use Rattle.listing.proofs.spoken.put_refused_line.Tie as tie
 
-put-requires : tie.Need-put-requires
-put-requires c κs = omega (arith, length-refused c.before.before.before.before.before.before.before.args.why)
+put_requires : tie.Need-put-requires
+put_requires c κs = omega (arith, length_refused c.before.before.before.before.before.before.before.args.why)
 
 returns : tie.Need-returns
-unfolding refusedLine
+unfolding refused_line
 returns c = joined c.before.before.before.before.before.before.before.Put-refused.ensures c.before.before.put.ensures
 
-pub put-refused-line-spec : {M : Type 1} → statement M
-put-refused-line-spec =
+pub put_refused_line_spec : {M : Type 1} → statement M
+put_refused_line_spec =
     tie.close
     (tie.spec
     (λ c κs. search rules)
     (λ c. search rules)
-    put-requires
+    put_requires
     (λ c. search rules)
     returns)

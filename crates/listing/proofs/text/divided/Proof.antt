@@ -4,41 +4,41 @@ use borrow.Author.Rules.{rules}
 use mathlib.Core.Path.{◌≡◌, refl, sym, ap, ◌∙◌}
 use Prim.Native.Nat.{ℕ, ◌/◌, ◌^◌, ◌≤◌}
 use native.Mathlib.Omega.{arith}
-use Rattle.listing.proofs.digits.Quotients.{by-none, by-one-more}
+use Rattle.listing.proofs.digits.Quotients.{by_none, by_one_more}
 use Rattle.listing.proofs.text.divided.Statement.{statement}
 use Rattle.listing.proofs.text.divided.Tie as tie
 
-abbrev invariant-loop : tie.invariant-loop
-invariant-loop n b k n₀ left₀ n' left = (left ≤ k) × (n' / b ^ left ≡ n / b ^ k)
+abbrev invariant_loop : tie.invariant_loop
+invariant_loop n b k n₀ left₀ n' left = (left ≤ k) × (n' / b ^ left ≡ n / b ^ k)
 
-abbrev decreases-loop : tie.decreases-loop
-decreases-loop n b k n₀ left₀ n' left = left
+abbrev decreases_loop : tie.decreases_loop
+decreases_loop n b k n₀ left₀ n' left = left
 
-loop-holds : tie.Need-loop-init invariant-loop decreases-loop
-loop-holds c = (search rules, refl)
+loop_holds : tie.Need-loop-init invariant_loop decreases_loop
+loop_holds c = (search rules, refl)
 
-loop-again : tie.Need-loop-preserved invariant-loop decreases-loop
-loop-again c =
+loop_again : tie.Need-loop-preserved invariant_loop decreases_loop
+loop_again c =
     let l = c.before.loop in
     let a = c.before.before.args in
-    (search rules, by-one-more l.n a.b l.left c.loop-test.true ∙ l.invariant.1)
+    (search rules, by_one_more l.n a.b l.left c.loop-test.true ∙ l.invariant.1)
 
-returns : tie.Need-returns invariant-loop decreases-loop
+returns : tie.Need-returns invariant_loop decreases_loop
 returns c =
     let l = c.before.loop in
     let a = c.before.before.args in
     let e : l.left ≡ 0 = omega arith in
-    sym (by-none l.n a.b) ∙ ap (λ (i : ℕ). l.n / a.b ^ i) (sym e) ∙ l.invariant.1
+    sym (by_none l.n a.b) ∙ ap (λ (i : ℕ). l.n / a.b ^ i) (sym e) ∙ l.invariant.1
 
-pub divided-spec : {M : Type 1} → statement M
-divided-spec =
+pub divided_spec : {M : Type 1} → statement M
+divided_spec =
     tie.close
     (tie.spec
-    invariant-loop
-    decreases-loop
-    loop-holds
+    invariant_loop
+    decreases_loop
+    loop_holds
     (λ c. search rules)
     (λ c. search rules)
     (λ c. search rules)
-    loop-again
+    loop_again
     returns)

@@ -9,19 +9,19 @@ use Rattle.listing.proofs.pieces.Puts.{begun, begin, go_on, complete}
 use Rattle.listing.proofs.text.put.Statement.{statement}
 use Rattle.listing.proofs.text.put.Tie as tie
 
-abbrev invariant-loop : tie.invariant-loop
-invariant-loop out₀ at piece i₀ out i = (i ≤ length piece) × (out ≡ begun out₀ at piece i) × (length out ≡ length out₀)
+abbrev invariant_loop : tie.invariant_loop
+invariant_loop out₀ at piece i₀ out i = (i ≤ length piece) × (out ≡ begun out₀ at piece i) × (length out ≡ length out₀)
 
-abbrev decreases-loop : tie.decreases-loop
-decreases-loop out₀ at piece i₀ out i = length piece - i
+abbrev decreases_loop : tie.decreases_loop
+decreases_loop out₀ at piece i₀ out i = length piece - i
 
-loop-holds : tie.Need-loop-init invariant-loop decreases-loop
-loop-holds c =
+loop_holds : tie.Need-loop-init invariant_loop decreases_loop
+loop_holds c =
     let a = c.args in
     (search rules, begin a.out.now a.at a.piece.now, search rules)
 
-loop-again : tie.Need-loop-preserved invariant-loop decreases-loop
-loop-again c =
+loop_again : tie.Need-loop-preserved invariant_loop decreases_loop
+loop_again c =
     let l = c.before.before.loop in
     let s = c.before.before.before in
     let a = s.args in (
@@ -30,7 +30,7 @@ loop-again c =
       length-set l.out (a.at + l.i) (get_or a.piece.now l.i 0) ∙ l.invariant.2,
     )
 
-returns : tie.Need-returns invariant-loop decreases-loop
+returns : tie.Need-returns invariant_loop decreases_loop
 returns c =
     let l = c.before.loop in
     let s = c.before.before in
@@ -41,15 +41,15 @@ pub put_spec : {M : Type 1} → statement M
 put_spec =
     tie.close
     (tie.spec
-    invariant-loop
-    decreases-loop
-    loop-holds
+    invariant_loop
+    decreases_loop
+    loop_holds
     (λ c. search rules)
     (λ c. search rules)
     (λ c. search rules)
     (λ c. search rules)
     (λ c. search rules)
-    loop-again
+    loop_again
     (λ c. search rules)
     (λ c. search rules)
     returns)

@@ -1,45 +1,45 @@
--- `put_place` puts `digitAt`, by whether there is a digit.
+-- `put_place` puts `digit_at`, by whether there is a digit.
 use borrow.Author.Rules.{rules}
 use mathlib.Core.Path.{◌≡◌, sym, ap, ◌∙◌}
 use mathlib.Core.List.{[], ◌∷◌}
 use Prim.Native.Nat.{ℕ}
 use native.Mathlib.Omega.{arith}
 use lib.ListN.{length}
-use Rattle.base.proofs.verdicts.Picks.{cond-true, cond-false}
-use Rattle.listing.specs.Text.{digitAt}
+use Rattle.base.proofs.verdicts.Picks.{cond_true, cond_false}
+use Rattle.listing.specs.Text.{digit_at}
 use Rattle.listing.proofs.pieces.Puts.{put_as, nothing}
 use Rattle.listing.proofs.text.put_place.Statement.{statement}
 use Rattle.listing.proofs.text.put_place.Tie as tie
 
-put-requires : tie.Need-put-requires
-unfolding digitAt
-put-requires c κs =
+put_requires : tie.Need-put-requires
+unfolding digit_at
+put_requires c κs =
     let h = c.before.before.before.before in
-    let e : digitAt h.before.before.args.n h.before.before.args.k ≡ _ ∷ [] = cond-true _ _ (sym h.has-digit.ensures ∙ c.before.before.before.if1.true) in
+    let e : digit_at h.before.before.args.n h.before.before.args.k ≡ _ ∷ [] = cond_true _ _ (sym h.has-digit.ensures ∙ c.before.before.before.if1.true) in
     omega (arith, ap length e)
 
 returns : tie.Need-returns
-unfolding digitAt
+unfolding digit_at
 returns c =
     let p = c.before.before in
     let d = p.before.before.before in
     let h = d.before.before in
-    put_as p.put.ensures (ap (λ (x : ℕ). x ∷ []) d.digit.ensures ∙ sym (cond-true _ _ (sym h.has-digit.ensures ∙ d.before.if1.true)))
+    put_as p.put.ensures (ap (λ (x : ℕ). x ∷ []) d.digit.ensures ∙ sym (cond_true _ _ (sym h.has-digit.ensures ∙ d.before.if1.true)))
 
-returns-2 : tie.Need-returns-2
-unfolding digitAt
-returns-2 c =
+returns_2 : tie.Need-returns-2
+unfolding digit_at
+returns_2 c =
     let a = c.before.before.before.args in
-    put_as (nothing a.out.now a.at) (sym (cond-false _ _ (sym c.before.has-digit.ensures ∙ c.if1.false)))
+    put_as (nothing a.out.now a.at) (sym (cond_false _ _ (sym c.before.has-digit.ensures ∙ c.if1.false)))
 
-pub put-place-spec : {M : Type 1} → statement M
-put-place-spec =
+pub put_place_spec : {M : Type 1} → statement M
+put_place_spec =
     tie.close
     (tie.spec
     (λ c κs. search rules)
     (λ c κs. search rules)
     (λ c. search rules)
-    put-requires
+    put_requires
     (λ c. search rules)
     returns
-    returns-2)
+    returns_2)

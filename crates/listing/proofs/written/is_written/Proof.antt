@@ -13,10 +13,10 @@ returns c =
     let d = c.before.before.args.d in
     sym (ap (λ (t : Bool). t && leb d.places 18) (le-ltb d.digits (10 ^ 18) (omega arith)))
 
-returns-2 : tie.Need-returns-2
-returns-2 c =
+returns_2 : tie.Need-returns-2
+returns_2 c =
     let d = c.before.before.before.args.d in
     sym (ap (λ (t : Bool). t && leb d.places 18) (lt-ltb d.digits (10 ^ 18) (omega arith)))
 
-pub is-written-spec : {M : Type 1} → statement M
-is-written-spec = tie.close (tie.spec returns returns-2)
+pub is_written_spec : {M : Type 1} → statement M
+is_written_spec = tie.close (tie.spec returns returns_2)

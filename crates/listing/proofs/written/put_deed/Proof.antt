@@ -1,20 +1,20 @@
--- `put_deed` puts `deedText`: the desk's number, a blank and the word, joined.
+-- `put_deed` puts `deed_text`: the desk's number, a blank and the word, joined.
 use borrow.Author.Rules.{rules}
-use Rattle.listing.specs.Written.{deedText}
+use Rattle.listing.specs.Written.{deed_text}
 use Rattle.listing.proofs.pieces.Puts.{joined}
 use Rattle.listing.proofs.written.put_deed.Statement.{statement}
 use Rattle.listing.proofs.written.put_deed.Tie as tie
 
 returns : tie.Need-returns
-unfolding deedText
+unfolding deed_text
 returns c =
     let s = c.before.before in
     let t = s.before.before.before.before in
     let u = t.before.before.before.before.before in
     (joined u.put_count.ensures.0 (joined t.put.ensures s.put2.ensures), search rules)
 
-pub put-deed-spec : {M : Type 1} → statement M
-put-deed-spec =
+pub put_deed_spec : {M : Type 1} → statement M
+put_deed_spec =
     tie.close
     (tie.spec
     (λ c κs. search rules)

@@ -1,12 +1,12 @@
--- `put_factors` puts `factorsText`: the word and two pairs, joined.
+-- `put_factors` puts `factors_text`: the word and two pairs, joined.
 use borrow.Author.Rules.{rules}
-use Rattle.listing.specs.Written.{factorsText}
+use Rattle.listing.specs.Written.{factors_text}
 use Rattle.listing.proofs.pieces.Puts.{joined}
 use Rattle.listing.proofs.written.put_factors.Statement.{statement}
 use Rattle.listing.proofs.written.put_factors.Tie as tie
 
 returns : tie.Need-returns
-unfolding factorsText
+unfolding factors_text
 returns c =
     let s = c.before.before in
     let t = s.before.before.before.before in
@@ -17,8 +17,8 @@ returns c =
       search rules,
     )
 
-pub put-factors-spec : {M : Type 1} → statement M
-put-factors-spec =
+pub put_factors_spec : {M : Type 1} → statement M
+put_factors_spec =
     tie.close
     (tie.spec
     (λ c. search rules)

@@ -1,12 +1,12 @@
--- `put_head` puts `headText`: words and numbers, joined.
+-- `put_head` puts `head_text`: words and numbers, joined.
 use borrow.Author.Rules.{rules}
-use Rattle.listing.specs.Written.{headText}
+use Rattle.listing.specs.Written.{head_text}
 use Rattle.listing.proofs.pieces.Puts.{joined}
 use Rattle.listing.proofs.written.put_head.Statement.{statement}
 use Rattle.listing.proofs.written.put_head.Tie as tie
 
 returns : tie.Need-returns
-unfolding headText
+unfolding head_text
 returns c =
     let s = c.before.before in
     let t = s.before.before.before.before in
@@ -21,8 +21,8 @@ returns c =
       search rules,
     )
 
-pub put-head-spec : {M : Type 1} → statement M
-put-head-spec =
+pub put_head_spec : {M : Type 1} → statement M
+put_head_spec =
     tie.close
     (tie.spec
     (λ c. search rules)

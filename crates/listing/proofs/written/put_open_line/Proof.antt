@@ -11,6 +11,6 @@ returns c =
     let whole = joined p.0 c.put.ensures in
     (whole.text, counts whole (omega (arith, p.1, c.put.ensures.place)))
 
-pub put-open-line-spec : {M : Type 1} → statement M
-put-open-line-spec =
+pub put_open_line_spec : {M : Type 1} → statement M
+put_open_line_spec =
     tie.close (tie.spec (λ c κs. search rules) (λ c. search rules) (λ c κs. search rules) returns)

@@ -1,4 +1,4 @@
--- `put_route` puts `routeText`: words and pairs, joined, and the last word by the flag.
+-- `put_route` puts `route_text`: words and pairs, joined, and the last word by the flag.
 use borrow.Author.Rules.{rules}
 use mathlib.Core.Path.{◌≡◌, refl}
 use mathlib.Core.Bool.{Bool, true, false, not, cond}
@@ -7,7 +7,7 @@ use Prim.Native.Nat.{ℕ}
 use native.Mathlib.Omega.{arith}
 use lib.Dec.{eqb}
 use Rattle.wording.specs.Token.{ascii}
-use Rattle.listing.specs.Written.{routeText, longWord}
+use Rattle.listing.specs.Written.{route_text, long_word}
 use Rattle.listing.proofs.digits.Values.{either}
 use Rattle.listing.proofs.pieces.Puts.{put_as, joined}
 use Rattle.listing.proofs.written.put_route.Statement.{statement}
@@ -18,7 +18,7 @@ either_way true l = refl
 either_way false l = refl
 
 returns : tie.Need-returns
-unfolding routeText longWord
+unfolding route_text long_word
 returns c =
     let s = c.before.before in
     let t = s.before.before.before.before.before.before in
@@ -34,8 +34,8 @@ returns c =
       omega (arith, last.place, short),
     )
 
-pub put-route-spec : {M : Type 1} → statement M
-put-route-spec =
+pub put_route_spec : {M : Type 1} → statement M
+put_route_spec =
     tie.close
     (tie.spec
     (λ c. search rules)

@@ -1,12 +1,12 @@
--- `put_tail` puts `tailText`: blanks and parts, joined.
+-- `put_tail` puts `tail_text`: blanks and parts, joined.
 use borrow.Author.Rules.{rules}
-use Rattle.listing.specs.Written.{tailText}
+use Rattle.listing.specs.Written.{tail_text}
 use Rattle.listing.proofs.pieces.Puts.{joined}
 use Rattle.listing.proofs.written.put_tail.Statement.{statement}
 use Rattle.listing.proofs.written.put_tail.Tie as tie
 
 returns : tie.Need-returns
-unfolding tailText
+unfolding tail_text
 returns c =
     let s = c.before.before in
     let t = s.before.before.before.before in
@@ -20,8 +20,8 @@ returns c =
       search rules,
     )
 
-pub put-tail-spec : {M : Type 1} → statement M
-put-tail-spec =
+pub put_tail_spec : {M : Type 1} → statement M
+put_tail_spec =
     tie.close
     (tie.spec
     (λ c. search rules)

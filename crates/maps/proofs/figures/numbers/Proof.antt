@@ -1,15 +1,15 @@
--- `numbers` is `numbersOf`: the list is written out in the definition's order.
+-- `numbers` is `numbers_of`: the list is written out in the definition's order.
 use Rattle.std.proofs.Common.{rules}
-use Rattle.maps.specs.Figures.{numbersOf}
+use Rattle.maps.specs.Figures.{numbers_of}
 use Rattle.maps.proofs.figures.numbers.Statement.{statement}
 use Rattle.maps.proofs.figures.numbers.Tie as tie
 
 returns : tie.Need-returns
-unfolding numbersOf
+unfolding numbers_of
 returns c = search rules
 
-pub numbers-spec : {M : Type 1} → statement M
-numbers-spec =
+pub numbers_spec : {M : Type 1} → statement M
+numbers_spec =
     tie.close
     (tie.spec
     (λ c. search rules)

@@ -1,12 +1,12 @@
--- `path` is `sheetPath`: one call of `path_geometry` with the fields of the inputs.
+-- `path` is `sheet_path`: one call of `path_geometry` with the fields of the inputs.
 use Rattle.std.proofs.Common.{rules}
-use Rattle.maps.specs.Figures.{sheetPath}
+use Rattle.maps.specs.Figures.{sheet_path}
 use Rattle.maps.proofs.figures.path.Statement.{statement}
 use Rattle.maps.proofs.figures.path.Tie as tie
 
 returns : tie.Need-returns
-unfolding sheetPath
+unfolding sheet_path
 returns c = search rules
 
-pub path-spec : {M : Type 1} → statement M
-path-spec = tie.close (tie.spec (λ c κs. search rules) returns)
+pub path_spec : {M : Type 1} → statement M
+path_spec = tie.close (tie.spec (λ c κs. search rules) returns)

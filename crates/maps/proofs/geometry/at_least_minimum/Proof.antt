@@ -2,18 +2,18 @@
 use Rattle.std.proofs.Common.{sym}
 use lib.Ieee.{round, of_bits}
 use Rattle.base.specs.Single.{decimal}
-use Rattle.maps.specs.Geometry.{atLeastMinimum}
-use Rattle.base.proofs.verdicts.Picks.{cond-true, cond-false}
+use Rattle.maps.specs.Geometry.{at_least_minimum}
+use Rattle.base.proofs.verdicts.Picks.{cond_true, cond_false}
 use Rattle.maps.proofs.geometry.at_least_minimum.Statement.{statement}
 use Rattle.maps.proofs.geometry.at_least_minimum.Tie as tie
 
 returns : tie.Need-returns
-unfolding atLeastMinimum decimal round of_bits
-returns c = sym (cond-true _ _ c.if1.true)
+unfolding at_least_minimum decimal round of_bits
+returns c = sym (cond_true _ _ c.if1.true)
 
-returns-2 : tie.Need-returns-2
-unfolding atLeastMinimum decimal round of_bits
-returns-2 c = sym (cond-false _ _ c.if1.false)
+returns_2 : tie.Need-returns-2
+unfolding at_least_minimum decimal round of_bits
+returns_2 c = sym (cond_false _ _ c.if1.false)
 
-pub at-least-minimum-spec : {M : Type 1} → statement M
-at-least-minimum-spec = tie.close (tie.spec returns returns-2)
+pub at_least_minimum_spec : {M : Type 1} → statement M
+at_least_minimum_spec = tie.close (tie.spec returns returns_2)

@@ -2,12 +2,12 @@
 use Rattle.std.proofs.Common.{rules}
 use lib.Ieee.{round, of_bits}
 use Rattle.base.specs.Single.{decimal}
-use Rattle.maps.specs.Geometry.{circleOf}
+use Rattle.maps.specs.Geometry.{circle_of}
 use Rattle.maps.proofs.geometry.circle_by.Statement.{statement}
 use Rattle.maps.proofs.geometry.circle_by.Tie as tie
 
 returns : tie.Need-returns
-unfolding circleOf decimal round of_bits
+unfolding circle_of decimal round of_bits
 returns c =
     rw (
       c.other-way2.ensures,
@@ -20,8 +20,8 @@ returns c =
       c.before.before.before.before.before.before.before.longitude-between.ensures,
     )
 
-pub circle-by-spec : {M : Type 1} → statement M
-circle-by-spec =
+pub circle_by_spec : {M : Type 1} → statement M
+circle_by_spec =
     tie.close
     (tie.spec
     (λ c κs. search rules)

@@ -3,27 +3,27 @@ use Rattle.std.proofs.Common.{sym, ◌∙◌, rules}
 use lib.Ieee.{round, of_bits}
 use Rattle.base.specs.Single.{decimal}
 use Rattle.base.specs.Constants.{PI}
-use Rattle.maps.specs.Geometry.{circleLongitude}
-use Rattle.base.proofs.verdicts.Picks.{cond-true, cond-false}
+use Rattle.maps.specs.Geometry.{circle_longitude}
+use Rattle.base.proofs.verdicts.Picks.{cond_true, cond_false}
 use Rattle.maps.proofs.geometry.circle_longitude.Statement.{statement}
 use Rattle.maps.proofs.geometry.circle_longitude.Tie as tie
 
 returns : tie.Need-returns
-unfolding circleLongitude
-returns c = sym (cond-true _ _ (sym c.before.is-polar.ensures ∙ c.if1.true))
+unfolding circle_longitude
+returns c = sym (cond_true _ _ (sym c.before.is-polar.ensures ∙ c.if1.true))
 
-returns-2 : tie.Need-returns-2
-unfolding circleLongitude PI decimal round of_bits
-returns-2 c =
+returns_2 : tie.Need-returns-2
+unfolding circle_longitude PI decimal round of_bits
+returns_2 c =
     rw (
       c.folded.ensures,
       c.before.before.sign.ensures,
       c.before.before.before.other_way.ensures,
       c.before.before.before.before.acos-clamped.ensures,
-    ) (sym (cond-false _ _ (sym c.before.before.before.before.before.before.before.before.is-polar.ensures ∙ c.before.before.before.before.before.before.before.if1.false)))
+    ) (sym (cond_false _ _ (sym c.before.before.before.before.before.before.before.before.is-polar.ensures ∙ c.before.before.before.before.before.before.before.if1.false)))
 
-pub circle-longitude-spec : {M : Type 1} → statement M
-circle-longitude-spec =
+pub circle_longitude_spec : {M : Type 1} → statement M
+circle_longitude_spec =
     tie.close
     (tie.spec
     (λ c κs. search rules)
@@ -32,4 +32,4 @@ circle-longitude-spec =
     (λ c κs. search rules)
     (λ c κs. search rules)
     returns
-    returns-2)
+    returns_2)

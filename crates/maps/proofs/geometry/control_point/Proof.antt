@@ -8,5 +8,5 @@ returns : tie.Need-returns
 unfolding point_of
 returns c = rw (c.gmlat.ensures, c.before.sample.ensures)
 
-pub control-point-spec : {M : Type 1} → statement M
-control-point-spec = tie.close (tie.spec (λ c κs. search rules) (λ c κs. search rules) returns)
+pub control_point_spec : {M : Type 1} → statement M
+control_point_spec = tie.close (tie.spec (λ c κs. search rules) (λ c κs. search rules) returns)

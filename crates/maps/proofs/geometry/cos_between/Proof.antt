@@ -1,12 +1,12 @@
 -- `cos_between` is the definition's sum.
 use Rattle.std.proofs.Common.{rules}
-use Rattle.maps.specs.Geometry.{cosBetween}
+use Rattle.maps.specs.Geometry.{cos_between}
 use Rattle.maps.proofs.geometry.cos_between.Statement.{statement}
 use Rattle.maps.proofs.geometry.cos_between.Tie as tie
 
 returns : tie.Need-returns
-unfolding cosBetween
+unfolding cos_between
 returns c = rw c.cos32.ensures
 
-pub cos-between-spec : {M : Type 1} → statement M
-cos-between-spec = tie.close (tie.spec (λ c κs. search rules) returns)
+pub cos_between_spec : {M : Type 1} → statement M
+cos_between_spec = tie.close (tie.spec (λ c κs. search rules) returns)

@@ -6,7 +6,7 @@ use Rattle.maps.proofs.geometry.end.Tie as tie
 
 returns : tie.Need-returns
 unfolding end_of
-returns c = rw (c.place_at.ensures, c.before.end-longitude.ensures, c.before.before.to_radians.ensures)
+returns c = rw (c.place_at.ensures, c.before.end_longitude_law.ensures, c.before.before.to_radians.ensures)
 
-pub end-spec : {M : Type 1} → statement M
-end-spec = tie.close (tie.spec (λ c κs. search rules) (λ c κs. search rules) (λ c κs. search rules) returns)
+pub end_spec : {M : Type 1} → statement M
+end_spec = tie.close (tie.spec (λ c κs. search rules) (λ c κs. search rules) (λ c κs. search rules) returns)

@@ -10,5 +10,5 @@ returns : tie.Need-returns
 unfolding close DDX decimal round of_bits
 returns c = ap (λ (a : Float). le a DDX) c.abs32.ensures
 
-pub is-close-spec : {M : Type 1} → statement M
-is-close-spec = tie.close (tie.spec (λ c κs. search rules) returns)
+pub is_close_spec : {M : Type 1} → statement M
+is_close_spec = tie.close (tie.spec (λ c κs. search rules) returns)

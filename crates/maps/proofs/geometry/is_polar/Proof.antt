@@ -10,5 +10,5 @@ returns : tie.Need-returns
 unfolding polar EPSLON decimal round of_bits
 returns c = refl
 
-pub is-polar-spec : {M : Type 1} → statement M
-is-polar-spec = tie.close (tie.spec returns)
+pub is_polar_spec : {M : Type 1} → statement M
+is_polar_spec = tie.close (tie.spec returns)

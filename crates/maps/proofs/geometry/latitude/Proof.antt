@@ -3,13 +3,13 @@ use Rattle.std.proofs.Common.{ap, rules}
 use lib.Ieee.{Float, round, of_bits}
 use Rattle.base.specs.Single.{◌⊖◌, decimal}
 use Rattle.base.specs.Constants.{PIO2}
-use Rattle.maps.specs.Geometry.{latitudeOf}
+use Rattle.maps.specs.Geometry.{latitude_of}
 use Rattle.maps.proofs.geometry.latitude.Statement.{statement}
 use Rattle.maps.proofs.geometry.latitude.Tie as tie
 
 returns : tie.Need-returns
-unfolding latitudeOf PIO2 decimal round of_bits
+unfolding latitude_of PIO2 decimal round of_bits
 returns c = ap (λ (a : Float). PIO2 ⊖ a) c.acos-clamped.ensures
 
-pub latitude-spec : {M : Type 1} → statement M
-latitude-spec = tie.close (tie.spec (λ c κs. search rules) returns)
+pub latitude_spec : {M : Type 1} → statement M
+latitude_spec = tie.close (tie.spec (λ c κs. search rules) returns)

@@ -2,18 +2,18 @@
 use Rattle.std.proofs.Common.{sym}
 use lib.Ieee.{round, of_bits}
 use Rattle.base.specs.Single.{decimal}
-use Rattle.maps.specs.Geometry.{DDX, nudgeOf}
-use Rattle.base.proofs.verdicts.Picks.{cond-true, cond-false}
+use Rattle.maps.specs.Geometry.{DDX, nudge_of}
+use Rattle.base.proofs.verdicts.Picks.{cond_true, cond_false}
 use Rattle.maps.proofs.geometry.nudge.Statement.{statement}
 use Rattle.maps.proofs.geometry.nudge.Tie as tie
 
 returns : tie.Need-returns
-unfolding nudgeOf DDX decimal round of_bits
-returns c = sym (cond-true _ _ c.if1.true)
+unfolding nudge_of DDX decimal round of_bits
+returns c = sym (cond_true _ _ c.if1.true)
 
-returns-2 : tie.Need-returns-2
-unfolding nudgeOf DDX decimal round of_bits
-returns-2 c = sym (cond-false _ _ c.if1.false)
+returns_2 : tie.Need-returns-2
+unfolding nudge_of DDX decimal round of_bits
+returns_2 c = sym (cond_false _ _ c.if1.false)
 
-pub nudge-spec : {M : Type 1} → statement M
-nudge-spec = tie.close (tie.spec returns returns-2)
+pub nudge_spec : {M : Type 1} → statement M
+nudge_spec = tie.close (tie.spec returns returns_2)

@@ -3,12 +3,12 @@ use Rattle.std.proofs.Common.{rules}
 use lib.Ieee.{round, of_bits}
 use Rattle.base.specs.Single.{decimal}
 use Rattle.base.specs.Constants.{RZ}
-use Rattle.maps.specs.Geometry.{trackOf, pathOf}
+use Rattle.maps.specs.Geometry.{track_of, path_of}
 use Rattle.maps.proofs.geometry.path_geometry.Statement.{statement}
 use Rattle.maps.proofs.geometry.path_geometry.Tie as tie
 
 returns : tie.Need-returns
-unfolding pathOf trackOf RZ decimal round of_bits
+unfolding path_of track_of RZ decimal round of_bits
 returns c =
     rw (
       c.rows.ensures,
@@ -21,8 +21,8 @@ returns c =
       c.before.before.before.before.before.before.before.before.nudged.ensures,
     )
 
-pub path-geometry-spec : {M : Type 1} → statement M
-path-geometry-spec =
+pub path_geometry_spec : {M : Type 1} → statement M
+path_geometry_spec =
     tie.close
     (tie.spec
     (λ c κs. search rules)

@@ -8,5 +8,5 @@ returns : tie.Need-returns
 unfolding place_of
 returns c = rw (c.cos32.ensures, c.before.sin32.ensures)
 
-pub place-at-spec : {M : Type 1} → statement M
-place-at-spec = tie.close (tie.spec (λ c κs. search rules) (λ c κs. search rules) returns)
+pub place_at_spec : {M : Type 1} → statement M
+place_at_spec = tie.close (tie.spec (λ c κs. search rules) (λ c κs. search rules) returns)

@@ -1,11 +1,11 @@
 -- `rows` is the list of its five rows.
 use Rattle.std.proofs.Common.{rules}
-use Rattle.maps.specs.Geometry.{controlRow, rows_of}
+use Rattle.maps.specs.Geometry.{control_row, rows_of}
 use Rattle.maps.proofs.geometry.rows.Statement.{statement}
 use Rattle.maps.proofs.geometry.rows.Tie as tie
 
 returns : tie.Need-returns
-unfolding controlRow rows_of
+unfolding control_row rows_of
 returns c =
     rw (
       c.row5.ensures,
@@ -22,8 +22,8 @@ returns c =
       c.before.before.before.before.before.before.before.before.before.before.before.distances.ensures,
     )
 
-pub rows-spec : {M : Type 1} → statement M
-rows-spec =
+pub rows_spec : {M : Type 1} → statement M
+rows_spec =
     tie.close
     (tie.spec
     (λ c κs. search rules)

@@ -1,10 +1,10 @@
--- `sign` sets the sign that `sign_from` gives over the bits of a's size (`signed-size`), and is a NaN
+-- `sign` sets the sign that `sign_from` gives over the bits of a's size (`signed_size`), and is a NaN
 -- where a is one.
 use Rattle.std.proofs.Common.{◌≡◌, ℕ, ◌+◌, ◌*◌, ◌%◌, ◌^◌, ◌≤◌, Bool, true, false, cond, not, T, sym, refl, ap, ◌∙◌, subst, arith, rules}
 use lib.Ieee.{Float, nan, neg, le, fits, is_nan, binary32, nan_bits, of_bits, to_bits}
-use Rattle.base.specs.Number.{absOf}
+use Rattle.base.specs.Number.{abs_of}
 use Rattle.base.specs.Single.{decimal}
-use Rattle.base.proofs.rounding.Patterns.{is-nan, no_nan, no-nan-bits, abs-nan, held, capped, signed-size}
+use Rattle.base.proofs.rounding.Patterns.{is_nan_law, no_nan, no_nan_bits, abs_nan, held, capped, signed_size}
 use Rattle.maps.specs.Geometry.{sign_of}
 use Rattle.maps.proofs.geometry.sign.Statement.{statement}
 use Rattle.maps.proofs.geometry.sign.Tie as tie
@@ -13,44 +13,44 @@ of_nan : (a b : Float) → a ≡ nan → a ≡ sign_of a b
 unfolding sign_of neg
 of_nan a b e = e ∙ either (le (decimal 0 1) b) ∙ ap (λ (x : Float). sign_of x b) (sym e)
   where
-    either : (t : Bool) → nan ≡ cond t (absOf nan) (neg (absOf nan))
-    either true = abs-nan nan refl
-    either false = ap neg (abs-nan nan refl)
+    either : (t : Bool) → nan ≡ cond t (abs_of nan) (neg (abs_of nan))
+    either true = abs_nan nan refl
+    either false = ap neg (abs_nan nan refl)
 
 returns : tie.Need-returns
-returns c = of_nan c.before.args.a c.before.args.b (is-nan c.before.args.a c.if1.true)
+returns c = of_nan c.before.args.a c.before.args.b (is_nan_law c.before.args.a c.if1.true)
 
 -- ---- a sign over a size
 at_most : (t : Bool) → cond t 0 (2 ^ 31) ≤ 2 ^ 31
 at_most true = omega arith
 at_most false = omega arith
 
-no-nan-under : (t : Bool) (n : ℕ) → n ≤ 255 * 2 ^ 23 → T (not (nan_bits binary32 (cond t 0 (2 ^ 31) + n)))
-no-nan-under true n h = no-nan-bits binary32 (0 + n) (omega arith)
-no-nan-under false n h = no-nan-bits binary32 (2 ^ 31 + n) (omega arith)
+no_nan_under : (t : Bool) (n : ℕ) → n ≤ 255 * 2 ^ 23 → T (not (nan_bits binary32 (cond t 0 (2 ^ 31) + n)))
+no_nan_under true n h = no_nan_bits binary32 (0 + n) (omega arith)
+no_nan_under false n h = no_nan_bits binary32 (2 ^ 31 + n) (omega arith)
 
-under : (t : Bool) (a : Float) → T (fits binary32 a) → T (not (is_nan a)) → of_bits binary32 (cond t 0 (2 ^ 31) + to_bits binary32 a % 2 ^ 31) ≡ cond t (absOf a) (neg (absOf a))
-under true a h n = signed-size binary32 false a h n
-under false a h n = signed-size binary32 true a h n
+under : (t : Bool) (a : Float) → T (fits binary32 a) → T (not (is_nan a)) → of_bits binary32 (cond t 0 (2 ^ 31) + to_bits binary32 a % 2 ^ 31) ≡ cond t (abs_of a) (neg (abs_of a))
+under true a h n = signed_size binary32 false a h n
+under false a h n = signed_size binary32 true a h n
 
-float-to-bits-result : tie.Need-float-to-bits-result
-float-to-bits-result c = no_nan c.before.before.args.a c.before.if1.false
+float_to_bits_result : tie.Need-float-to-bits-result
+float_to_bits_result c = no_nan c.before.before.args.a c.before.if1.false
 
-add-result : tie.Need-overflow-add-result
-add-result c = omega (arith, subst (λ (r : ℕ). r ≤ 2 ^ 31) (sym c.sign-from.ensures) (at_most (le (decimal 0 1) c.before.before.args.b)))
+add_result : tie.Need-overflow-add-result
+add_result c = omega (arith, subst (λ (r : ℕ). r ≤ 2 ^ 31) (sym c.sign-from.ensures) (at_most (le (decimal 0 1) c.before.before.args.b)))
 
-float-from-bits-result : tie.Need-float-from-bits-result
-float-from-bits-result c =
+float_from_bits_result : tie.Need-float-from-bits-result
+float_from_bits_result c =
     let n = to_bits binary32 c.before.before.args.a % 2 ^ 31 in
     subst (λ (r : ℕ). T (not (nan_bits binary32 (r + n)))) (sym c.sign-from.ensures)
-    (no-nan-under (le (decimal 0 1) c.before.before.args.b) n (capped binary32 c.before.before.args.a c.before.before.well-formed.0.1 c.before.if1.false))
+    (no_nan_under (le (decimal 0 1) c.before.before.args.b) n (capped binary32 c.before.before.args.a c.before.before.well-formed.0.1 c.before.if1.false))
 
-returns-2 : tie.Need-returns-2
+returns_2 : tie.Need-returns-2
 unfolding sign_of
-returns-2 c =
+returns_2 c =
     let a = c.before.before.args.a in
     ap (λ (r : ℕ). of_bits binary32 (r + to_bits binary32 a % 2 ^ 31)) c.sign-from.ensures
     ∙ under (le (decimal 0 1) c.before.before.args.b) a (held binary32 a c.before.before.well-formed.0.1) (no_nan a c.before.if1.false)
 
-pub sign-spec : {M : Type 1} → statement M
-sign-spec = tie.close (tie.spec returns (λ c κs. search rules) float-to-bits-result add-result float-from-bits-result returns-2)
+pub sign_spec : {M : Type 1} → statement M
+sign_spec = tie.close (tie.spec returns (λ c κs. search rules) float_to_bits_result add_result float_from_bits_result returns_2)

@@ -1,4 +1,4 @@
--- `degrees_in` is `degreesFrom`: one word as a number, by what `float32` ensures.
+-- `degrees_in` is `degrees_from`: one word as a number, by what `float32` ensures.
 use Rattle.std.proofs.Common.{rules}
 use Rattle.maps.proofs.inputs.degrees_in.Statement.{statement}
 use Rattle.maps.proofs.inputs.degrees_in.Tie as tie
@@ -6,8 +6,8 @@ use Rattle.maps.proofs.inputs.degrees_in.Tie as tie
 returns : tie.Need-returns
 returns c = cc
 
-pub degrees-in-spec : {M : Type 1} → statement M
-degrees-in-spec =
+pub degrees_in_spec : {M : Type 1} → statement M
+degrees_in_spec =
     tie.close
     (tie.spec
     (λ c. search rules)

@@ -1,15 +1,15 @@
--- `factors_in` is `factorsFrom`, field by field, by what `float32` ensures.
+-- `factors_in` is `factors_from`, field by field, by what `float32` ensures.
 use Rattle.std.proofs.Common.{rules}
-use Rattle.maps.specs.Inputs.{factorsFrom}
+use Rattle.maps.specs.Inputs.{factors_from}
 use Rattle.maps.proofs.inputs.factors_in.Statement.{statement}
 use Rattle.maps.proofs.inputs.factors_in.Tie as tie
 
 returns : tie.Need-returns
-unfolding factorsFrom
+unfolding factors_from
 returns c = cc
 
-pub factors-in-spec : {M : Type 1} → statement M
-factors-in-spec =
+pub factors_in_spec : {M : Type 1} → statement M
+factors_in_spec =
     tie.close
     (tie.spec
     (λ c. search rules)

@@ -1,15 +1,15 @@
--- `to_words` is `fieldWords`, word by word, by what `bits32` ensures.
+-- `to_words` is `field_words`, word by word, by what `bits32` ensures.
 use Rattle.std.proofs.Common.{rules}
-use Rattle.maps.specs.Inputs.{fieldWords}
+use Rattle.maps.specs.Inputs.{field_words}
 use Rattle.maps.proofs.inputs.to_words.Statement.{statement}
 use Rattle.maps.proofs.inputs.to_words.Tie as tie
 
 returns : tie.Need-returns
-unfolding fieldWords
+unfolding field_words
 returns c = cc
 
-pub to-words-spec : {M : Type 1} → statement M
-to-words-spec =
+pub to_words_spec : {M : Type 1} → statement M
+to_words_spec =
     tie.close
     (tie.spec
     (λ c κs. search rules)

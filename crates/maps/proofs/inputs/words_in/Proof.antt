@@ -8,8 +8,8 @@ returns : tie.Need-returns
 unfolding words_to
 returns c = cc
 
-pub words-in-spec : {M : Type 1} → statement M
-words-in-spec =
+pub words_in_spec : {M : Type 1} → statement M
+words_in_spec =
     tie.close
     (tie.spec
     (λ c κs. search rules)

@@ -1,14 +1,14 @@
--- `no_layers` is `noLayers`: every field is written out, and the literal 0.0 is the decimal.
+-- `no_layers` is `no_layers`: every field is written out, and the literal 0.0 is the decimal.
 use Rattle.std.proofs.Common.{refl, rules}
 use lib.Ieee.{round, of_bits}
 use Rattle.base.specs.Single.{decimal}
-use Rattle.maps.specs.Ionosphere.{noLayers}
+use Rattle.maps.specs.Ionosphere.{no_layers}
 use Rattle.maps.proofs.ionosphere.no_layers.Statement.{statement}
 use Rattle.maps.proofs.ionosphere.no_layers.Tie as tie
 
 returns : tie.Need-returns
-unfolding noLayers decimal round of_bits
+unfolding no_layers decimal round of_bits
 returns c = refl
 
-pub no-layers-spec : {M : Type 1} → statement M
-no-layers-spec = tie.close (tie.spec returns)
+pub no_layers_spec : {M : Type 1} → statement M
+no_layers_spec = tie.close (tie.spec returns)

@@ -13,8 +13,8 @@ returns c =
     let q = k.before.before in
     rw (c.powers.ensures, k.multiples-of.ensures, k.before.sqrt32.ensures, q.sin32.ensures, q.before.before.before.clamped.ensures)
 
-pub placed-spec : {M : Type 1} → statement M
-placed-spec =
+pub placed_spec : {M : Type 1} → statement M
+placed_spec =
     tie.close
     (tie.spec
     (λ c κs. search rules)

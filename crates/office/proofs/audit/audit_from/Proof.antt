@@ -5,19 +5,19 @@ use Rattle.io.proofs.Counting.{length-take_of_le}
 use Rattle.office.proofs.audit.audit_from.Statement.{statement}
 use Rattle.office.proofs.audit.audit_from.Tie as tie
 
-slice-aggregate-audit-named-2 : tie.Need-slice-aggregate-audit-named-2
-slice-aggregate-audit-named-2 c =
+slice_aggregate_audit_named_2 : tie.Need-slice-aggregate-audit-named-2
+slice_aggregate_audit_named_2 c =
     let a = c.before.before.before.before.before.before.args in
     length-take_of_le a.f.first a.whole.now (omega arith)
 
-pub audit-from-spec : {M : Type 1} → statement M
-audit-from-spec =
+pub audit_from_spec : {M : Type 1} → statement M
+audit_from_spec =
     tie.close
     (tie.spec
     (λ c κs. search rules)
     (λ c. search rules)
     (λ c. search rules)
-    slice-aggregate-audit-named-2
+    slice_aggregate_audit_named_2
     (λ c. search rules)
     (λ c. search rules)
     (λ c. search rules)

@@ -4,18 +4,18 @@ use Prim.Native.Nat.{◌≤◌, ◌-◌}
 use Rattle.office.proofs.audit.say_page.Statement.{statement}
 use Rattle.office.proofs.audit.say_page.Tie as tie
 
-abbrev invariant-loop : tie.invariant-loop
-invariant-loop text line g marks numbers starts places size lent a b k₀ k = k ≤ 24576
+abbrev invariant_loop : tie.invariant_loop
+invariant_loop text line g marks numbers starts places size lent a b k₀ k = k ≤ 24576
 
-abbrev decreases-loop : tie.decreases-loop
-decreases-loop text line g marks numbers starts places size lent a b k₀ k = 24576 - k
+abbrev decreases_loop : tie.decreases_loop
+decreases_loop text line g marks numbers starts places size lent a b k₀ k = 24576 - k
 
-pub say-page-spec : {M : Type 1} → statement M
-say-page-spec =
+pub say_page_spec : {M : Type 1} → statement M
+say_page_spec =
     tie.close
     (tie.spec
-    invariant-loop
-    decreases-loop
+    invariant_loop
+    decreases_loop
     (λ c. search rules)
     (λ c κs. search rules)
     (λ c. search rules)

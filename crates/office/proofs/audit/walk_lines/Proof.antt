@@ -5,18 +5,18 @@ use lib.ListN.{length}
 use Rattle.office.proofs.audit.walk_lines.Statement.{statement}
 use Rattle.office.proofs.audit.walk_lines.Tie as tie
 
-abbrev invariant-loop : tie.invariant-loop
-invariant-loop text k s₀ at₀ n₀ s at n = (n ≤ k) × (n ≤ at) × (at ≤ length text)
+abbrev invariant_loop : tie.invariant_loop
+invariant_loop text k s₀ at₀ n₀ s at n = (n ≤ k) × (n ≤ at) × (at ≤ length text)
 
-abbrev decreases-loop : tie.decreases-loop
-decreases-loop text k s₀ at₀ n₀ s at n = k - n
+abbrev decreases_loop : tie.decreases_loop
+decreases_loop text k s₀ at₀ n₀ s at n = k - n
 
-pub walk-lines-spec : {M : Type 1} → statement M
-walk-lines-spec =
+pub walk_lines_spec : {M : Type 1} → statement M
+walk_lines_spec =
     tie.close
     (tie.spec
-    invariant-loop
-    decreases-loop
+    invariant_loop
+    decreases_loop
     (λ c κs. search rules)
     (λ c. search rules)
     (λ c κs. search rules)

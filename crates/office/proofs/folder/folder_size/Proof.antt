@@ -6,18 +6,18 @@ use Rattle.io.proofs.Counting.{prefix_len_of_le}
 use Rattle.office.proofs.folder.folder_size.Statement.{statement}
 use Rattle.office.proofs.folder.folder_size.Tie as tie
 
-abbrev invariant-loop : tie.invariant-loop
-invariant-loop name i₀ i = i ≤ length name
+abbrev invariant_loop : tie.invariant_loop
+invariant_loop name i₀ i = i ≤ length name
 
-abbrev decreases-loop : tie.decreases-loop
-decreases-loop name i₀ i = i
+abbrev decreases_loop : tie.decreases_loop
+decreases_loop name i₀ i = i
 
-pub folder-size-spec : {M : Type 1} → statement M
-folder-size-spec =
+pub folder_size_spec : {M : Type 1} → statement M
+folder_size_spec =
     tie.close
     (tie.spec
-    invariant-loop
-    decreases-loop
+    invariant_loop
+    decreases_loop
     (λ c. search rules)
     (λ c. search rules)
     (λ c. search rules)

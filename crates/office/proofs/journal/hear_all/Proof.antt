@@ -4,20 +4,20 @@ use Prim.Native.Nat.{◌+◌, ◌*◌, ◌≤◌}
 use Rattle.office.proofs.journal.hear_all.Statement.{statement}
 use Rattle.office.proofs.journal.hear_all.Tie as tie
 
-abbrev invariant-loop : tie.invariant-loop
-invariant-loop fd name speak lent a b buffer₀ v₀ turns₀ buffer v turns =
+abbrev invariant_loop : tie.invariant_loop
+invariant_loop fd name speak lent a b buffer₀ v₀ turns₀ buffer v turns =
     (v.from ≤ v.to) × (v.to ≤ 65536) × (v.lines + turns ≤ 1099511627776) ×
     (v.bytes + 65536 * turns ≤ 72057594037927936)
 
-abbrev decreases-loop : tie.decreases-loop
-decreases-loop fd name speak lent a b buffer₀ v₀ turns₀ buffer v turns = turns
+abbrev decreases_loop : tie.decreases_loop
+decreases_loop fd name speak lent a b buffer₀ v₀ turns₀ buffer v turns = turns
 
-pub hear-all-spec : {M : Type 1} → statement M
-hear-all-spec =
+pub hear_all_spec : {M : Type 1} → statement M
+hear_all_spec =
     tie.close
     (tie.spec
-    invariant-loop
-    decreases-loop
+    invariant_loop
+    decreases_loop
     (λ c κs. search rules)
     (λ c. search rules)
     (λ c. search rules)

@@ -4,18 +4,18 @@ use Prim.Native.Nat.{◌≤◌, ◌-◌}
 use Rattle.office.proofs.journal.line_end.Statement.{statement}
 use Rattle.office.proofs.journal.line_end.Tie as tie
 
-abbrev invariant-loop : tie.invariant-loop
-invariant-loop buffer from to i₀ i = (from ≤ i) × (i ≤ to)
+abbrev invariant_loop : tie.invariant_loop
+invariant_loop buffer from to i₀ i = (from ≤ i) × (i ≤ to)
 
-abbrev decreases-loop : tie.decreases-loop
-decreases-loop buffer from to i₀ i = to - i
+abbrev decreases_loop : tie.decreases_loop
+decreases_loop buffer from to i₀ i = to - i
 
-pub line-end-spec : {M : Type 1} → statement M
-line-end-spec =
+pub line_end_spec : {M : Type 1} → statement M
+line_end_spec =
     tie.close
     (tie.spec
-    invariant-loop
-    decreases-loop
+    invariant_loop
+    decreases_loop
     (λ c. search rules)
     (λ c. search rules)
     (λ c. search rules)

@@ -9,23 +9,23 @@ returns c =
     let b = c.before.before.before.before.before in
     omega (arith, c.placed.ensures, b.before.before.before.before.before.requires)
 
-returns-2 : tie.Need-returns-2
-returns-2 c =
+returns_2 : tie.Need-returns-2
+returns_2 c =
     let b = c.before.before.before.before.before.before.before in
     omega (arith, c.placed2.ensures, b.before.before.before.before.before.before.requires)
 
-moved-on-requires : tie.Need-moved-on-requires
-moved-on-requires c κs =
+moved_on_requires : tie.Need-moved-on-requires
+moved_on_requires c κs =
     let b = c.before.before.before.before.before.before in
     omega (arith, b.before.before.before.before.before.before.requires)
 
-returns-3 : tie.Need-returns-3
-returns-3 c =
+returns_3 : tie.Need-returns-3
+returns_3 c =
     let b = c.before.before.before.before.before.before.before in
     omega (arith, c.moved_on.ensures, b.before.before.before.before.before.before.requires)
 
-pub line-turn-spec : {M : Type 1} → statement M
-line-turn-spec =
+pub line_turn_spec : {M : Type 1} → statement M
+line_turn_spec =
     tie.close
     (tie.spec
     (λ c. search rules)
@@ -37,6 +37,6 @@ line-turn-spec =
     returns
     (λ c κs. search rules)
     (λ c κs. search rules)
-    returns-2
-    moved-on-requires
-    returns-3)
+    returns_2
+    moved_on_requires
+    returns_3)

@@ -6,18 +6,18 @@ use lib.ListN.{length}
 use Rattle.office.proofs.journal.shift.Statement.{statement}
 use Rattle.office.proofs.journal.shift.Tie as tie
 
-abbrev invariant-loop : tie.invariant-loop
-invariant-loop buffer₀ from to i₀ buffer i = (from ≤ i) × (i ≤ to) × (length buffer ≡ length buffer₀)
+abbrev invariant_loop : tie.invariant_loop
+invariant_loop buffer₀ from to i₀ buffer i = (from ≤ i) × (i ≤ to) × (length buffer ≡ length buffer₀)
 
-abbrev decreases-loop : tie.decreases-loop
-decreases-loop buffer₀ from to i₀ buffer i = to - i
+abbrev decreases_loop : tie.decreases_loop
+decreases_loop buffer₀ from to i₀ buffer i = to - i
 
-pub shift-spec : {M : Type 1} → statement M
-shift-spec =
+pub shift_spec : {M : Type 1} → statement M
+shift_spec =
     tie.close
     (tie.spec
-    invariant-loop
-    decreases-loop
+    invariant_loop
+    decreases_loop
     (λ c. search rules)
     (λ c. search rules)
     (λ c. search rules)

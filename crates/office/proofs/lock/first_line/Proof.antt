@@ -8,21 +8,21 @@ use Rattle.io.proofs.Counting.{prefix_len_of_le}
 use Rattle.office.proofs.lock.first_line.Statement.{statement}
 use Rattle.office.proofs.lock.first_line.Tie as tie
 
-abbrev invariant-loop : tie.invariant-loop
-invariant-loop text₀ n i₀ text i = (i ≤ n) × (n ≤ length text) × (length text ≡ length text₀)
+abbrev invariant_loop : tie.invariant_loop
+invariant_loop text₀ n i₀ text i = (i ≤ n) × (n ≤ length text) × (length text ≡ length text₀)
 
-abbrev decreases-loop : tie.decreases-loop
-decreases-loop text₀ n i₀ text i = n - i
+abbrev decreases_loop : tie.decreases_loop
+decreases_loop text₀ n i₀ text i = n - i
 
-loop-again : tie.Need-loop-preserved invariant-loop decreases-loop
-loop-again c = (omega arith, simp length-set (omega arith), simp length-set (omega arith))
+loop_again : tie.Need-loop-preserved invariant_loop decreases_loop
+loop_again c = (omega arith, simp length-set (omega arith), simp length-set (omega arith))
 
-pub first-line-spec : {M : Type 1} → statement M
-first-line-spec =
+pub first_line_spec : {M : Type 1} → statement M
+first_line_spec =
     tie.close
     (tie.spec
-    invariant-loop
-    decreases-loop
+    invariant_loop
+    decreases_loop
     (λ c. search rules)
     (λ c. search rules)
     (λ c. search rules)
@@ -32,6 +32,6 @@ first-line-spec =
     (λ c. search rules)
     (λ c. search rules)
     (λ c. search rules)
-    loop-again
+    loop_again
     (λ c. search rules)
     (λ c. prefix_len_of_le _ _ (search rules)))

@@ -6,18 +6,18 @@ use lib.ListN.{length}
 use Rattle.office.proofs.lock.is_same.Statement.{statement}
 use Rattle.office.proofs.lock.is_same.Tie as tie
 
-abbrev invariant-loop : tie.invariant-loop
-invariant-loop one other i₀ i = length one ≡ length other
+abbrev invariant_loop : tie.invariant_loop
+invariant_loop one other i₀ i = length one ≡ length other
 
-abbrev decreases-loop : tie.decreases-loop
-decreases-loop one other i₀ i = length one - i
+abbrev decreases_loop : tie.decreases_loop
+decreases_loop one other i₀ i = length one - i
 
-pub is-same-spec : {M : Type 1} → statement M
-is-same-spec =
+pub is_same_spec : {M : Type 1} → statement M
+is_same_spec =
     tie.close
     (tie.spec
-    invariant-loop
-    decreases-loop
+    invariant_loop
+    decreases_loop
     (λ c. search rules)
     (λ c. search rules)
     (λ c. search rules)

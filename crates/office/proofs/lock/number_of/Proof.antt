@@ -15,11 +15,11 @@ positive : (z : ℤ) → lt_z (pos 0) z ≡ true → T (non_neg z)
 positive (pos n) e = tt
 positive (negsuc n) e = subst T (sym e) tt
 
-cast-result : tie.Need-overflow-cast-result
-cast-result c = (
+cast_result : tie.Need-overflow-cast-result
+cast_result c = (
   positive (to_z w32 (of_z w32 c.before.args.p)) c.if1.true,
   Fits-nat_abs {w = w32} {w' = w64} tt (sfits_to_z (Fits-of_z c.before.ranges.p)),
 )
 
-pub number-of-spec : {M : Type 1} → statement M
-number-of-spec = tie.close (tie.spec cast-result (λ c. search rules) (λ c. search rules))
+pub number_of_spec : {M : Type 1} → statement M
+number_of_spec = tie.close (tie.spec cast_result (λ c. search rules) (λ c. search rules))

@@ -8,27 +8,27 @@ use Rattle.io.proofs.Counting.{prefix_len_of_le}
 use Rattle.office.proofs.name.join.Statement.{statement}
 use Rattle.office.proofs.name.join.Tie as tie
 
-abbrev invariant-loop : tie.invariant-loop
-invariant-loop out₀ n piece at₀ i₀ out at i = (at ≤ length out) × (i ≤ length piece) × (length out ≡ length out₀)
+abbrev invariant_loop : tie.invariant_loop
+invariant_loop out₀ n piece at₀ i₀ out at i = (at ≤ length out) × (i ≤ length piece) × (length out ≡ length out₀)
 
-abbrev decreases-loop : tie.decreases-loop
-decreases-loop out₀ n piece at₀ i₀ out at i = length piece - i
+abbrev decreases_loop : tie.decreases_loop
+decreases_loop out₀ n piece at₀ i₀ out at i = length piece - i
 
-returns : tie.Need-returns invariant-loop decreases-loop
+returns : tie.Need-returns invariant_loop decreases_loop
 returns c = prefix_len_of_le _ _ (search rules)
 
-loop-again : tie.Need-loop-preserved invariant-loop decreases-loop
-loop-again c = (simp length-set (omega arith), omega arith, simp length-set (omega arith))
+loop_again : tie.Need-loop-preserved invariant_loop decreases_loop
+loop_again c = (simp length-set (omega arith), omega arith, simp length-set (omega arith))
 
-returns-2 : tie.Need-returns-2 invariant-loop decreases-loop
-returns-2 c = prefix_len_of_le _ _ (search rules)
+returns_2 : tie.Need-returns-2 invariant_loop decreases_loop
+returns_2 c = prefix_len_of_le _ _ (search rules)
 
-pub join-spec : {M : Type 1} → statement M
-join-spec =
+pub join_spec : {M : Type 1} → statement M
+join_spec =
     tie.close
     (tie.spec
-    invariant-loop
-    decreases-loop
+    invariant_loop
+    decreases_loop
     (λ c. search rules)
     (λ c. search rules)
     returns
@@ -37,6 +37,6 @@ join-spec =
     (λ c. search rules)
     (λ c. search rules)
     (λ c. search rules)
-    loop-again
+    loop_again
     (λ c. search rules)
-    returns-2)
+    returns_2)

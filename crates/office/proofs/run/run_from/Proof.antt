@@ -5,19 +5,19 @@ use Rattle.io.proofs.Counting.{length-take_of_le}
 use Rattle.office.proofs.run.run_from.Statement.{statement}
 use Rattle.office.proofs.run.run_from.Tie as tie
 
-slice-aggregate-run-named-2 : tie.Need-slice-aggregate-run-named-2
-slice-aggregate-run-named-2 c =
+slice_aggregate_run_named_2 : tie.Need-slice-aggregate-run-named-2
+slice_aggregate_run_named_2 c =
     let a = c.before.before.before.before.before.before.args in
     length-take_of_le a.f.first a.whole.now (omega arith)
 
-pub run-from-spec : {M : Type 1} → statement M
-run-from-spec =
+pub run_from_spec : {M : Type 1} → statement M
+run_from_spec =
     tie.close
     (tie.spec
     (λ c κs. search rules)
     (λ c. search rules)
     (λ c. search rules)
-    slice-aggregate-run-named-2
+    slice_aggregate_run_named_2
     (λ c. search rules)
     (λ c. search rules)
     (λ c. search rules)

@@ -5,13 +5,13 @@ use Rattle.io.proofs.Counting.{length-take_of_le}
 use Rattle.office.proofs.say.say_from.Statement.{statement}
 use Rattle.office.proofs.say.say_from.Tie as tie
 
-slice-aggregate-say-named-2 : tie.Need-slice-aggregate-say-named-2
-slice-aggregate-say-named-2 c =
+slice_aggregate_say_named_2 : tie.Need-slice-aggregate-say-named-2
+slice_aggregate_say_named_2 c =
     let a = c.before.before.before.before.before.before.before.args in
     length-take_of_le a.f.first a.whole.now (omega arith)
 
-pub say-from-spec : {M : Type 1} → statement M
-say-from-spec =
+pub say_from_spec : {M : Type 1} → statement M
+say_from_spec =
     tie.close
     (tie.spec
     (λ c κs. search rules)
@@ -19,7 +19,7 @@ say-from-spec =
     (λ c. search rules)
     (λ c. search rules)
     (λ c. search rules)
-    slice-aggregate-say-named-2
+    slice_aggregate_say_named_2
     (λ c. search rules)
     (λ c. search rules)
     (λ c. search rules)

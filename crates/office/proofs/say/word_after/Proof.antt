@@ -7,8 +7,8 @@ use Rattle.office.proofs.say.word_after.Tie as tie
 returns : tie.Need-returns
 returns c = prefix_len_of_le _ _ (search rules)
 
-pub word-after-spec : {M : Type 1} → statement M
-word-after-spec =
+pub word_after_spec : {M : Type 1} → statement M
+word_after_spec =
     tie.close
     (tie.spec
     (λ c. search rules)

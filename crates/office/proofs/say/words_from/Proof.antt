@@ -7,21 +7,21 @@ use Rattle.io.proofs.Counting.{prefix_len_of_le}
 use Rattle.office.proofs.say.words_from.Statement.{statement}
 use Rattle.office.proofs.say.words_from.Tie as tie
 
-abbrev invariant-loop : tie.invariant-loop
-invariant-loop i line₀ count n₀ k₀ line n k = (n ≤ length line) × (length line ≡ length line₀)
+abbrev invariant_loop : tie.invariant_loop
+invariant_loop i line₀ count n₀ k₀ line n k = (n ≤ length line) × (length line ≡ length line₀)
 
-abbrev decreases-loop : tie.decreases-loop
-decreases-loop i line₀ count n₀ k₀ line n k = count - k
+abbrev decreases_loop : tie.decreases_loop
+decreases_loop i line₀ count n₀ k₀ line n k = count - k
 
-returns : tie.Need-returns invariant-loop decreases-loop
+returns : tie.Need-returns invariant_loop decreases_loop
 returns c = prefix_len_of_le _ _ (search rules)
 
-pub words-from-spec : {M : Type 1} → statement M
-words-from-spec =
+pub words_from_spec : {M : Type 1} → statement M
+words_from_spec =
     tie.close
     (tie.spec
-    invariant-loop
-    decreases-loop
+    invariant_loop
+    decreases_loop
     (λ c κs. search rules)
     (λ c. search rules)
     (λ c κs. search rules)

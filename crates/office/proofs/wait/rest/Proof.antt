@@ -130,9 +130,9 @@ module _ {M : Type 1} {𝓤 : Ura M} (𝓛 : Logic 𝓤) (mem' : Memory → SPro
         forget ! 5 refl $ forget ! 7 refl $ forget ! 9 refl $ forget ! 13 refl $
         keep ! (13 ∷ 14 ∷ 3 ∷ 12 ∷ 0 ∷ 11 ∷ 9 ∷ 10 ∷ 7 ∷ 8 ∷ 5 ∷ 6 ∷ []) $ free1 ! $ free1 ! $ free1 ! $ free1 ! $ free1 ! $ free1 ! $ free0 ! $ by ! (exits y)))))))))))))))
 
-pub rest-spec : {M : Type 1} → stated.statement M
+pub rest_spec : {M : Type 1} → stated.statement M
 unfolding code.routine tables_of
-rest-spec 𝓤 𝓛 𝓜 𝓡 =
+rest_spec 𝓤 𝓛 𝓜 𝓡 =
     entered 𝓤 𝓛.H (Rest 𝓛 𝓜.mem 𝓡.run) (tables 𝓤 𝓛.H 𝓜 𝓡 code.env).C (tables 𝓤 𝓛.H 𝓜 𝓡 code.env).Λ #office·wait·rest code.function (code.unfolded 𝓤 𝓛.H 𝓜 𝓡)
     (walk 𝓛 𝓜.mem 𝓡.run (tables 𝓤 𝓛.H 𝓜 𝓡 code.env).C (tables 𝓤 𝓛.H 𝓜 𝓡 code.env).Λ (fm_of 𝓤 𝓛.H 𝓛.laws (tables_of 𝓤 𝓛.H 𝓜 (tables 𝓤 𝓛.H 𝓜 𝓡 code.env)))
     (cited 𝓤 𝓛.H (Sleep 𝓛 𝓜.mem 𝓡.run) 𝓜 𝓡 code.env #libc·nanosleep sleep-def.routine code.calls-libc::nanosleep (sleep-thm.met 𝓤 𝓛 𝓜 𝓡)))

@@ -3,18 +3,18 @@ use Rattle.std.proofs.Common.{◌-◌, ◌≤◌, rules}
 use Rattle.vectors.proofs.files.blends.Statement.{statement}
 use Rattle.vectors.proofs.files.blends.Tie as tie
 
-abbrev invariant-loop : tie.invariant-loop
-invariant-loop fd «record» month t₀ k₀ t k = k ≤ 15
+abbrev invariant_loop : tie.invariant_loop
+invariant_loop fd «record» month t₀ k₀ t k = k ≤ 15
 
-abbrev decreases-loop : tie.decreases-loop
-decreases-loop fd «record» month t₀ k₀ t k = 15 - k
+abbrev decreases_loop : tie.decreases_loop
+decreases_loop fd «record» month t₀ k₀ t k = 15 - k
 
-pub blends-spec : {M : Type 1} → statement M
-blends-spec =
+pub blends_spec : {M : Type 1} → statement M
+blends_spec =
     tie.close
     (tie.spec
-    invariant-loop
-    decreases-loop
+    invariant_loop
+    decreases_loop
     (λ c. search rules)
     (λ c κs. search rules)
     (λ c κs. search rules)

@@ -3,18 +3,18 @@ use Rattle.std.proofs.Common.{◌-◌, ◌≤◌, rules}
 use Rattle.vectors.proofs.files.cofions.Statement.{statement}
 use Rattle.vectors.proofs.files.cofions.Tie as tie
 
-abbrev invariant-loop : tie.invariant-loop
-invariant-loop fd «record» month ssn all t₀ k₀ t k = k ≤ 2604
+abbrev invariant_loop : tie.invariant_loop
+invariant_loop fd «record» month ssn all t₀ k₀ t k = k ≤ 2604
 
-abbrev decreases-loop : tie.decreases-loop
-decreases-loop fd «record» month ssn all t₀ k₀ t k = 2604 - k
+abbrev decreases_loop : tie.decreases_loop
+decreases_loop fd «record» month ssn all t₀ k₀ t k = 2604 - k
 
-pub cofions-spec : {M : Type 1} → statement M
-cofions-spec =
+pub cofions_spec : {M : Type 1} → statement M
+cofions_spec =
     tie.close
     (tie.spec
-    invariant-loop
-    decreases-loop
+    invariant_loop
+    decreases_loop
     (λ c κs. search rules)
     (λ c. search rules)
     (λ c. search rules)

@@ -3,18 +3,18 @@ use Rattle.std.proofs.Common.{◌-◌, ◌≤◌, rules}
 use Rattle.vectors.proofs.files.floats.Statement.{statement}
 use Rattle.vectors.proofs.files.floats.Tie as tie
 
-abbrev invariant-loop : tie.invariant-loop
-invariant-loop fd s at n t₀ k₀ t k = k ≤ n
+abbrev invariant_loop : tie.invariant_loop
+invariant_loop fd s at n t₀ k₀ t k = k ≤ n
 
-abbrev decreases-loop : tie.decreases-loop
-decreases-loop fd s at n t₀ k₀ t k = n - k
+abbrev decreases_loop : tie.decreases_loop
+decreases_loop fd s at n t₀ k₀ t k = n - k
 
-pub floats-spec : {M : Type 1} → statement M
-floats-spec =
+pub floats_spec : {M : Type 1} → statement M
+floats_spec =
     tie.close
     (tie.spec
-    invariant-loop
-    decreases-loop
+    invariant_loop
+    decreases_loop
     (λ c. search rules)
     (λ c κs. search rules)
     (λ c κs. search rules)

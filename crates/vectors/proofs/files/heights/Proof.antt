@@ -3,18 +3,18 @@ use Rattle.std.proofs.Common.{◌-◌, ◌≤◌, rules}
 use Rattle.vectors.proofs.files.heights.Statement.{statement}
 use Rattle.vectors.proofs.files.heights.Tie as tie
 
-abbrev invariant-loop : tie.invariant-loop
-invariant-loop fd month ssn all t₀ k₀ t k = k ≤ 464
+abbrev invariant_loop : tie.invariant_loop
+invariant_loop fd month ssn all t₀ k₀ t k = k ≤ 464
 
-abbrev decreases-loop : tie.decreases-loop
-decreases-loop fd month ssn all t₀ k₀ t k = 464 - k
+abbrev decreases_loop : tie.decreases_loop
+decreases_loop fd month ssn all t₀ k₀ t k = 464 - k
 
-pub heights-spec : {M : Type 1} → statement M
-heights-spec =
+pub heights_spec : {M : Type 1} → statement M
+heights_spec =
     tie.close
     (tie.spec
-    invariant-loop
-    decreases-loop
+    invariant_loop
+    decreases_loop
     (λ c κs. search rules)
     (λ c. search rules)
     (λ c. search rules)

@@ -3,18 +3,18 @@ use Rattle.std.proofs.Common.{◌-◌, ◌≤◌, rules}
 use Rattle.vectors.proofs.files.indexes.Statement.{statement}
 use Rattle.vectors.proofs.files.indexes.Tie as tie
 
-abbrev invariant-loop : tie.invariant-loop
-invariant-loop fd t₀ k₀ t k = k ≤ 3160
+abbrev invariant_loop : tie.invariant_loop
+invariant_loop fd t₀ k₀ t k = k ≤ 3160
 
-abbrev decreases-loop : tie.decreases-loop
-decreases-loop fd t₀ k₀ t k = 3160 - k
+abbrev decreases_loop : tie.decreases_loop
+decreases_loop fd t₀ k₀ t k = 3160 - k
 
-pub indexes-spec : {M : Type 1} → statement M
-indexes-spec =
+pub indexes_spec : {M : Type 1} → statement M
+indexes_spec =
     tie.close
     (tie.spec
-    invariant-loop
-    decreases-loop
+    invariant_loop
+    decreases_loop
     (λ c κs. search rules)
     (λ c. search rules)
     (λ c κs. search rules)

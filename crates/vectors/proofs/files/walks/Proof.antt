@@ -3,18 +3,18 @@ use Rattle.std.proofs.Common.{◌-◌, ◌≤◌, rules}
 use Rattle.vectors.proofs.files.walks.Statement.{statement}
 use Rattle.vectors.proofs.files.walks.Tie as tie
 
-abbrev invariant-loop : tie.invariant-loop
-invariant-loop fd month t₀ k₀ t k = k ≤ 2204
+abbrev invariant_loop : tie.invariant_loop
+invariant_loop fd month t₀ k₀ t k = k ≤ 2204
 
-abbrev decreases-loop : tie.decreases-loop
-decreases-loop fd month t₀ k₀ t k = 2204 - k
+abbrev decreases_loop : tie.decreases_loop
+decreases_loop fd month t₀ k₀ t k = 2204 - k
 
-pub walks-spec : {M : Type 1} → statement M
-walks-spec =
+pub walks_spec : {M : Type 1} → statement M
+walks_spec =
     tie.close
     (tie.spec
-    invariant-loop
-    decreases-loop
+    invariant_loop
+    decreases_loop
     (λ c κs. search rules)
     (λ c. search rules)
     (λ c κs. search rules)

@@ -3,18 +3,18 @@ use Rattle.std.proofs.Common.{◌-◌, ◌≤◌, rules}
 use Rattle.vectors.proofs.files.words.Statement.{statement}
 use Rattle.vectors.proofs.files.words.Tie as tie
 
-abbrev invariant-loop : tie.invariant-loop
-invariant-loop fd «record» month t₀ k₀ t k = k ≤ 8
+abbrev invariant_loop : tie.invariant_loop
+invariant_loop fd «record» month t₀ k₀ t k = k ≤ 8
 
-abbrev decreases-loop : tie.decreases-loop
-decreases-loop fd «record» month t₀ k₀ t k = 8 - k
+abbrev decreases_loop : tie.decreases_loop
+decreases_loop fd «record» month t₀ k₀ t k = 8 - k
 
-pub words-spec : {M : Type 1} → statement M
-words-spec =
+pub words_spec : {M : Type 1} → statement M
+words_spec =
     tie.close
     (tie.spec
-    invariant-loop
-    decreases-loop
+    invariant_loop
+    decreases_loop
     (λ c κs. search rules)
     (λ c κs. search rules)
     (λ c κs. search rules)

@@ -3,18 +3,18 @@ use Rattle.std.proofs.Common.{◌-◌, ◌≤◌, rules}
 use Rattle.vectors.proofs.hours.is_wanted.Statement.{statement}
 use Rattle.vectors.proofs.hours.is_wanted.Tie as tie
 
-abbrev invariant-loop : tie.invariant-loop
-invariant-loop ab row k₀ k = k ≤ 318
+abbrev invariant_loop : tie.invariant_loop
+invariant_loop ab row k₀ k = k ≤ 318
 
-abbrev decreases-loop : tie.decreases-loop
-decreases-loop ab row k₀ k = 318 - k
+abbrev decreases_loop : tie.decreases_loop
+decreases_loop ab row k₀ k = 318 - k
 
-pub is-wanted-spec : {M : Type 1} → statement M
-is-wanted-spec =
+pub is_wanted_spec : {M : Type 1} → statement M
+is_wanted_spec =
     tie.close
     (tie.spec
-    invariant-loop
-    decreases-loop
+    invariant_loop
+    decreases_loop
     (λ c. search rules)
     (λ c. search rules)
     (λ c. search rules)

@@ -3,18 +3,18 @@ use Rattle.std.proofs.Common.{◌-◌, ◌≤◌, rules}
 use Rattle.vectors.proofs.hours.sections.Statement.{statement}
 use Rattle.vectors.proofs.hours.sections.Tie as tie
 
-abbrev invariant-loop : tie.invariant-loop
-invariant-loop fd t₀ left₀ t left = left ≤ left
+abbrev invariant_loop : tie.invariant_loop
+invariant_loop fd t₀ left₀ t left = left ≤ left
 
-abbrev decreases-loop : tie.decreases-loop
-decreases-loop fd t₀ left₀ t left = left
+abbrev decreases_loop : tie.decreases_loop
+decreases_loop fd t₀ left₀ t left = left
 
-pub sections-spec : {M : Type 1} → statement M
-sections-spec =
+pub sections_spec : {M : Type 1} → statement M
+sections_spec =
     tie.close
     (tie.spec
-    invariant-loop
-    decreases-loop
+    invariant_loop
+    decreases_loop
     (λ c κs. search rules)
     (λ c κs. search rules)
     (λ c. search rules)

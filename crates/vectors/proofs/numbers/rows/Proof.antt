@@ -3,18 +3,18 @@ use Rattle.std.proofs.Common.{◌≤◌, rules}
 use Rattle.vectors.proofs.numbers.rows.Statement.{statement}
 use Rattle.vectors.proofs.numbers.rows.Tie as tie
 
-abbrev invariant-loop : tie.invariant-loop
-invariant-loop fd part₀ all₀ left₀ t9 part all left = 0 ≤ left
+abbrev invariant_loop : tie.invariant_loop
+invariant_loop fd part₀ all₀ left₀ t9 part all left = 0 ≤ left
 
-abbrev decreases-loop : tie.decreases-loop
-decreases-loop fd part₀ all₀ left₀ t9 part all left = left
+abbrev decreases_loop : tie.decreases_loop
+decreases_loop fd part₀ all₀ left₀ t9 part all left = left
 
-pub rows-spec : {M : Type 1} → statement M
-rows-spec =
+pub rows_spec : {M : Type 1} → statement M
+rows_spec =
     tie.close
     (tie.spec
-    invariant-loop
-    decreases-loop
+    invariant_loop
+    decreases_loop
     (λ c κs. search rules)
     (λ c κs. search rules)
     (λ c. search rules)

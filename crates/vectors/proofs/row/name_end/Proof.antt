@@ -3,18 +3,18 @@ use Rattle.std.proofs.Common.{◌-◌, ◌≤◌, length, rules}
 use Rattle.vectors.proofs.row.name_end.Statement.{statement}
 use Rattle.vectors.proofs.row.name_end.Tie as tie
 
-abbrev invariant-loop : tie.invariant-loop
-invariant-loop row from i₀ i = i ≤ length row
+abbrev invariant_loop : tie.invariant_loop
+invariant_loop row from i₀ i = i ≤ length row
 
-abbrev decreases-loop : tie.decreases-loop
-decreases-loop row from i₀ i = length row - i
+abbrev decreases_loop : tie.decreases_loop
+decreases_loop row from i₀ i = length row - i
 
-pub name-end-spec : {M : Type 1} → statement M
-name-end-spec =
+pub name_end_spec : {M : Type 1} → statement M
+name_end_spec =
     tie.close
     (tie.spec
-    invariant-loop
-    decreases-loop
+    invariant_loop
+    decreases_loop
     (λ c. search rules)
     (λ c. search rules)
     (λ c. search rules)

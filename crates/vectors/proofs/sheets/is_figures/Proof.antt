@@ -3,18 +3,18 @@ use Rattle.std.proofs.Common.{◌-◌, ◌≤◌, rules}
 use Rattle.vectors.proofs.sheets.is_figures.Statement.{statement}
 use Rattle.vectors.proofs.sheets.is_figures.Tie as tie
 
-abbrev invariant-loop : tie.invariant-loop
-invariant-loop out row k₀ k = k ≤ 151
+abbrev invariant_loop : tie.invariant_loop
+invariant_loop out row k₀ k = k ≤ 151
 
-abbrev decreases-loop : tie.decreases-loop
-decreases-loop out row k₀ k = 151 - k
+abbrev decreases_loop : tie.decreases_loop
+decreases_loop out row k₀ k = 151 - k
 
-pub is-figures-spec : {M : Type 1} → statement M
-is-figures-spec =
+pub is_figures_spec : {M : Type 1} → statement M
+is_figures_spec =
     tie.close
     (tie.spec
-    invariant-loop
-    decreases-loop
+    invariant_loop
+    decreases_loop
     (λ c. search rules)
     (λ c. search rules)
     (λ c. search rules)

@@ -3,18 +3,18 @@ use Rattle.std.proofs.Common.{◌-◌, ◌≤◌, length, rules}
 use Rattle.vectors.proofs.tables.is_part.Statement.{statement}
 use Rattle.vectors.proofs.tables.is_part.Tie as tie
 
-abbrev invariant-loop : tie.invariant-loop
-invariant-loop part all from k₀ k = k ≤ length part
+abbrev invariant_loop : tie.invariant_loop
+invariant_loop part all from k₀ k = k ≤ length part
 
-abbrev decreases-loop : tie.decreases-loop
-decreases-loop part all from k₀ k = length part - k
+abbrev decreases_loop : tie.decreases_loop
+decreases_loop part all from k₀ k = length part - k
 
-pub is-part-spec : {M : Type 1} → statement M
-is-part-spec =
+pub is_part_spec : {M : Type 1} → statement M
+is_part_spec =
     tie.close
     (tie.spec
-    invariant-loop
-    decreases-loop
+    invariant_loop
+    decreases_loop
     (λ c. search rules)
     (λ c κs. search rules)
     (λ c. search rules)

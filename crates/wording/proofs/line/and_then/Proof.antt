@@ -6,8 +6,8 @@ use Rattle.wording.specs.Line.{◌andThen◌}
 use Rattle.wording.proofs.line.and_then.Statement.{statement}
 use Rattle.wording.proofs.line.and_then.Tie as tie
 
-returns-2 : tie.Need-returns-2
-returns-2 c = sym (ap (λ (f : Fit). f and_then c.before.before.before.args.b) c.before.a.given.1)
+returns_2 : tie.Need-returns-2
+returns_2 c = sym (ap (λ (f : Fit). f and_then c.before.before.before.args.b) c.before.a.given.1)
 
-pub and-then-spec : {M : Type 1} → statement M
-and-then-spec = tie.close (tie.spec (λ c. search rules) (λ c. search rules) (λ c. search rules) returns-2)
+pub and_then_spec : {M : Type 1} → statement M
+and_then_spec = tie.close (tie.spec (λ c. search rules) (λ c. search rules) (λ c. search rules) returns_2)

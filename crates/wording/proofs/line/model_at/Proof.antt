@@ -8,8 +8,8 @@ returns : tie.Need-returns
 unfolding model_at
 returns c = cc
 
-pub model-at-spec : {M : Type 1} → statement M
-model-at-spec =
+pub model_at_spec : {M : Type 1} → statement M
+model_at_spec =
     tie.close
     (tie.spec
     (λ c κs. search rules)

@@ -1,45 +1,45 @@
--- `number_line` is `numberLine`: a whole number fits.
+-- `number_line` is `number_line`: a whole number fits.
 use mathlib.Core.Path.{◌≡◌, sym, ap, ◌∙◌}
 use Prim.Native.Nat.{ℕ, ◌<◌, ◌^◌}
 use borrow.Author.Rules.{rules}
-use Rattle.base.proofs.verdicts.Picks.{cond-true, cond-false}
-use Rattle.wording.specs.Token.{tokenAt}
-use Rattle.wording.specs.Line.{deedLine, numberLine, wordNumber}
-use Rattle.wording.proofs.words.Fits.{whole-fits, desk-word}
+use Rattle.base.proofs.verdicts.Picks.{cond_true, cond_false}
+use Rattle.wording.specs.Token.{token_at}
+use Rattle.wording.specs.Line.{deed_line, number_line, word_number}
+use Rattle.wording.proofs.words.Fits.{whole_fits, desk_word}
 use Rattle.wording.proofs.line.number_line.Statement.{statement}
 use Rattle.wording.proofs.line.number_line.Tie as tie
 
-cast-deed-line : tie.Need-overflow-cast-deed-line
-cast-deed-line c =
+cast_deed_line : tie.Need-overflow-cast-deed-line
+cast_deed_line c =
     let d = c.before.before.before.args.d in
-    let fits : d.digits < 2 ^ 32 = whole-fits d (sym c.before.before.is-whole-decimal.ensures ∙ c.before.if1.true) in
+    let fits : d.digits < 2 ^ 32 = whole_fits d (sym c.before.before.is-whole-decimal.ensures ∙ c.before.if1.true) in
     search rules
 
 returns : tie.Need-returns
-unfolding numberLine
+unfolding number_line
 returns c =
     let b = c.before.before.before.before in
     let a = b.before.before.args in
     let n = a.d.digits in
     c.deed-line.ensures
-    ∙ ap (deedLine a.t n) (c.before.word_number.ensures ∙ ap wordNumber c.before.before.token.ensures)
-    ∙ desk-word a.t n (tokenAt a.t 1)
-    ∙ sym (cond-true _ _ (sym b.before.is-whole-decimal.ensures ∙ b.if1.true))
+    ∙ ap (deed_line a.t n) (c.before.word_number.ensures ∙ ap word_number c.before.before.token.ensures)
+    ∙ desk_word a.t n (token_at a.t 1)
+    ∙ sym (cond_true _ _ (sym b.before.is-whole-decimal.ensures ∙ b.if1.true))
 
-returns-2 : tie.Need-returns-2
-unfolding numberLine
-returns-2 c =
-    c.wrong.ensures ∙ sym (cond-false _ _ (sym c.before.before.is-whole-decimal.ensures ∙ c.before.if1.false))
+returns_2 : tie.Need-returns-2
+unfolding number_line
+returns_2 c =
+    c.wrong.ensures ∙ sym (cond_false _ _ (sym c.before.before.is-whole-decimal.ensures ∙ c.before.if1.false))
 
-pub number-line-spec : {M : Type 1} → statement M
-number-line-spec =
+pub number_line_spec : {M : Type 1} → statement M
+number_line_spec =
     tie.close
     (tie.spec
     (λ c κs. search rules)
-    cast-deed-line
+    cast_deed_line
     (λ c κs. search rules)
     (λ c κs. search rules)
     (λ c κs. search rules)
     returns
     (λ c κs. search rules)
-    returns-2)
+    returns_2)

@@ -1,15 +1,15 @@
--- `open_fit` is `openFit`, part by part.
+-- `open_fit` is `open_fit`, part by part.
 use borrow.Author.Rules.{rules}
-use Rattle.wording.specs.Line.{openFit}
+use Rattle.wording.specs.Line.{open_fit}
 use Rattle.wording.proofs.line.open_fit.Statement.{statement}
 use Rattle.wording.proofs.line.open_fit.Tie as tie
 
 returns : tie.Need-returns
-unfolding openFit
+unfolding open_fit
 returns c = cc
 
-pub open-fit-spec : {M : Type 1} → statement M
-open-fit-spec =
+pub open_fit_spec : {M : Type 1} → statement M
+open_fit_spec =
     tie.close
     (tie.spec
     (λ c κs. search rules)

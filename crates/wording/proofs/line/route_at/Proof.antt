@@ -1,15 +1,15 @@
--- `route_at` is `routeAt`, part by part.
+-- `route_at` is `route_at`, part by part.
 use borrow.Author.Rules.{rules}
-use Rattle.wording.specs.Line.{routeAt}
+use Rattle.wording.specs.Line.{route_at}
 use Rattle.wording.proofs.line.route_at.Statement.{statement}
 use Rattle.wording.proofs.line.route_at.Tie as tie
 
 returns : tie.Need-returns
-unfolding routeAt
+unfolding route_at
 returns c = cc
 
-pub route-at-spec : {M : Type 1} → statement M
-route-at-spec =
+pub route_at_spec : {M : Type 1} → statement M
+route_at_spec =
     tie.close
     (tie.spec
     (λ c. search rules)

@@ -1,18 +1,18 @@
--- `whole_fit` is `wholeFit`, part by part.
+-- `whole_fit` is `whole_fit`, part by part.
 use mathlib.Core.Path.{ap, ◌∙◌}
 use mathlib.Core.Bool.{Bool}
 use borrow.Author.Rules.{rules}
 use Rattle.wording.specs.declared.line.Wanted.TheVariants.{Whole}
-use Rattle.wording.specs.Line.{wholeFit, fitUnless, isWhole}
+use Rattle.wording.specs.Line.{whole_fit, fit_unless, is_whole}
 use Rattle.wording.proofs.line.whole_fit.Statement.{statement}
 use Rattle.wording.proofs.line.whole_fit.Tie as tie
 
 returns : tie.Need-returns
-unfolding wholeFit
-returns c = c.fit-unless.ensures ∙ ap (λ (b : Bool). fitUnless b c.before.before.before.args.k Whole) (c.before.is_whole.ensures ∙ ap isWhole c.before.before.token.ensures)
+unfolding whole_fit
+returns c = c.fit-unless.ensures ∙ ap (λ (b : Bool). fit_unless b c.before.before.before.args.k Whole) (c.before.is_whole.ensures ∙ ap is_whole c.before.before.token.ensures)
 
-pub whole-fit-spec : {M : Type 1} → statement M
-whole-fit-spec =
+pub whole_fit_spec : {M : Type 1} → statement M
+whole_fit_spec =
     tie.close
     (tie.spec
     (λ c κs. search rules)

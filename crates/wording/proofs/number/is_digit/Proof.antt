@@ -1,4 +1,4 @@
--- `is_digit` is `isDigit`, its two tests in turn.
+-- `is_digit` is `is_digit`, its two tests in turn.
 use borrow.Author.Tests.{le-leb, lt-leb}
 use mathlib.Core.Path.{sym, ap}
 use mathlib.Core.Bool.{◌&&◌}
@@ -9,8 +9,8 @@ use Rattle.wording.proofs.number.is_digit.Tie as tie
 returns : tie.Need-returns
 returns c = let x = c.before.args.c in sym (ap (λ b. b && leb x 57) (lt-leb 48 x c.if1.true))
 
-returns-2 : tie.Need-returns-2
-returns-2 c = let x = c.before.args.c in sym (ap (λ b. b && leb x 57) (le-leb 48 x c.if1.false))
+returns_2 : tie.Need-returns-2
+returns_2 c = let x = c.before.args.c in sym (ap (λ b. b && leb x 57) (le-leb 48 x c.if1.false))
 
-pub is-digit-spec : {M : Type 1} → statement M
-is-digit-spec = tie.close (tie.spec returns returns-2)
+pub is_digit_spec : {M : Type 1} → statement M
+is_digit_spec = tie.close (tie.spec returns returns_2)

@@ -10,27 +10,27 @@ use Rattle.wording.specs.Number.{unread, scanned}
 use Rattle.wording.proofs.number.scan_from.Statement.{statement}
 use Rattle.wording.proofs.number.scan_from.Tie as tie
 
-abbrev invariant-loop : tie.invariant-loop
-invariant-loop word from s₀ i₀ s i = (i ≤ length word) × (scanned s (drop i word) ≡ scanned unread (drop from word))
+abbrev invariant_loop : tie.invariant_loop
+invariant_loop word from s₀ i₀ s i = (i ≤ length word) × (scanned s (drop i word) ≡ scanned unread (drop from word))
 
-abbrev decreases-loop : tie.decreases-loop
-decreases-loop word from s₀ i₀ s i = length word - i
+abbrev decreases_loop : tie.decreases_loop
+decreases_loop word from s₀ i₀ s i = length word - i
 
-loop-holds : tie.Need-loop-init invariant-loop decreases-loop
-loop-holds c = (c.before.requires, refl)
+loop_holds : tie.Need-loop-init invariant_loop decreases_loop
+loop_holds c = (c.before.requires, refl)
 
-shared-slice-read-with-byte : tie.Need-shared-slice-read-with-byte invariant-loop decreases-loop
-shared-slice-read-with-byte c = omega arith
+shared_slice_read_with_byte : tie.Need-shared-slice-read-with-byte invariant_loop decreases_loop
+shared_slice_read_with_byte c = omega arith
 
-add-i : tie.Need-overflow-add-i invariant-loop decreases-loop
-add-i c = omega arith
+add_i : tie.Need-overflow-add-i invariant_loop decreases_loop
+add_i c = omega arith
 
-loop-less : tie.Need-loop-smaller invariant-loop decreases-loop
-loop-less c = omega arith
+loop_less : tie.Need-loop-smaller invariant_loop decreases_loop
+loop_less c = omega arith
 
-loop-again : tie.Need-loop-preserved invariant-loop decreases-loop
+loop_again : tie.Need-loop-preserved invariant_loop decreases_loop
 unfolding scanned
-loop-again c =
+loop_again c =
     let l = c.before.before.before.loop in
     let word = c.before.before.before.before.before.args.word.now in
     let h = c.before.before.loop-test.true in (
@@ -38,22 +38,22 @@ loop-again c =
       (λ t. scanned (c.with_byte.ensures t) (drop (add-one l.i t) word)) ∙ sym (ap (scanned l.s) (drop-cons word l.i 0 h)) ∙ l.invariant.1,
     )
 
-returns : tie.Need-returns invariant-loop decreases-loop
+returns : tie.Need-returns invariant_loop decreases_loop
 unfolding scanned
 returns c =
     let l = c.before.loop in
     sym (ap (scanned l.s) (drop_of_length-le c.before.before.before.args.word.now c.loop-test.false)) ∙ l.invariant.1
 
-pub scan-from-spec : {M : Type 1} → statement M
-scan-from-spec =
+pub scan_from_spec : {M : Type 1} → statement M
+scan_from_spec =
     tie.close
     (tie.spec
-    invariant-loop
-    decreases-loop
-    loop-holds
-    shared-slice-read-with-byte
+    invariant_loop
+    decreases_loop
+    loop_holds
+    shared_slice_read_with_byte
     (λ c κs. search rules)
-    add-i
-    loop-less
-    loop-again
+    add_i
+    loop_less
+    loop_again
     returns)

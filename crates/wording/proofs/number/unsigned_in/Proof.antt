@@ -1,4 +1,4 @@
--- `unsigned_in` is `unsignedIn`: what is read byte by byte is the number (`read`).
+-- `unsigned_in` is `unsigned_in`: what is read byte by byte is the number (`read`).
 use borrow.Author.Rules.{rules}
 use mathlib.Core.Path.{ap, ◌∙◌}
 use Rattle.wording.specs.Number.{number_of}
@@ -11,5 +11,5 @@ returns c =
     let a = c.before.before.before.args in
     c.number_of_lem.ensures ∙ ap (number_of a.negative) c.before.scan-from.ensures ∙ read a.negative _
 
-pub unsigned-in-spec : {M : Type 1} → statement M
-unsigned-in-spec = tie.close (tie.spec (λ c κs. search rules) (λ c κs. search rules) returns)
+pub unsigned_in_spec : {M : Type 1} → statement M
+unsigned_in_spec = tie.close (tie.spec (λ c κs. search rules) (λ c κs. search rules) returns)

@@ -3,24 +3,24 @@
 use mathlib.Core.Path.{◌≡◌, refl, sym, ◌∙◌}
 use Prim.Native.Nat.{◌≤◌, ◌-◌}
 use borrow.Author.Rules.{rules}
-use Rattle.wording.proofs.words.Names.{no_name, untried, named, name-next, none_left}
+use Rattle.wording.proofs.words.Names.{no_name, untried, named, name_next, none_left}
 use Rattle.wording.proofs.token.name_in.Statement.{statement}
 use Rattle.wording.proofs.token.name_in.Tie as tie
 
-abbrev invariant-loop : tie.invariant-loop
-invariant-loop word k₀ k = (k ≤ 19) × (untried word 0 ≡ untried word k)
+abbrev invariant_loop : tie.invariant_loop
+invariant_loop word k₀ k = (k ≤ 19) × (untried word 0 ≡ untried word k)
 
-abbrev decreases-loop : tie.decreases-loop
-decreases-loop word k₀ k = 19 - k
+abbrev decreases_loop : tie.decreases_loop
+decreases_loop word k₀ k = 19 - k
 
-loop-holds : tie.Need-loop-init invariant-loop decreases-loop
-loop-holds c = (search rules, refl)
+loop_holds : tie.Need-loop-init invariant_loop decreases_loop
+loop_holds c = (search rules, refl)
 
-returns : tie.Need-returns invariant-loop decreases-loop
+returns : tie.Need-returns invariant_loop decreases_loop
 returns c = sym (no_name c.before.before.before.args.word.now (rw (← c.before.letter.ensures) c.if1.true))
 
-returns-2 : tie.Need-returns-2 invariant-loop decreases-loop
-returns-2 c =
+returns_2 : tie.Need-returns-2 invariant_loop decreases_loop
+returns_2 c =
     let n = c.before.before.before in
     let b = n.before in
     let l = b.before.loop in
@@ -29,34 +29,34 @@ returns-2 c =
     ∙ named b.before.before.before.before.before.args.word.now l.k b.loop-test.true n.name.ensures (sym c.before.is_name.ensures ∙ c.if2.true)
     )
 
-loop-again : tie.Need-loop-preserved invariant-loop decreases-loop
-loop-again c =
+loop_again : tie.Need-loop-preserved invariant_loop decreases_loop
+loop_again c =
     let n = c.before.before.before in
     let b = n.before in
     let l = b.before.loop in (
       search rules,
       l.invariant.1
-          ∙ name-next b.before.before.before.before.before.args.word.now l.k b.loop-test.true n.name.ensures (sym c.before.is_name.ensures ∙ c.if2.false),
+          ∙ name_next b.before.before.before.before.before.args.word.now l.k b.loop-test.true n.name.ensures (sym c.before.is_name.ensures ∙ c.if2.false),
     )
 
-returns-3 : tie.Need-returns-3 invariant-loop decreases-loop
-returns-3 c = sym (c.before.loop.invariant.1 ∙ none_left c.before.before.before.before.before.args.word.now c.before.loop.k c.loop-test.false)
+returns_3 : tie.Need-returns-3 invariant_loop decreases_loop
+returns_3 c = sym (c.before.loop.invariant.1 ∙ none_left c.before.before.before.before.before.args.word.now c.before.loop.k c.loop-test.false)
 
-pub name-in-spec : {M : Type 1} → statement M
-name-in-spec =
+pub name_in_spec : {M : Type 1} → statement M
+name_in_spec =
     tie.close
     (tie.spec
-    invariant-loop
-    decreases-loop
+    invariant_loop
+    decreases_loop
     (λ c κs. search rules)
     returns
-    loop-holds
+    loop_holds
     (λ c. search rules)
     (λ c κs. search rules)
     (λ c. search rules)
     (λ c κs. search rules)
-    returns-2
+    returns_2
     (λ c. search rules)
     (λ c. search rules)
-    loop-again
-    returns-3)
+    loop_again
+    returns_3)

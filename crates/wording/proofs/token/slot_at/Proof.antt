@@ -9,11 +9,11 @@ use Rattle.wording.specs.declared.token.Slot.{Slot}
 use Rattle.wording.proofs.token.slot_at.Statement.{statement}
 use Rattle.wording.proofs.token.slot_at.Tie as tie
 
-returns-2 : tie.Need-returns-2
-returns-2 c =
+returns_2 : tie.Need-returns-2
+returns_2 c =
     let a = c.before.args in
     let past : length a.t1 ≤ a.k = omega arith in
     sym (ap (λ (s : Slot). s.token) (get_or-eq_default a.t1 (record { token = End }) {n = a.k} past))
 
-pub slot-at-spec : {M : Type 1} → statement M
-slot-at-spec = tie.close (tie.spec (λ c. search rules) (λ c. search rules) (λ c. search rules) returns-2)
+pub slot_at_spec : {M : Type 1} → statement M
+slot_at_spec = tie.close (tie.spec (λ c. search rules) (λ c. search rules) (λ c. search rules) returns_2)

@@ -1,41 +1,41 @@
--- `token_in` is `tokenOf`, by what the name is.
+-- `token_in` is `token_of`, by what the name is.
 use mathlib.Core.Path.{sym, ap, ◌∙◌}
 use borrow.Author.Rules.{rules}
 use Rattle.wording.specs.declared.token.Token.{Token}
-use Rattle.wording.specs.Token.{numberOr, nameOr, tokenOf}
+use Rattle.wording.specs.Token.{number_or, name_or, token_of}
 use Rattle.wording.proofs.token.token_in.Statement.{statement}
 use Rattle.wording.proofs.token.token_in.Tie as tie
 
 returns : tie.Need-returns
-unfolding tokenOf
+unfolding token_of
 returns c =
     let b = c.before.before in
     let n = b.before.before in
     let w = n.before.before.args.word.now in
     c.number-or.ensures
-    ∙ ap numberOr c.before.number_in.ensures
-    ∙ sym (ap (λ (t : Token). nameOr t w) (sym n.name_in.ensures ∙ b.enum_told.given.1))
+    ∙ ap number_or c.before.number_in.ensures
+    ∙ sym (ap (λ (t : Token). name_or t w) (sym n.name_in.ensures ∙ b.enum_told.given.1))
 
-returns-2 : tie.Need-returns-2
-unfolding tokenOf
-returns-2 c =
+returns_2 : tie.Need-returns-2
+unfolding token_of
+returns_2 c =
     let n = c.before.before.before in
-    sym (ap (λ (t : Token). nameOr t n.before.before.args.word.now) (sym n.name_in.ensures ∙ c.before.name.given.1))
+    sym (ap (λ (t : Token). name_or t n.before.before.args.word.now) (sym n.name_in.ensures ∙ c.before.name.given.1))
 
-returns-3 : tie.Need-returns-3
-unfolding tokenOf
-returns-3 c =
+returns_3 : tie.Need-returns-3
+unfolding token_of
+returns_3 c =
     let n = c.before.before.before in
-    sym (ap (λ (t : Token). nameOr t n.before.before.args.word.now) (sym n.name_in.ensures ∙ c.before.name2.given.1))
+    sym (ap (λ (t : Token). name_or t n.before.before.args.word.now) (sym n.name_in.ensures ∙ c.before.name2.given.1))
 
-returns-4 : tie.Need-returns-4
-unfolding tokenOf
-returns-4 c =
+returns_4 : tie.Need-returns-4
+unfolding token_of
+returns_4 c =
     let n = c.before.before in
-    sym (ap (λ (t : Token). nameOr t n.before.before.args.word.now) (sym n.name_in.ensures ∙ c.enum-told2.given.1))
+    sym (ap (λ (t : Token). name_or t n.before.before.args.word.now) (sym n.name_in.ensures ∙ c.enum-told2.given.1))
 
-pub token-in-spec : {M : Type 1} → statement M
-token-in-spec =
+pub token_in_spec : {M : Type 1} → statement M
+token_in_spec =
     tie.close
     (tie.spec
     (λ c κs. search rules)
@@ -46,6 +46,6 @@ token-in-spec =
     (λ c. search rules)
     (λ c. search rules)
     returns
-    returns-2
-    returns-3
-    returns-4)
+    returns_2
+    returns_3
+    returns_4)

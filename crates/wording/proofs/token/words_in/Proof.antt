@@ -7,24 +7,24 @@ use native.Mathlib.Omega.{arith}
 use borrow.Author.Rules.{rules}
 use lib.ListN.{length, set}
 use Rattle.wording.specs.declared.token.Token.{Token}
-use Rattle.wording.proofs.words.Splits.{Filled, filled, Read, nothing_read, no_word, word_read, slots-full, all_read}
+use Rattle.wording.proofs.words.Splits.{Filled, filled, Read, nothing_read, no_word, word_read, slots_full, all_read}
 use Rattle.wording.proofs.token.words_in.Statement.{statement}
 use Rattle.wording.proofs.token.words_in.Tie as tie
 
-abbrev invariant-loop : tie.invariant-loop
-invariant-loop line slots₀ n₀ at₀ slots n at = Read line (filled slots n) at
+abbrev invariant_loop : tie.invariant_loop
+invariant_loop line slots₀ n₀ at₀ slots n at = Read line (filled slots n) at
 
-abbrev decreases-loop : tie.decreases-loop
-decreases-loop line slots₀ n₀ at₀ slots n at = length line - at
+abbrev decreases_loop : tie.decreases_loop
+decreases_loop line slots₀ n₀ at₀ slots n at = length line - at
 
-loop-holds : tie.Need-loop-init invariant-loop decreases-loop
-loop-holds c = nothing_read c.before.args.line.now
+loop_holds : tie.Need-loop-init invariant_loop decreases_loop
+loop_holds c = nothing_read c.before.args.line.now
 
-returns : tie.Need-returns invariant-loop decreases-loop
-returns c = slots-full c.before.before.before.before.loop.invariant c.if2.true
+returns : tie.Need-returns invariant_loop decreases_loop
+returns c = slots_full c.before.before.before.before.loop.invariant c.if2.true
 
-loop-again : tie.Need-loop-preserved invariant-loop decreases-loop
-loop-again c =
+loop_again : tie.Need-loop-preserved invariant_loop decreases_loop
+loop_again c =
     let b = c.before in
     let l = b.before.before.loop in
     let end = b.word_end.result in
@@ -36,16 +36,16 @@ loop-again c =
     (λ w. rw (w.1, w.2) (no_word l.invariant end ends.1 w.0.left))
     c.if1.branch
 
-returns-2 : tie.Need-returns-2 invariant-loop decreases-loop
-returns-2 c = all_read c.before.loop.invariant c.loop-test.false
+returns_2 : tie.Need-returns-2 invariant_loop decreases_loop
+returns_2 c = all_read c.before.loop.invariant c.loop-test.false
 
-pub words-in-spec : {M : Type 1} → statement M
-words-in-spec =
+pub words_in_spec : {M : Type 1} → statement M
+words_in_spec =
     tie.close
     (tie.spec
-    invariant-loop
-    decreases-loop
-    loop-holds
+    invariant_loop
+    decreases_loop
+    loop_holds
     (λ c κs. search rules)
     returns
     (λ c. search rules)
@@ -57,5 +57,5 @@ words-in-spec =
     (λ c. search rules)
     (λ c. search rules)
     (λ c. search rules)
-    loop-again
-    returns-2)
+    loop_again
+    returns_2)

@@ -1,41 +1,41 @@
--- `edit_written` is `editWritten`, by the case that the edit is.
+-- `edit_written` is `edit_written`, by the case that the edit is.
 use mathlib.Core.Path.{sym, ap, ◌∙◌}
 use borrow.Author.Rules.{rules}
-use Rattle.wording.specs.Written.{editWritten}
+use Rattle.wording.specs.Written.{edit_written}
 use Rattle.worksheet.specs.declared.inputs.Edit.TheVariants as edit
 use Rattle.wording.proofs.written.edit_written.Statement.{statement}
 use Rattle.wording.proofs.written.edit_written.Tie as tie
 
 returns : tie.Need-returns
-unfolding editWritten
-returns c = ap edit.Sunspot c.float_of.ensures ∙ sym (ap editWritten c.before.before.e.given.1)
+unfolding edit_written
+returns c = ap edit.Sunspot c.float_of.ensures ∙ sym (ap edit_written c.before.before.e.given.1)
 
-returns-2 : tie.Need-returns-2
-unfolding editWritten
-returns-2 c = ap edit.Hour c.float-of2.ensures ∙ sym (ap editWritten c.before.before.e2.given.1)
+returns_2 : tie.Need-returns-2
+unfolding edit_written
+returns_2 c = ap edit.Hour c.float-of2.ensures ∙ sym (ap edit_written c.before.before.e2.given.1)
 
-returns-3 : tie.Need-returns-3
-unfolding editWritten
-returns-3 c = ap edit.Path c.route-written.ensures ∙ sym (ap editWritten c.before.before.e3.given.1)
+returns_3 : tie.Need-returns-3
+unfolding edit_written
+returns_3 c = ap edit.Path c.route-written.ensures ∙ sym (ap edit_written c.before.before.e3.given.1)
 
-returns-4 : tie.Need-returns-4
-unfolding editWritten
-returns-4 c = ap edit.Psc c.factors-written.ensures ∙ sym (ap editWritten c.before.before.e4.given.1)
+returns_4 : tie.Need-returns-4
+unfolding edit_written
+returns_4 c = ap edit.Psc c.factors-written.ensures ∙ sym (ap edit_written c.before.before.e4.given.1)
 
-returns-5 : tie.Need-returns-5
-unfolding editWritten
-returns-5 c = ap edit.Pole c.pole-written.ensures ∙ sym (ap editWritten c.before.before.e5.given.1)
+returns_5 : tie.Need-returns-5
+unfolding edit_written
+returns_5 c = ap edit.Pole c.pole-written.ensures ∙ sym (ap edit_written c.before.before.e5.given.1)
 
-returns-6 : tie.Need-returns-6
-unfolding editWritten
-returns-6 c = sym (ap editWritten c.before.e6.given.1)
+returns_6 : tie.Need-returns-6
+unfolding edit_written
+returns_6 c = sym (ap edit_written c.before.e6.given.1)
 
-returns-7 : tie.Need-returns-7
-unfolding editWritten
-returns-7 c = sym (ap editWritten c.before.e7.given.1)
+returns_7 : tie.Need-returns-7
+unfolding edit_written
+returns_7 c = sym (ap edit_written c.before.e7.given.1)
 
-pub edit-written-spec : {M : Type 1} → statement M
-edit-written-spec =
+pub edit_written_spec : {M : Type 1} → statement M
+edit_written_spec =
     tie.close
     (tie.spec
     (λ c. search rules)
@@ -51,9 +51,9 @@ edit-written-spec =
     (λ c. search rules)
     (λ c. search rules)
     returns
-    returns-2
-    returns-3
-    returns-4
-    returns-5
-    returns-6
-    returns-7)
+    returns_2
+    returns_3
+    returns_4
+    returns_5
+    returns_6
+    returns_7)

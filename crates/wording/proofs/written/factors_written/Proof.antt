@@ -1,15 +1,15 @@
--- `factors_written` is `factorsWritten`, field by field.
+-- `factors_written` is `factors_written`, field by field.
 use borrow.Author.Rules.{rules}
-use Rattle.wording.specs.Written.{factorsWritten}
+use Rattle.wording.specs.Written.{factors_written}
 use Rattle.wording.proofs.written.factors_written.Statement.{statement}
 use Rattle.wording.proofs.written.factors_written.Tie as tie
 
 returns : tie.Need-returns
-unfolding factorsWritten
+unfolding factors_written
 returns c = cc
 
-pub factors-written-spec : {M : Type 1} → statement M
-factors-written-spec =
+pub factors_written_spec : {M : Type 1} → statement M
+factors_written_spec =
     tie.close
     (tie.spec
     (λ c κs. search rules)

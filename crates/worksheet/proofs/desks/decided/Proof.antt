@@ -10,15 +10,15 @@ returns : tie.Need-returns
 unfolding outcome
 returns c = let a = c.before.before.args in sym (ap (λ (v : Verdict). outcome v a.after a.w) c.enum_told.given.1)
 
-returns-2 : tie.Need-returns-2
+returns_2 : tie.Need-returns-2
 unfolding outcome
-returns-2 c = let a = c.before.before.before.args in sym (ap (λ (v : Verdict). outcome v a.after a.w) c.before.verdict.given.1)
+returns_2 c = let a = c.before.before.before.args in sym (ap (λ (v : Verdict). outcome v a.after a.w) c.before.verdict.given.1)
 
-pub decided-spec : {M : Type 1} → statement M
-decided-spec =
+pub decided_spec : {M : Type 1} → statement M
+decided_spec =
     tie.close
     (tie.spec
     (λ c. search rules)
     (λ c. search rules)
     returns
-    returns-2)
+    returns_2)

@@ -1,15 +1,15 @@
--- `fresh_sheet` is `freshSheet`, field by field.
+-- `fresh_sheet` is `fresh_sheet`, field by field.
 use mathlib.Core.Path.{refl}
-use Rattle.worksheet.specs.Desks.{freshSheet}
+use Rattle.worksheet.specs.Desks.{fresh_sheet}
 use Rattle.worksheet.proofs.desks.fresh_sheet.Statement.{statement}
 use Rattle.worksheet.proofs.desks.fresh_sheet.Tie as tie
 
 returns : tie.Need-returns
-unfolding freshSheet
+unfolding fresh_sheet
 returns c = refl
 
-pub fresh-sheet-spec : {M : Type 1} → statement M
-fresh-sheet-spec =
+pub fresh_sheet_spec : {M : Type 1} → statement M
+fresh_sheet_spec =
     tie.close
     (tie.spec
     returns)

@@ -1,15 +1,15 @@
--- `with_draft` is `withDraft`, desk by desk, by what `pick` ensures.
+-- `with_draft` is `with_draft`, desk by desk, by what `pick` ensures.
 use borrow.Author.Rules.{rules}
-use Rattle.worksheet.specs.Desks.{withDraft}
+use Rattle.worksheet.specs.Desks.{with_draft}
 use Rattle.worksheet.proofs.desks.with_draft.Statement.{statement}
 use Rattle.worksheet.proofs.desks.with_draft.Tie as tie
 
 returns : tie.Need-returns
-unfolding withDraft
+unfolding with_draft
 returns c = cc
 
-pub with-draft-spec : {M : Type 1} → statement M
-with-draft-spec =
+pub with_draft_spec : {M : Type 1} → statement M
+with_draft_spec =
     tie.close
     (tie.spec
     (λ c κs. search rules)

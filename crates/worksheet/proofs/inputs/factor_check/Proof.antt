@@ -1,18 +1,18 @@
--- `factor_check` is `factorCheck`: the ends of the range are the decimals, by computation.
+-- `factor_check` is `factor_check`: the ends of the range are the decimals, by computation.
 use borrow.Author.Rules.{rules}
 use lib.Ieee.{of_bits, round}
 use Rattle.base.specs.Single.{decimal}
-use Rattle.worksheet.specs.Inputs.{factorCheck}
-use Rattle.base.proofs.verdicts.Refusals.{by-test}
+use Rattle.worksheet.specs.Inputs.{factor_check}
+use Rattle.base.proofs.verdicts.Refusals.{by_test}
 use Rattle.worksheet.proofs.inputs.factor_check.Statement.{statement}
 use Rattle.worksheet.proofs.inputs.factor_check.Tie as tie
 
 returns : tie.Need-returns
-unfolding factorCheck decimal round of_bits
-returns c = by-test _ c.refuse-unless.ensures c.before.is-to.ensures
+unfolding factor_check decimal round of_bits
+returns c = by_test _ c.refuse-unless.ensures c.before.is_to_law.ensures
 
-pub factor-check-spec : {M : Type 1} → statement M
-factor-check-spec =
+pub factor_check_spec : {M : Type 1} → statement M
+factor_check_spec =
     tie.close
     (tie.spec
     (λ c κs. search rules)

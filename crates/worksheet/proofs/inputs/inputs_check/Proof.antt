@@ -1,13 +1,13 @@
--- `inputs_check` is `inputsCheck`: each verdict is its definition's, by what the calls ensure.
+-- `inputs_check` is `inputs_check`: each verdict is its definition's, by what the calls ensure.
 use borrow.Author.Rules.{rules}
 use mathlib.Core.Path.{ap₂, ◌∙◌}
 use Rattle.base.specs.Refusal.{◌then◌}
-use Rattle.worksheet.specs.Inputs.{inputsCheck}
+use Rattle.worksheet.specs.Inputs.{inputs_check}
 use Rattle.worksheet.proofs.inputs.inputs_check.Statement.{statement}
 use Rattle.worksheet.proofs.inputs.inputs_check.Tie as tie
 
 returns : tie.Need-returns
-unfolding inputsCheck
+unfolding inputs_check
 returns c =
     let hour = c.before.before.before.before in
     let route = hour.before.before in
@@ -19,8 +19,8 @@ returns c =
     let from-sunspot = c.before.then5.ensures ∙ ap₂ ◌then◌ c.before.before.sunspot-check.ensures from-hour in
     c.then6.ensures ∙ ap₂ ◌then◌ c.before.before.before.month-check.ensures from-sunspot
 
-pub inputs-check-spec : {M : Type 1} → statement M
-inputs-check-spec =
+pub inputs_check_spec : {M : Type 1} → statement M
+inputs_check_spec =
     tie.close
     (tie.spec
     (λ c κs. search rules)

@@ -8,5 +8,5 @@ returns : tie.Need-returns
 unfolding edited
 returns c = refl
 
-pub with-hour-spec : {M : Type 1} → statement M
-with-hour-spec = tie.close (tie.spec returns)
+pub with_hour_spec : {M : Type 1} → statement M
+with_hour_spec = tie.close (tie.spec returns)

@@ -8,5 +8,5 @@ returns : tie.Need-returns
 unfolding edited
 returns c = refl
 
-pub with-model-spec : {M : Type 1} → statement M
-with-model-spec = tie.close (tie.spec returns)
+pub with_model_spec : {M : Type 1} → statement M
+with_model_spec = tie.close (tie.spec returns)

@@ -8,5 +8,5 @@ returns : tie.Need-returns
 unfolding edited
 returns c = refl
 
-pub with-month-spec : {M : Type 1} → statement M
-with-month-spec = tie.close (tie.spec returns)
+pub with_month_spec : {M : Type 1} → statement M
+with_month_spec = tie.close (tie.spec returns)

@@ -8,5 +8,5 @@ returns : tie.Need-returns
 unfolding edited
 returns c = refl
 
-pub with-path-spec : {M : Type 1} → statement M
-with-path-spec = tie.close (tie.spec returns)
+pub with_path_spec : {M : Type 1} → statement M
+with_path_spec = tie.close (tie.spec returns)

@@ -8,5 +8,5 @@ returns : tie.Need-returns
 unfolding edited
 returns c = refl
 
-pub with-pole-spec : {M : Type 1} → statement M
-with-pole-spec = tie.close (tie.spec returns)
+pub with_pole_spec : {M : Type 1} → statement M
+with_pole_spec = tie.close (tie.spec returns)

@@ -8,5 +8,5 @@ returns : tie.Need-returns
 unfolding edited
 returns c = refl
 
-pub with-psc-spec : {M : Type 1} → statement M
-with-psc-spec = tie.close (tie.spec returns)
+pub with_psc_spec : {M : Type 1} → statement M
+with_psc_spec = tie.close (tie.spec returns)

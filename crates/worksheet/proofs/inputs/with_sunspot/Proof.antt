@@ -8,5 +8,5 @@ returns : tie.Need-returns
 unfolding edited
 returns c = refl
 
-pub with-sunspot-spec : {M : Type 1} → statement M
-with-sunspot-spec = tie.close (tie.spec returns)
+pub with_sunspot_spec : {M : Type 1} → statement M
+with_sunspot_spec = tie.close (tie.spec returns)

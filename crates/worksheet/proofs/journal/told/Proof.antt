@@ -8,5 +8,5 @@ returns : tie.Need-returns
 unfolding next_of
 returns c = refl
 
-pub told-spec : {M : Type 1} → statement M
-told-spec = tie.close (tie.spec returns)
+pub told_spec : {M : Type 1} → statement M
+told_spec = tie.close (tie.spec returns)

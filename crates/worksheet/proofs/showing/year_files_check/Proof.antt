@@ -1,9 +1,9 @@
--- `year_files_check` is `yearFilesCheck`: the two words' verdict, the year's, then that of the two
+-- `year_files_check` is `year_files_check`: the two words' verdict, the year's, then that of the two
 -- parts, by what its calls ensure.
 use borrow.Author.Rules.{rules}
 use mathlib.Core.Path.{ap₂, ◌∙◌}
 use Rattle.base.specs.Refusal.{◌then◌}
-use Rattle.worksheet.proofs.checks.Showings.{year-files}
+use Rattle.worksheet.proofs.checks.Showings.{year_files_law}
 use Rattle.worksheet.proofs.showing.year_files_check.Statement.{statement}
 use Rattle.worksheet.proofs.showing.year_files_check.Tie as tie
 
@@ -17,11 +17,11 @@ returns c =
     let files = c.before.then3.ensures ∙ ap₂ ◌then◌ check c.before.before.files-check.ensures in
     c.then4.ensures
     ∙ ap₂ ◌then◌ words files
-    ∙ year-files a.year.now a.month a.model u.before.before.before.year-model.ensures.bytes
+    ∙ year_files_law a.year.now a.month a.model u.before.before.before.year-model.ensures.bytes
     c.before.before.before.before.month-record.ensures.bytes c.before.before.before.year-month.ensures.bytes
 
-pub year-files-check-spec : {M : Type 1} → statement M
-year-files-check-spec =
+pub year_files_check_spec : {M : Type 1} → statement M
+year_files_check_spec =
     tie.close
     (tie.spec
     (λ c κs. search rules)

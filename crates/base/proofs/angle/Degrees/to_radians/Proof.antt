@@ -3,13 +3,13 @@ use Rattle.std.proofs.Common.{refl}
 use lib.Ieee.{round, of_bits}
 use Rattle.base.specs.Single.{decimal}
 use Rattle.base.specs.Constants.{D2R}
-use Rattle.base.specs.Angle.{radiansOf}
+use Rattle.base.specs.Angle.{radians_of}
 use Rattle.base.proofs.angle.Degrees.to_radians.Statement.{statement}
 use Rattle.base.proofs.angle.Degrees.to_radians.Tie as tie
 
 returns : tie.Need-returns
-unfolding radiansOf D2R decimal round of_bits
+unfolding radians_of D2R decimal round of_bits
 returns c = refl
 
-pub to-radians-spec : {M : Type 1} → statement M
-to-radians-spec = tie.close (tie.spec returns)
+pub to_radians_spec : {M : Type 1} → statement M
+to_radians_spec = tie.close (tie.spec returns)

@@ -3,13 +3,13 @@ use Rattle.std.proofs.Common.{refl}
 use lib.Ieee.{round, of_bits}
 use Rattle.base.specs.Single.{decimal}
 use Rattle.base.specs.Constants.{R2D}
-use Rattle.base.specs.Angle.{degreesOf}
+use Rattle.base.specs.Angle.{degrees_of}
 use Rattle.base.proofs.angle.Radians.to_degrees.Statement.{statement}
 use Rattle.base.proofs.angle.Radians.to_degrees.Tie as tie
 
 returns : tie.Need-returns
-unfolding degreesOf R2D decimal round of_bits
+unfolding degrees_of R2D decimal round of_bits
 returns c = refl
 
-pub to-degrees-spec : {M : Type 1} → statement M
-to-degrees-spec = tie.close (tie.spec returns)
+pub to_degrees_spec : {M : Type 1} → statement M
+to_degrees_spec = tie.close (tie.spec returns)

@@ -6,8 +6,8 @@ use Rattle.base.proofs.refusal.Refusal.number.Tie as tie
 returns : tie.Need-returns
 returns c = ap (λ (p : ℕ × ℕ). p.0) c.report.ensures
 
-pub number-spec : {M : Type 1} → statement M
-number-spec =
+pub number_spec : {M : Type 1} → statement M
+number_spec =
     tie.close
     (tie.spec
     (λ c κs. search rules)

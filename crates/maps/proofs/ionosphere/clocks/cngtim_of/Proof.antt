@@ -1,20 +1,20 @@
--- `cngtim_of` is `cngtimOf`, by whether the longitude is 0: if not, its calls are rewritten by what
+-- `cngtim_of` is `cngtim_of`, by whether the longitude is 0: if not, its calls are rewritten by what
 -- they ensure.
 use Rattle.std.proofs.Common.{sym, rules}
 use lib.Ieee.{of_bits, round}
 use Rattle.base.specs.Single.{decimal}
-use Rattle.base.proofs.verdicts.Picks.{cond-true, cond-false}
-use Rattle.maps.specs.Clocks.{cngtimOf}
+use Rattle.base.proofs.verdicts.Picks.{cond_true, cond_false}
+use Rattle.maps.specs.Clocks.{cngtim_of}
 use Rattle.maps.proofs.ionosphere.clocks.cngtim_of.Statement.{statement}
 use Rattle.maps.proofs.ionosphere.clocks.cngtim_of.Tie as tie
 
 returns : tie.Need-returns
-unfolding cngtimOf decimal round of_bits
-returns c = sym (cond-true _ _ c.if1.true)
+unfolding cngtim_of decimal round of_bits
+returns c = sym (cond_true _ _ c.if1.true)
 
-returns-2 : tie.Need-returns-2
-unfolding cngtimOf decimal round of_bits
-returns-2 c =
+returns_2 : tie.Need-returns-2
+unfolding cngtim_of decimal round of_bits
+returns_2 c =
     rw (
       c.cngday-of.ensures,
       c.before.wrapped.ensures,
@@ -22,10 +22,10 @@ returns-2 c =
       c.before.before.before.after-shift.ensures,
       c.before.before.before.before.theta-of.ensures,
     )
-    (sym (cond-false _ _ c.before.before.before.before.before.if1.false))
+    (sym (cond_false _ _ c.before.before.before.before.before.if1.false))
 
-pub cngtim-of-spec : {M : Type 1} → statement M
-cngtim-of-spec =
+pub cngtim_of_spec : {M : Type 1} → statement M
+cngtim_of_spec =
     tie.close
     (tie.spec
     returns
@@ -34,4 +34,4 @@ cngtim-of-spec =
     (λ c κs. search rules)
     (λ c κs. search rules)
     (λ c κs. search rules)
-    returns-2)
+    returns_2)

@@ -1,11 +1,11 @@
--- `geotim` is `timesOf`: its calls are rewritten by what they ensure.
+-- `geotim` is `times_of`: its calls are rewritten by what they ensure.
 use Rattle.std.proofs.Common.{rules}
-use Rattle.maps.specs.Clocks.{timesOf}
+use Rattle.maps.specs.Clocks.{times_of}
 use Rattle.maps.proofs.ionosphere.clocks.geotim.Statement.{statement}
 use Rattle.maps.proofs.ionosphere.clocks.geotim.Tie as tie
 
 returns : tie.Need-returns
-unfolding timesOf
+unfolding times_of
 returns c =
     rw (
       c.times-if.ensures,
@@ -15,8 +15,8 @@ returns c =
       c.before.before.before.before.to_radians.ensures,
     )
 
-pub geotim-spec : {M : Type 1} → statement M
-geotim-spec =
+pub geotim_spec : {M : Type 1} → statement M
+geotim_spec =
     tie.close
     (tie.spec
     (λ c κs. search rules)

@@ -1,11 +1,11 @@
--- `geotim_of` is `geotimOf`, by whether the hour is local, and by what its calls ensure.
+-- `geotim_of` is `geotim_of`, by whether the hour is local, and by what its calls ensure.
 use Rattle.std.proofs.Common.{Bool, sym, ap, rules}
-use Rattle.maps.specs.Clocks.{geotimOf}
+use Rattle.maps.specs.Clocks.{geotim_of}
 use Rattle.maps.proofs.ionosphere.clocks.geotim_of.Statement.{statement}
 use Rattle.maps.proofs.ionosphere.clocks.geotim_of.Tie as tie
 
 returns : tie.Need-returns
-unfolding geotimOf
+unfolding geotim_of
 returns c =
     let a = c.before.before.before.before.args in
     rw (
@@ -13,21 +13,21 @@ returns c =
       c.before.time-at.ensures,
       c.before.before.before.nearest-u32-to-f32.ensures,
     )
-    (sym (ap (λ (b : Bool). geotimOf a.jt b a.tlong a.rlong) c.before.before.if1.true))
+    (sym (ap (λ (b : Bool). geotim_of a.jt b a.tlong a.rlong) c.before.before.if1.true))
 
-returns-2 : tie.Need-returns-2
-unfolding geotimOf
-returns-2 c =
+returns_2 : tie.Need-returns-2
+unfolding geotim_of
+returns_2 c =
     let a = c.before.before.before.before.args in
     rw (
       c.time-at4.ensures,
       c.before.time-at3.ensures,
       c.before.before.before.nearest-u32-to-f32.ensures,
     )
-    (sym (ap (λ (b : Bool). geotimOf a.jt b a.tlong a.rlong) c.before.before.if1.false))
+    (sym (ap (λ (b : Bool). geotim_of a.jt b a.tlong a.rlong) c.before.before.if1.false))
 
-pub geotim-of-spec : {M : Type 1} → statement M
-geotim-of-spec =
+pub geotim_of_spec : {M : Type 1} → statement M
+geotim_of_spec =
     tie.close
     (tie.spec
     (λ c κs. search rules)
@@ -36,4 +36,4 @@ geotim-of-spec =
     returns
     (λ c κs. search rules)
     (λ c κs. search rules)
-    returns-2)
+    returns_2)

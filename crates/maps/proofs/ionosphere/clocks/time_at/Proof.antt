@@ -1,15 +1,15 @@
--- `time_at` is `timeAt`: its calls are rewritten by what they ensure.
+-- `time_at` is `time_at`: its calls are rewritten by what they ensure.
 use Rattle.std.proofs.Common.{rules}
-use Rattle.maps.specs.Clocks.{timeAt}
+use Rattle.maps.specs.Clocks.{time_at}
 use Rattle.maps.proofs.ionosphere.clocks.time_at.Statement.{statement}
 use Rattle.maps.proofs.ionosphere.clocks.time_at.Tie as tie
 
 returns : tie.Need-returns
-unfolding timeAt
+unfolding time_at
 returns c = rw (c.cngtim-of.ensures, c.before.to_degrees.ensures)
 
-pub time-at-spec : {M : Type 1} → statement M
-time-at-spec =
+pub time_at_spec : {M : Type 1} → statement M
+time_at_spec =
     tie.close
     (tie.spec
     (λ c κs. search rules)

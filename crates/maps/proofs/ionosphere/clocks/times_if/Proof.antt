@@ -1,22 +1,22 @@
 -- `times_if` answers the hours or the refusal that the verdict says: by the verdict's two cases.
 use Rattle.std.proofs.Common.{sym, ap, rules}
 use Rattle.base.specs.declared.refusal.Verdict.{Verdict}
-use Rattle.base.specs.Refusal.{unlessRefused}
+use Rattle.base.specs.Refusal.{unless_refused}
 use Rattle.maps.specs.declared.ionosphere.clocks.Times.TheVariants.{Hours, Refused as NoTimes}
 use Rattle.maps.proofs.ionosphere.clocks.times_if.Statement.{statement}
 use Rattle.maps.proofs.ionosphere.clocks.times_if.Tie as tie
 
 returns : tie.Need-returns
-returns c = sym (ap (λ (v : Verdict). unlessRefused v (Hours c.before.before.args.hours) NoTimes) c.enum_told.given.1)
+returns c = sym (ap (λ (v : Verdict). unless_refused v (Hours c.before.before.args.hours) NoTimes) c.enum_told.given.1)
 
-returns-2 : tie.Need-returns-2
-returns-2 c = sym (ap (λ (v : Verdict). unlessRefused v (Hours c.before.before.before.args.hours) NoTimes) c.before.verdict.given.1)
+returns_2 : tie.Need-returns-2
+returns_2 c = sym (ap (λ (v : Verdict). unless_refused v (Hours c.before.before.before.args.hours) NoTimes) c.before.verdict.given.1)
 
-pub times-if-spec : {M : Type 1} → statement M
-times-if-spec =
+pub times_if_spec : {M : Type 1} → statement M
+times_if_spec =
     tie.close
     (tie.spec
     (λ c. search rules)
     (λ c. search rules)
     returns
-    returns-2)
+    returns_2)

@@ -10,5 +10,5 @@ returns : tie.Need-returns
 unfolding whole_of
 returns c = c.from-i32.ensures ∙ ap (of_int binary32) (signed_word c.before.before.args.x _ c.before.to-i32.ensures)
 
-pub whole-of-spec : {M : Type 1} → statement M
-whole-of-spec = tie.close (tie.spec (λ c κs. search rules) (λ c κs. search rules) returns)
+pub whole_of_spec : {M : Type 1} → statement M
+whole_of_spec = tie.close (tie.spec (λ c κs. search rules) (λ c κs. search rules) returns)

@@ -2,13 +2,13 @@
 use Rattle.std.proofs.Common.{rules}
 use lib.Ieee.{round, of_bits}
 use Rattle.base.specs.Single.{decimal}
-use Rattle.maps.specs.Layers.{atLeastXf1}
+use Rattle.maps.specs.Layers.{at_least_xf1}
 use Rattle.maps.proofs.ionosphere.layers.at_least_xf1.Statement.{statement}
 use Rattle.maps.proofs.ionosphere.layers.at_least_xf1.Tie as tie
 
 returns : tie.Need-returns
-unfolding atLeastXf1 decimal round of_bits
+unfolding at_least_xf1 decimal round of_bits
 returns c = c.max.ensures
 
-pub at-least-xf1-spec : {M : Type 1} → statement M
-at-least-xf1-spec = tie.close (tie.spec (λ c κs. search rules) returns)
+pub at_least_xf1_spec : {M : Type 1} → statement M
+at_least_xf1_spec = tie.close (tie.spec (λ c κs. search rules) returns)

@@ -2,13 +2,13 @@
 use Rattle.std.proofs.Common.{rules}
 use lib.Ieee.{round, of_bits}
 use Rattle.base.specs.Single.{decimal}
-use Rattle.maps.specs.Layers.{belowF2}
+use Rattle.maps.specs.Layers.{below_f2}
 use Rattle.maps.proofs.ionosphere.layers.below_f2.Statement.{statement}
 use Rattle.maps.proofs.ionosphere.layers.below_f2.Tie as tie
 
 returns : tie.Need-returns
-unfolding belowF2 decimal round of_bits
+unfolding below_f2 decimal round of_bits
 returns c = rw c.min.ensures
 
-pub below-f2-spec : {M : Type 1} → statement M
-below-f2-spec = tie.close (tie.spec (λ c κs. search rules) returns)
+pub below_f2_spec : {M : Type 1} → statement M
+below_f2_spec = tie.close (tie.spec (λ c κs. search rules) returns)

@@ -1,11 +1,11 @@
 -- `ef1_of` hands one zenith angle, its cosine and one `zenmax` to both layers and on.
 use Rattle.std.proofs.Common.{rules}
-use Rattle.maps.specs.Layers.{ef1Of}
+use Rattle.maps.specs.Layers.{ef1_of}
 use Rattle.maps.proofs.ionosphere.layers.ef1_of.Statement.{statement}
 use Rattle.maps.proofs.ionosphere.layers.ef1_of.Tie as tie
 
 returns : tie.Need-returns
-unfolding ef1Of
+unfolding ef1_of
 returns c =
     rw (
       c.f1-layer.ensures,
@@ -16,8 +16,8 @@ returns c =
       c.before.before.before.before.before.before.before.abs32.ensures,
     )
 
-pub ef1-of-spec : {M : Type 1} → statement M
-ef1-of-spec =
+pub ef1_of_spec : {M : Type 1} → statement M
+ef1_of_spec =
     tie.close
     (tie.spec
     (λ c κs. search rules)

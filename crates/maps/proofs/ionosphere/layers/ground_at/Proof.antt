@@ -2,18 +2,18 @@
 use Rattle.std.proofs.Common.{sym}
 use lib.Ieee.{round, of_bits}
 use Rattle.base.specs.Single.{decimal}
-use Rattle.maps.specs.Layers.{groundAt}
-use Rattle.base.proofs.verdicts.Picks.{cond-true, cond-false}
+use Rattle.maps.specs.Layers.{ground_at}
+use Rattle.base.proofs.verdicts.Picks.{cond_true, cond_false}
 use Rattle.maps.proofs.ionosphere.layers.ground_at.Statement.{statement}
 use Rattle.maps.proofs.ionosphere.layers.ground_at.Tie as tie
 
 returns : tie.Need-returns
-unfolding groundAt decimal round of_bits
-returns c = sym (cond-true _ _ c.if1.true)
+unfolding ground_at decimal round of_bits
+returns c = sym (cond_true _ _ c.if1.true)
 
-returns-2 : tie.Need-returns-2
-unfolding groundAt decimal round of_bits
-returns-2 c = sym (cond-false _ _ c.if1.false)
+returns_2 : tie.Need-returns-2
+unfolding ground_at decimal round of_bits
+returns_2 c = sym (cond_false _ _ c.if1.false)
 
-pub ground-at-spec : {M : Type 1} → statement M
-ground-at-spec = tie.close (tie.spec returns returns-2)
+pub ground_at_spec : {M : Type 1} → statement M
+ground_at_spec = tie.close (tie.spec returns returns_2)

@@ -2,12 +2,12 @@
 use Rattle.std.proofs.Common.{rules}
 use lib.Ieee.{round, of_bits}
 use Rattle.base.specs.Single.{decimal}
-use Rattle.maps.specs.Layers.{layersOf}
+use Rattle.maps.specs.Layers.{layers_of}
 use Rattle.maps.proofs.ionosphere.layers.layer_parameters.Statement.{statement}
 use Rattle.maps.proofs.ionosphere.layers.layer_parameters.Tie as tie
 
 returns : tie.Need-returns
-unfolding layersOf decimal round of_bits
+unfolding layers_of decimal round of_bits
 returns c =
     rw (
       c.before.retarded.ensures,
@@ -19,8 +19,8 @@ returns c =
       c.before.before.before.before.before.before.before.before.before.before.before.before.before.before.timvar-of.ensures,
     )
 
-pub layer-parameters-spec : {M : Type 1} → statement M
-layer-parameters-spec =
+pub layer_parameters_spec : {M : Type 1} → statement M
+layer_parameters_spec =
     tie.close
     (tie.spec
     (λ c κs. search rules)

@@ -4,7 +4,7 @@ use lib.Ieee.Scale.{finite}
 use Rattle.base.specs.Words.{float_at}
 use Rattle.base.specs.Tables.{start_of, words_of, anew, bnew, achi, bchi, abmap}
 use Rattle.base.specs.Finite.{FiniteMonth}
-use Rattle.maps.specs.Layers.{termOf, abmapAt, monthlyOf}
+use Rattle.maps.specs.Layers.{term_of, abmap_at, monthly_of}
 use Rattle.maps.proofs.ionosphere.layers.monthly_of.Statement.{statement}
 use Rattle.maps.proofs.ionosphere.layers.monthly_of.Tie as tie
 
@@ -14,35 +14,35 @@ word :
     T (finite (float_at file (start_of table + 4 * i)))
 word f table i l h n = f.words table l h i n
 
-term-requires : tie.Need-term-requires
-term-requires c κs = let f = c.before.before.requires in (word f achi 0 (lit≤ tt) (lit≤ tt) (lit< tt), word f bchi 0 (lit≤ tt) (lit≤ tt) (lit< tt))
+term_requires : tie.Need-term-requires
+term_requires c κs = let f = c.before.before.requires in (word f achi 0 (lit≤ tt) (lit≤ tt) (lit< tt), word f bchi 0 (lit≤ tt) (lit≤ tt) (lit< tt))
 
-term-requires-2 : tie.Need-term-requires-2
-term-requires-2 c κs = let f = c.before.before.before.requires in (word f achi 1 (lit≤ tt) (lit≤ tt) (lit< tt), word f bchi 1 (lit≤ tt) (lit≤ tt) (lit< tt))
+term_requires_2 : tie.Need-term-requires-2
+term_requires_2 c κs = let f = c.before.before.before.requires in (word f achi 1 (lit≤ tt) (lit≤ tt) (lit< tt), word f bchi 1 (lit≤ tt) (lit≤ tt) (lit< tt))
 
-term-requires-3 : tie.Need-term-requires-3
-term-requires-3 c κs = let f = c.before.before.before.before.requires in (word f anew 0 (lit≤ tt) (lit≤ tt) (lit< tt), word f bnew 0 (lit≤ tt) (lit≤ tt) (lit< tt))
+term_requires_3 : tie.Need-term-requires-3
+term_requires_3 c κs = let f = c.before.before.before.before.requires in (word f anew 0 (lit≤ tt) (lit≤ tt) (lit< tt), word f bnew 0 (lit≤ tt) (lit≤ tt) (lit< tt))
 
-term-requires-4 : tie.Need-term-requires-4
-term-requires-4 c κs = let f = c.before.before.before.before.before.requires in (word f anew 1 (lit≤ tt) (lit≤ tt) (lit< tt), word f bnew 1 (lit≤ tt) (lit≤ tt) (lit< tt))
+term_requires_4 : tie.Need-term-requires-4
+term_requires_4 c κs = let f = c.before.before.before.before.before.requires in (word f anew 1 (lit≤ tt) (lit≤ tt) (lit< tt), word f bnew 1 (lit≤ tt) (lit≤ tt) (lit< tt))
 
-term-requires-5 : tie.Need-term-requires-5
-term-requires-5 c κs = let f = c.before.before.before.before.before.before.requires in (word f anew 2 (lit≤ tt) (lit≤ tt) (lit< tt), word f bnew 2 (lit≤ tt) (lit≤ tt) (lit< tt))
+term_requires_5 : tie.Need-term-requires-5
+term_requires_5 c κs = let f = c.before.before.before.before.before.before.requires in (word f anew 2 (lit≤ tt) (lit≤ tt) (lit< tt), word f bnew 2 (lit≤ tt) (lit≤ tt) (lit< tt))
 
-number-at-requires : tie.Need-number-at-requires
-number-at-requires c κs = word c.before.before.before.before.before.before.before.requires abmap 0 (lit≤ tt) (lit≤ tt) (lit< tt)
+number_at_requires : tie.Need-number-at-requires
+number_at_requires c κs = word c.before.before.before.before.before.before.before.requires abmap 0 (lit≤ tt) (lit≤ tt) (lit< tt)
 
-number-at-requires-2 : tie.Need-number-at-requires-2
-number-at-requires-2 c κs = word c.before.before.before.before.before.before.before.before.requires abmap 1 (lit≤ tt) (lit≤ tt) (lit< tt)
+number_at_requires_2 : tie.Need-number-at-requires-2
+number_at_requires_2 c κs = word c.before.before.before.before.before.before.before.before.requires abmap 1 (lit≤ tt) (lit≤ tt) (lit< tt)
 
-number-at-requires-3 : tie.Need-number-at-requires-3
-number-at-requires-3 c κs = word c.before.before.before.before.before.before.before.before.before.requires abmap 2 (lit≤ tt) (lit≤ tt) (lit< tt)
+number_at_requires_3 : tie.Need-number-at-requires-3
+number_at_requires_3 c κs = word c.before.before.before.before.before.before.before.before.before.requires abmap 2 (lit≤ tt) (lit≤ tt) (lit< tt)
 
-number-at-requires-4 : tie.Need-number-at-requires-4
-number-at-requires-4 c κs = word c.before.before.before.before.before.before.before.before.before.before.requires abmap 3 (lit≤ tt) (lit≤ tt) (lit< tt)
+number_at_requires_4 : tie.Need-number-at-requires-4
+number_at_requires_4 c κs = word c.before.before.before.before.before.before.before.before.before.before.requires abmap 3 (lit≤ tt) (lit≤ tt) (lit< tt)
 
 returns : tie.Need-returns
-unfolding monthlyOf termOf abmapAt
+unfolding monthly_of term_of abmap_at
 returns c =
     rw (
       c.number-at4.ensures,
@@ -57,27 +57,27 @@ returns c =
       c.before.before.before.before.before.before.before.before.before.sun-of.ensures,
     )
 
-pub monthly-of-spec : {M : Type 1} → statement M
-monthly-of-spec =
+pub monthly_of_spec : {M : Type 1} → statement M
+monthly_of_spec =
     tie.close
     (tie.spec
     (λ c κs. search rules)
-    term-requires
+    term_requires
     (λ c. search rules)
     (λ c. search rules)
-    term-requires-2
-    term-requires-3
+    term_requires_2
+    term_requires_3
     (λ c. search rules)
     (λ c. search rules)
-    term-requires-4
+    term_requires_4
     (λ c. search rules)
     (λ c. search rules)
-    term-requires-5
-    number-at-requires
+    term_requires_5
+    number_at_requires
     (λ c. search rules)
-    number-at-requires-2
+    number_at_requires_2
     (λ c. search rules)
-    number-at-requires-3
+    number_at_requires_3
     (λ c. search rules)
-    number-at-requires-4
+    number_at_requires_4
     returns)

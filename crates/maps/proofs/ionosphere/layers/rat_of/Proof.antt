@@ -3,19 +3,19 @@
 use Rattle.std.proofs.Common.{◌≡◌, cond, sym, ⊎_elim, rules}
 use lib.Ieee.{neg, lt, round, of_bits}
 use Rattle.base.specs.Single.{◌⊖◌, decimal}
-use Rattle.maps.specs.Layers.{ratOf}
-use Rattle.base.proofs.verdicts.Picks.{cond-true, cond-false}
+use Rattle.maps.specs.Layers.{rat_of}
+use Rattle.base.proofs.verdicts.Picks.{cond_true, cond_false}
 use Rattle.maps.proofs.ionosphere.layers.rat_of.Statement.{statement}
 use Rattle.maps.proofs.ionosphere.layers.rat_of.Tie as tie
 
 angle : (c : tie.Joined1) → let zdeg = c.before.before.before.before.args.zdeg.0 in c.if1.zn ≡ cond (lt (c.before.before.before.before.args.clock ⊖ decimal 120 1) (decimal 0 1)) (neg zdeg) zdeg
 unfolding decimal round of_bits
-angle c = ⊎_elim (λ w. rw w.1 (sym (cond-true _ _ w.0.taken))) (λ w. rw w.1 (sym (cond-false _ _ w.0.left))) c.if1.branch
+angle c = ⊎_elim (λ w. rw w.1 (sym (cond_true _ _ w.0.taken))) (λ w. rw w.1 (sym (cond_false _ _ w.0.left))) c.if1.branch
 
 returns : tie.Need-returns
-unfolding ratOf decimal round of_bits
+unfolding rat_of decimal round of_bits
 returns c =
-    sym (cond-true _ _
+    sym (cond_true _ _
     (rw (
       c.before.noisy.ensures,
       angle c.before.before,
@@ -23,16 +23,16 @@ returns c =
       c.before.before.before.before.before.abs32.ensures,
     ) at c.if2.true))
 
-returns-2 : tie.Need-returns-2
-unfolding ratOf decimal round of_bits
-returns-2 c =
+returns_2 : tie.Need-returns-2
+unfolding rat_of decimal round of_bits
+returns_2 c =
     rw (
       c.before.noisy.ensures,
       angle c.before.before,
       c.before.before.before.before.to_degrees.ensures,
       c.before.before.before.before.before.abs32.ensures,
     )
-    (sym (cond-false _ _
+    (sym (cond_false _ _
     (rw (
       c.before.noisy.ensures,
       angle c.before.before,
@@ -40,5 +40,5 @@ returns-2 c =
       c.before.before.before.before.before.abs32.ensures,
     ) at c.if2.false)))
 
-pub rat-of-spec : {M : Type 1} → statement M
-rat-of-spec = tie.close (tie.spec (λ c κs. search rules) (λ c κs. search rules) (λ c κs. search rules) returns returns-2)
+pub rat_of_spec : {M : Type 1} → statement M
+rat_of_spec = tie.close (tie.spec (λ c κs. search rules) (λ c κs. search rules) (λ c κs. search rules) returns returns_2)

@@ -2,13 +2,13 @@
 use Rattle.std.proofs.Common.{rules}
 use lib.Ieee.{round, of_bits}
 use Rattle.base.specs.Single.{decimal}
-use Rattle.maps.specs.Layers.{retardOf}
+use Rattle.maps.specs.Layers.{retard_of}
 use Rattle.maps.proofs.ionosphere.layers.retard.Statement.{statement}
 use Rattle.maps.proofs.ionosphere.layers.retard.Tie as tie
 
 returns : tie.Need-returns
-unfolding retardOf decimal round of_bits
+unfolding retard_of decimal round of_bits
 returns c = rw c.ln32.ensures
 
-pub retard-spec : {M : Type 1} → statement M
-retard-spec = tie.close (tie.spec (λ c κs. search rules) returns)
+pub retard_spec : {M : Type 1} → statement M
+retard_spec = tie.close (tie.spec (λ c κs. search rules) returns)

@@ -2,16 +2,16 @@
 use Rattle.std.proofs.Common.{sym, rules}
 use lib.Ieee.{round, of_bits}
 use Rattle.base.specs.Single.{decimal}
-use Rattle.maps.specs.Layers.{sspOf}
-use Rattle.base.proofs.verdicts.Picks.{cond-true, cond-false}
+use Rattle.maps.specs.Layers.{ssp_of}
+use Rattle.base.proofs.verdicts.Picks.{cond_true, cond_false}
 use Rattle.maps.proofs.ionosphere.layers.ssp_of.Statement.{statement}
 use Rattle.maps.proofs.ionosphere.layers.ssp_of.Tie as tie
 
 returns : tie.Need-returns
-unfolding sspOf decimal round of_bits
+unfolding ssp_of decimal round of_bits
 returns c =
     rw c.before.before.before.before.before.before.before.before.to_radians.ensures
-    (sym (cond-true _ _
+    (sym (cond_true _ _
     (rw (
       c.before.abs322.ensures,
       c.before.before.before.before.abs32.ensures,
@@ -19,11 +19,11 @@ returns c =
       c.before.before.before.before.before.before.before.before.to_radians.ensures,
     ) at c.if1.true)))
 
-returns-2 : tie.Need-returns-2
-unfolding sspOf decimal round of_bits
-returns-2 c =
+returns_2 : tie.Need-returns-2
+unfolding ssp_of decimal round of_bits
+returns_2 c =
     rw c.before.before.before.before.before.before.before.to-radians2.ensures
-    (sym (cond-false _ _
+    (sym (cond_false _ _
     (rw (
       c.before.abs322.ensures,
       c.before.before.before.before.abs32.ensures,
@@ -31,8 +31,8 @@ returns-2 c =
       c.before.before.before.before.before.before.before.before.to_radians.ensures,
     ) at c.if1.false)))
 
-pub ssp-of-spec : {M : Type 1} → statement M
-ssp-of-spec =
+pub ssp_of_spec : {M : Type 1} → statement M
+ssp_of_spec =
     tie.close
     (tie.spec
     (λ c κs. search rules)
@@ -40,4 +40,4 @@ ssp-of-spec =
     (λ c κs. search rules)
     (λ c κs. search rules)
     returns
-    returns-2)
+    returns_2)

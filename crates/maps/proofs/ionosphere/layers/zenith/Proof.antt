@@ -1,11 +1,11 @@
 -- `zenith` is its expression.
 use Rattle.std.proofs.Common.{rules}
-use Rattle.maps.specs.Layers.{zenithOf}
+use Rattle.maps.specs.Layers.{zenith_of}
 use Rattle.maps.proofs.ionosphere.layers.zenith.Statement.{statement}
 use Rattle.maps.proofs.ionosphere.layers.zenith.Tie as tie
 
 returns : tie.Need-returns
-unfolding zenithOf
+unfolding zenith_of
 returns c =
     rw (
       c.acos32.ensures,
@@ -16,8 +16,8 @@ returns c =
       c.before.before.before.before.before.sin32.ensures,
     )
 
-pub zenith-spec : {M : Type 1} → statement M
-zenith-spec =
+pub zenith_spec : {M : Type 1} → statement M
+zenith_spec =
     tie.close
     (tie.spec
     (λ c κs. search rules)

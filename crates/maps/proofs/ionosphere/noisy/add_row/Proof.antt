@@ -3,40 +3,38 @@
 use Rattle.std.proofs.Common.{◌≡◌, ◌-◌, ◌≤◌, refl, arith, rules}
 use Rattle.base.specs.Single.{◌⊕◌, ◌⊗◌}
 use Rattle.base.specs.Fill.{fill}
-use Rattle.maps.specs.Noisy.{inPlane, each}
+use Rattle.maps.specs.Noisy.{in_plane, each}
 use Rattle.maps.proofs.lists.Refills.{each_turn}
 use Rattle.maps.proofs.ionosphere.noisy.add_row.Statement.{statement}
 use Rattle.maps.proofs.ionosphere.noisy.add_row.Tie as tie
 
-abbrev invariant-loop : tie.invariant-loop
-invariant-loop zz₀ plane k x lm at j₀ zz j = (j ≤ lm) × (zz ≡ each (λ i z. z ⊕ x ⊗ inPlane plane k i) zz₀ j)
+abbrev invariant_loop : tie.invariant_loop
+invariant_loop zz₀ plane k x lm at j₀ zz j = (j ≤ lm) × (zz ≡ each (λ i z. z ⊕ x ⊗ in_plane plane k i) zz₀ j)
 
-abbrev decreases-loop : tie.decreases-loop
-decreases-loop zz₀ plane k x lm at j₀ zz j = lm - j
+abbrev decreases_loop : tie.decreases_loop
+decreases_loop zz₀ plane k x lm at j₀ zz j = lm - j
 
-loop-holds : tie.Need-loop-init invariant-loop decreases-loop
+loop_holds : tie.Need-loop-init invariant_loop decreases_loop
 unfolding each fill
-loop-holds c = (search rules, refl)
+loop_holds c = (search rules, refl)
 
-loop-again : tie.Need-loop-preserved invariant-loop decreases-loop
-loop-again c =
+loop_again : tie.Need-loop-preserved invariant_loop decreases_loop
+loop_again c =
     let k = c.before.before.before.loop in
     let a = c.before.before.before.before.args in
-    (search rules, each_turn (λ i z. z ⊕ a.x ⊗ inPlane a.plane.now a.k i) _ k.j k.invariant.1)
+    (search rules, each_turn (λ i z. z ⊕ a.x ⊗ in_plane a.plane.now a.k i) _ k.j k.invariant.1)
 
-returns : tie.Need-returns invariant-loop decreases-loop
+returns : tie.Need-returns invariant_loop decreases_loop
 returns c = let e : c.before.loop.j ≡ c.before.before.args.lm = omega arith in rw e at c.before.loop.invariant.1
 
-pub add-row-spec : {M : Type 1} → statement M
-add-row-spec =
+pub add_row_spec : {M : Type 1} → statement M
+add_row_spec =
     tie.close
     (tie.spec
-    invariant-loop
-    decreases-loop
+    invariant_loop
+    decreases_loop
     (λ c. search rules)
-    loop-holds
-    (λ c. search rules)
-    (λ c. search rules)
+    loop_holds
     (λ c. search rules)
     (λ c. search rules)
     (λ c. search rules)
@@ -44,5 +42,7 @@ add-row-spec =
     (λ c. search rules)
     (λ c. search rules)
     (λ c. search rules)
-    loop-again
+    (λ c. search rules)
+    (λ c. search rules)
+    loop_again
     returns)

@@ -3,7 +3,7 @@
 use Rattle.std.proofs.Common.{ap, rules}
 use lib.Ieee.{Float}
 use Rattle.base.specs.Single.{◌⊕◌, ◌⊗◌}
-use Rattle.maps.proofs.sums.NoisySums.{latitude-of}
+use Rattle.maps.proofs.sums.NoisySums.{latitude_of_law}
 use Rattle.maps.proofs.ionosphere.noisy.noisy_sum.Statement.{statement}
 use Rattle.maps.proofs.ionosphere.noisy.noisy_sum.Tie as tie
 
@@ -14,8 +14,8 @@ returns c =
     let start = k0.before in
     let a = start.args in
     rw (c.latitude-sum.ensures, k1.columns.ensures, k0.sines.ensures)
-    (ap (λ (x : Float). x ⊕ a.alf ⊕ a.bet ⊗ a.p) (latitude-of _ _ a.plane.now a.ln a.lm start.requires.1 start.requires.0 _))
+    (ap (λ (x : Float). x ⊕ a.alf ⊕ a.bet ⊗ a.p) (latitude_of_law _ _ a.plane.now a.ln a.lm start.requires.1 start.requires.0 _))
 
-pub noisy-sum-spec : {M : Type 1} → statement M
-noisy-sum-spec =
+pub noisy_sum_spec : {M : Type 1} → statement M
+noisy_sum_spec =
     tie.close (tie.spec (λ c κs. search rules) (λ c κs. search rules) (λ c κs. search rules) returns)

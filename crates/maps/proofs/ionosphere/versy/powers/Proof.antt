@@ -1,30 +1,30 @@
--- `powers` fills in `sxPower`. The loop's invariant: the powers 1 to n - 1 stand in their places,
+-- `powers` fills in `sx_power`. The loop's invariant: the powers 1 to n - 1 stand in their places,
 -- after 1.0, and the power is the n-th.
 use Rattle.std.proofs.Common.{◌≡◌, ℕ, zero, suc, ◌+◌, ◌-◌, ◌<◌, ◌≤◌, List, set, sym, refl, ap, ◌∙◌, add-one, arith, rules}
 use lib.Ieee.{Float, round, of_bits}
 use Rattle.base.specs.Double.{◌⊗◌, fraction}
 use Rattle.base.specs.Fill.{fill}
-use Rattle.maps.specs.Versy.{sxPower}
-use Rattle.maps.proofs.sums.GeographicFunctions.{fill-then, fill_more}
+use Rattle.maps.specs.Versy.{sx_power}
+use Rattle.maps.proofs.sums.GeographicFunctions.{fill_then, fill_more}
 use Rattle.maps.proofs.ionosphere.versy.powers.Statement.{statement}
 use Rattle.maps.proofs.ionosphere.versy.powers.Tie as tie
 
 pub record Raised (sx : Float) (k : ℕ) (g₀ g : List Float) (power : Float) (n : ℕ) : Type 0 where
   pub first : 1 ≤ n
   pub turns : n ≤ k + 1
-  pub next : power ≡ sxPower sx n
-  pub is : g ≡ fill (λ i. sxPower sx (1 + i)) 1 g₀ (n - 1)
+  pub next : power ≡ sx_power sx n
+  pub is : g ≡ fill (λ i. sx_power sx (1 + i)) 1 g₀ (n - 1)
 
-abbrev invariant-loop : tie.invariant-loop
-invariant-loop g₀ sx k power₀ n₀ g power n = Raised sx k g₀ g power n
+abbrev invariant_loop : tie.invariant_loop
+invariant_loop g₀ sx k power₀ n₀ g power n = Raised sx k g₀ g power n
 
-abbrev decreases-loop : tie.decreases-loop
-decreases-loop g₀ sx k power₀ n₀ g power n = k + 1 - n
+abbrev decreases_loop : tie.decreases_loop
+decreases_loop g₀ sx k power₀ n₀ g power n = k + 1 - n
 
-power-next : (sx : Float) (n : ℕ) → 1 ≤ n → sx ⊗ sxPower sx n ≡ sxPower sx (n + 1)
-unfolding sxPower
-power-next sx zero h = absurd (omega arith)
-power-next sx (suc n) h = sym (ap (sxPower sx) (add-one (suc n)))
+power_next : (sx : Float) (n : ℕ) → 1 ≤ n → sx ⊗ sx_power sx n ≡ sx_power sx (n + 1)
+unfolding sx_power
+power_next sx zero h = absurd (omega arith)
+power_next sx (suc n) h = sym (ap (sx_power sx) (add-one (suc n)))
 
 again :
     (sx : Float) (k : ℕ) (g₀ g : List Float) (power : Float) (n : ℕ) → Raised sx k g₀ g power n → n ≤ k →
@@ -36,46 +36,46 @@ again sx k g₀ g power n v h =
     record {
       first = omega arith;
       turns = omega arith;
-      next = ap (λ (x : Float). sx ⊗ x) v.next ∙ power-next sx n l;
+      next = ap (λ (x : Float). sx ⊗ x) v.next ∙ power_next sx n l;
       is =
-          fill-then (λ i. sxPower sx (1 + i)) 1 g₀ (n - 1) n v.is e (v.next ∙ ap (sxPower sx) (sym e))
-          ∙ ap (fill (λ i. sxPower sx (1 + i)) 1 g₀) d;
+          fill_then (λ i. sx_power sx (1 + i)) 1 g₀ (n - 1) n v.is e (v.next ∙ ap (sx_power sx) (sym e))
+          ∙ ap (fill (λ i. sx_power sx (1 + i)) 1 g₀) d;
     }
 
 -- with the first of them, 1.0
-all : (sx : Float) (k : ℕ) (g g₁ : List Float) (power : Float) (n : ℕ) → Raised sx k (set g 0 (fraction 1 1)) g₁ power n → k < n → g₁ ≡ fill (sxPower sx) 0 g (k + 1)
-unfolding fill sxPower
+all : (sx : Float) (k : ℕ) (g g₁ : List Float) (power : Float) (n : ℕ) → Raised sx k (set g 0 (fraction 1 1)) g₁ power n → k < n → g₁ ≡ fill (sx_power sx) 0 g (k + 1)
+unfolding fill sx_power
 all sx k g g₁ power n v h =
     let l = v.turns in
     let e : n - 1 ≡ k = omega arith in
     let d : 1 + k ≡ k + 1 = omega arith in
     v.is
-    ∙ ap (fill (λ i. sxPower sx (1 + i)) 1 (set g 0 (fraction 1 1))) e
-    ∙ sym (fill_more (sxPower sx) 0 g 1 k)
-    ∙ ap (fill (sxPower sx) 0 g) d
+    ∙ ap (fill (λ i. sx_power sx (1 + i)) 1 (set g 0 (fraction 1 1))) e
+    ∙ sym (fill_more (sx_power sx) 0 g 1 k)
+    ∙ ap (fill (sx_power sx) 0 g) d
 
-loop-holds : tie.Need-loop-init invariant-loop decreases-loop
-unfolding sxPower fill
-loop-holds c = record { first = search rules; turns = search rules; next = refl; is = refl }
+loop_holds : tie.Need-loop-init invariant_loop decreases_loop
+unfolding sx_power fill
+loop_holds c = record { first = search rules; turns = search rules; next = refl; is = refl }
 
-loop-again : tie.Need-loop-preserved invariant-loop decreases-loop
-loop-again c = again _ _ _ _ _ _ c.before.loop.invariant c.loop-test.true
+loop_again : tie.Need-loop-preserved invariant_loop decreases_loop
+loop_again c = again _ _ _ _ _ _ c.before.loop.invariant c.loop-test.true
 
-returns : tie.Need-returns invariant-loop decreases-loop
+returns : tie.Need-returns invariant_loop decreases_loop
 unfolding fraction round of_bits
 returns c = all _ _ _ _ _ _ c.before.loop.invariant c.loop-test.false
 
-pub powers-spec : {M : Type 1} → statement M
-powers-spec =
+pub powers_spec : {M : Type 1} → statement M
+powers_spec =
     tie.close
     (tie.spec
-    invariant-loop
-    decreases-loop
+    invariant_loop
+    decreases_loop
     (λ c. search rules)
-    loop-holds
-    (λ c. search rules)
-    (λ c. search rules)
+    loop_holds
     (λ c. search rules)
     (λ c. search rules)
-    loop-again
+    (λ c. search rules)
+    (λ c. search rules)
+    loop_again
     returns)

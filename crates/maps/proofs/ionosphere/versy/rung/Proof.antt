@@ -1,12 +1,12 @@
--- `rung` fills in `rungOf`. The loop's invariant: the places before k are filled, an even number of
+-- `rung` fills in `rung_of`. The loop's invariant: the places before k are filled, an even number of
 -- them, and the cosine and the sine are the next two.
 use Rattle.std.proofs.Common.{◌≡◌, ℕ, suc, ◌+◌, ◌-◌, ◌/◌, ◌%◌, ◌<◌, ◌≤◌, List, set, sym, refl, ap, ◌∙◌, arith, rules, eq-eqb, ne_eqb}
 use lib.Ieee.{Float}
 use Rattle.base.specs.Double.{◌⊗◌}
 use Rattle.base.specs.Fill.{fill}
-use Rattle.base.proofs.verdicts.Picks.{cond-true, cond-false}
-use Rattle.maps.specs.Versy.{raised, rungOf}
-use Rattle.maps.proofs.sums.GeographicFunctions.{fill-then}
+use Rattle.base.proofs.verdicts.Picks.{cond_true, cond_false}
+use Rattle.maps.specs.Versy.{raised, rung_of}
+use Rattle.maps.proofs.sums.GeographicFunctions.{fill_then}
 use Rattle.maps.proofs.ionosphere.versy.rung.Statement.{statement}
 use Rattle.maps.proofs.ionosphere.versy.rung.Tie as tie
 
@@ -16,28 +16,28 @@ pub record Made (sx c s : Float) (below end : ℕ) (g₀ g : List Float) (cosine
   pub even : (k - below - 1) % 2 ≡ 0
   pub cos : cosine ≡ raised sx ((k - below - 1) / 2) c
   pub sin : sine ≡ raised sx ((k - below - 1) / 2) s
-  pub is : g ≡ fill (rungOf sx c s) (below + 1) g₀ (k - below - 1)
+  pub is : g ≡ fill (rung_of sx c s) (below + 1) g₀ (k - below - 1)
 
-abbrev invariant-loop : tie.invariant-loop
-invariant-loop g₀ sx c s below end cosine₀ sine₀ k₀ g cosine sine k = Made sx c s below end g₀ g cosine sine k
+abbrev invariant_loop : tie.invariant_loop
+invariant_loop g₀ sx c s below end cosine₀ sine₀ k₀ g cosine sine k = Made sx c s below end g₀ g cosine sine k
 
-abbrev decreases-loop : tie.decreases-loop
-decreases-loop g₀ sx c s below end cosine₀ sine₀ k₀ g cosine sine k = end + 1 - k
+abbrev decreases_loop : tie.decreases_loop
+decreases_loop g₀ sx c s below end cosine₀ sine₀ k₀ g cosine sine k = end + 1 - k
 
 module _ (sx c s : Float) (n : ℕ) (e : n % 2 ≡ 0) where
-  first : rungOf sx c s n ≡ raised sx (n / 2) c
-  unfolding rungOf
-  first = ap (raised sx (n / 2)) (cond-true c s (eq-eqb (n % 2) 0 e))
+  first : rung_of sx c s n ≡ raised sx (n / 2) c
+  unfolding rung_of
+  first = ap (raised sx (n / 2)) (cond_true c s (eq-eqb (n % 2) 0 e))
 
-  second : rungOf sx c s (n + 1) ≡ raised sx (n / 2) s
-  unfolding rungOf
+  second : rung_of sx c s (n + 1) ≡ raised sx (n / 2) s
+  unfolding rung_of
   second =
       let h : (n + 1) / 2 ≡ n / 2 = omega arith in
-      ap (raised sx ((n + 1) / 2)) (cond-false c s (ne_eqb ((n + 1) % 2) 0 (λ q. omega arith))) ∙ ap (λ (i : ℕ). raised sx i s) h
+      ap (raised sx ((n + 1) / 2)) (cond_false c s (ne_eqb ((n + 1) % 2) 0 (λ q. omega arith))) ∙ ap (λ (i : ℕ). raised sx i s) h
 
-raised-next : (sx x : Float) (n m : ℕ) → m ≡ suc n → sx ⊗ raised sx n x ≡ raised sx m x
+raised_next : (sx x : Float) (n m : ℕ) → m ≡ suc n → sx ⊗ raised sx n x ≡ raised sx m x
 unfolding raised
-raised-next sx x n m e = ap (λ (i : ℕ). raised sx i x) (sym e)
+raised_next sx x n m e = ap (λ (i : ℕ). raised sx i x) (sym e)
 
 again :
     (sx c s : Float) (below end : ℕ) (g₀ g : List Float) (cosine sine : Float) (k : ℕ) →
@@ -55,13 +55,13 @@ again sx c s below end g₀ g cosine sine k v h =
       low = omega arith;
       high = omega arith;
       even = omega arith;
-      cos = ap (λ (x : Float). sx ⊗ x) v.cos ∙ raised-next sx c (n / 2) ((k + 2 - below - 1) / 2) p;
-      sin = ap (λ (x : Float). sx ⊗ x) v.sin ∙ raised-next sx s (n / 2) ((k + 2 - below - 1) / 2) p;
+      cos = ap (λ (x : Float). sx ⊗ x) v.cos ∙ raised_next sx c (n / 2) ((k + 2 - below - 1) / 2) p;
+      sin = ap (λ (x : Float). sx ⊗ x) v.sin ∙ raised_next sx s (n / 2) ((k + 2 - below - 1) / 2) p;
       is =
-          fill-then (rungOf sx c s) (below + 1) g₀ (n + 1) (k + 1)
-          (fill-then (rungOf sx c s) (below + 1) g₀ n k v.is d (v.cos ∙ sym (first sx c s n e)))
+          fill_then (rung_of sx c s) (below + 1) g₀ (n + 1) (k + 1)
+          (fill_then (rung_of sx c s) (below + 1) g₀ n k v.is d (v.cos ∙ sym (first sx c s n e)))
           f (v.sin ∙ sym (second sx c s n e))
-          ∙ ap (fill (rungOf sx c s) (below + 1) g₀) m;
+          ∙ ap (fill (rung_of sx c s) (below + 1) g₀) m;
     }
 
 starts : (sx c s : Float) (below end : ℕ) (g : List Float) → below + 2 ≤ end → Made sx c s below end g g c s (below + 1)
@@ -75,35 +75,35 @@ starts sx c s below end g h =
       even = omega arith;
       cos = ap (λ (i : ℕ). raised sx i c) d;
       sin = ap (λ (i : ℕ). raised sx i s) d;
-      is = ap (fill (rungOf sx c s) (below + 1) g) e;
+      is = ap (fill (rung_of sx c s) (below + 1) g) e;
     }
 
-loop-holds : tie.Need-loop-init invariant-loop decreases-loop
-loop-holds c = starts _ _ _ _ _ _ c.requires.0
+loop_holds : tie.Need-loop-init invariant_loop decreases_loop
+loop_holds c = starts _ _ _ _ _ _ c.requires.0
 
-loop-again : tie.Need-loop-preserved invariant-loop decreases-loop
-loop-again c = again _ _ _ _ _ _ _ _ _ _ c.before.loop.invariant c.loop-test.true
+loop_again : tie.Need-loop-preserved invariant_loop decreases_loop
+loop_again c = again _ _ _ _ _ _ _ _ _ _ c.before.loop.invariant c.loop-test.true
 
-returns : tie.Need-returns invariant-loop decreases-loop
+returns : tie.Need-returns invariant_loop decreases_loop
 returns c =
     let k = c.before.loop in
     let e : k.k - c.before.before.args.below - 1 ≡ c.before.before.args.end - c.before.before.args.below = omega arith in
     rw e at k.invariant.is
 
-pub rung-spec : {M : Type 1} → statement M
-rung-spec =
+pub rung_spec : {M : Type 1} → statement M
+rung_spec =
     tie.close
     (tie.spec
-    invariant-loop
-    decreases-loop
+    invariant_loop
+    decreases_loop
     (λ c. search rules)
-    loop-holds
-    (λ c. search rules)
-    (λ c. search rules)
+    loop_holds
     (λ c. search rules)
     (λ c. search rules)
     (λ c. search rules)
     (λ c. search rules)
     (λ c. search rules)
-    loop-again
+    (λ c. search rules)
+    (λ c. search rules)
+    loop_again
     returns)

@@ -1,22 +1,22 @@
--- `together` is `sumsOf`. The loop's invariant: each of the three sums has the terms 0 to k.
+-- `together` is `sums_of`. The loop's invariant: each of the three sums has the terms 0 to k.
 use Rattle.std.proofs.Common.{◌≡◌, ℕ, ◌+◌, ◌-◌, ◌≤◌, sym, ap, ◌∙◌, arith, rules}
 use lib.Ieee.{Float}
 use Rattle.base.specs.Double.{◌⊗◌}
-use Rattle.maps.specs.Versy.{elements, sum_of, sumsOf}
-use Rattle.maps.proofs.sums.MapSeries.{sum-next}
+use Rattle.maps.specs.Versy.{elements, sum_of, sums_of}
+use Rattle.maps.proofs.sums.MapSeries.{sum_next}
 use Rattle.maps.proofs.ionosphere.versy.together.Statement.{statement}
 use Rattle.maps.proofs.ionosphere.versy.together.Tie as tie
 
-abbrev invariant-loop : tie.invariant-loop
-invariant-loop ab i ga j gb l gc n a₀ b₀ c₀ k₀ a b c k =
+abbrev invariant_loop : tie.invariant_loop
+invariant_loop ab i ga j gb l gc n a₀ b₀ c₀ k₀ a b c k =
     (k ≤ n) × (a ≡ sum_of ab i (elements ga) k) × (b ≡ sum_of ab j (elements gb) k) × (c ≡ sum_of ab l (elements gc) k)
 
-abbrev decreases-loop : tie.decreases-loop
-decreases-loop ab i ga j gb l gc n a₀ b₀ c₀ k₀ a b c k = n - k
+abbrev decreases_loop : tie.decreases_loop
+decreases_loop ab i ga j gb l gc n a₀ b₀ c₀ k₀ a b c k = n - k
 
-loop-holds : tie.Need-loop-init invariant-loop decreases-loop
+loop_holds : tie.Need-loop-init invariant_loop decreases_loop
 unfolding sum_of
-loop-holds c =
+loop_holds c =
     let b3 = c.before.before.before in
     let b6 = b3.before.before.before in
     let a = b6.before.before.before.args in (
@@ -26,8 +26,8 @@ loop-holds c =
       ap (λ (x : Float). elements a.gc.now 0 ⊗ x) c.widen3.ensures,
     )
 
-loop-again : tie.Need-loop-preserved invariant-loop decreases-loop
-loop-again c =
+loop_again : tie.Need-loop-preserved invariant_loop decreases_loop
+loop_again c =
     let b3 = c.before.before.before in
     let b5 = b3.before.before in
     let b7 = b5.before.before in
@@ -36,12 +36,12 @@ loop-again c =
     let l = b11.before.before.loop in
     let a = b11.before.before.before.before.before.before.before.before.before.before.before.before.args in (
       search rules,
-      sum-next a.ab.now a.i (elements a.ga.now) l.k l.invariant.1 b11.narrowed.ensures b9.widen4.ensures,
-      sum-next a.ab.now a.j (elements a.gb.now) l.k l.invariant.2 b7.narrowed2.ensures b5.widen5.ensures,
-      sum-next a.ab.now a.l (elements a.gc.now) l.k l.invariant.3 b3.narrowed3.ensures c.before.widen6.ensures,
+      sum_next a.ab.now a.i (elements a.ga.now) l.k l.invariant.1 b11.narrowed.ensures b9.widen4.ensures,
+      sum_next a.ab.now a.j (elements a.gb.now) l.k l.invariant.2 b7.narrowed2.ensures b5.widen5.ensures,
+      sum_next a.ab.now a.l (elements a.gc.now) l.k l.invariant.3 b3.narrowed3.ensures c.before.widen6.ensures,
     )
 
-returns : tie.Need-returns invariant-loop decreases-loop
+returns : tie.Need-returns invariant_loop decreases_loop
 returns c =
     let l = c.before.loop in
     let a = c.before.before.before.before.before.before.before.before.before.before.before.args in
@@ -51,12 +51,12 @@ returns c =
     let z = l.invariant.3 ∙ ap (sum_of a.ab.now a.l (elements a.gc.now)) e in
     λ t. record { a = x t; b = y t; c = z t }
 
-pub together-spec : {M : Type 1} → statement M
-together-spec =
+pub together_spec : {M : Type 1} → statement M
+together_spec =
     tie.close
     (tie.spec
-    invariant-loop
-    decreases-loop
+    invariant_loop
+    decreases_loop
     (λ c. search rules)
     (λ c. search rules)
     (λ c. search rules)
@@ -69,7 +69,7 @@ together-spec =
     (λ c. search rules)
     (λ c. search rules)
     (λ c κs. search rules)
-    loop-holds
+    loop_holds
     (λ c. search rules)
     (λ c κs. search rules)
     (λ c. search rules)
@@ -93,5 +93,5 @@ together-spec =
     (λ c. search rules)
     (λ c. search rules)
     (λ c. search rules)
-    loop-again
+    loop_again
     returns)

@@ -1,15 +1,15 @@
--- `waves` is `wavesOf`. The loop's invariant: the array is filled up to i, cx and t are those of
+-- `waves` is `waves_of`. The loop's invariant: the array is filled up to i, cx and t are those of
 -- the harmonic j, and i + 2 is 2 * j.
 use Rattle.std.proofs.Common.{◌≡◌, ℕ, zero, suc, ◌+◌, ◌-◌, ◌*◌, ◌<◌, ◌≤◌, List, length, set, replicate, pos, sym, refl, ap, ◌∙◌, add-one, arith, rules, ne_eqb}
 use lib.ListN.{length-replicate}
 use lib.Ieee.{Float, binary32, binary64, of_int, mul, of_bits}
 use Rattle.base.specs.Double.{◌⊗◌}
-use Rattle.base.specs.Elementary.{sinOf, cosOf}
+use Rattle.base.specs.Elementary.{sin_of, cos_of}
 use Rattle.base.specs.Fill.{fill}
-use Rattle.base.proofs.lists.Fills.{fill-first, fill-all}
-use Rattle.base.proofs.verdicts.Picks.{cond-false}
-use Rattle.maps.specs.Versy.{cxOf, tOf, cosWave, sinWave, waveAt, wavesOf}
-use Rattle.maps.proofs.sums.GeographicFunctions.{even-wave, odd-wave}
+use Rattle.base.proofs.lists.Fills.{fill_first, fill_all}
+use Rattle.base.proofs.verdicts.Picks.{cond_false}
+use Rattle.maps.specs.Versy.{cx_of, t_of, cos_wave, sin_wave, wave_at, waves_of}
+use Rattle.maps.proofs.sums.GeographicFunctions.{even_wave, odd_wave}
 use Rattle.maps.proofs.ionosphere.versy.waves.Statement.{statement}
 use Rattle.maps.proofs.ionosphere.versy.waves.Tie as tie
 
@@ -18,64 +18,64 @@ pub record Made (gob clg wide : Float) (out₀ out : List Float) (cx t : Float) 
   pub high : j ≤ 9
   pub place : i + 2 ≡ 2 * j
   pub widened : wide ≡ gob
-  pub power : cx ≡ cxOf gob j
-  pub angle : t ≡ tOf clg j
-  pub filled : out ≡ fill (waveAt gob clg) 0 out₀ i
+  pub power : cx ≡ cx_of gob j
+  pub angle : t ≡ t_of clg j
+  pub filled : out ≡ fill (wave_at gob clg) 0 out₀ i
 
-abbrev invariant-loop : tie.invariant-loop
-invariant-loop gob clg wide out₀ cx₀ t₀ j₀ i₀ out cx t j i = Made gob clg wide out₀ out cx t j i
+abbrev invariant_loop : tie.invariant_loop
+invariant_loop gob clg wide out₀ cx₀ t₀ j₀ i₀ out cx t j i = Made gob clg wide out₀ out cx t j i
 
-abbrev decreases-loop : tie.decreases-loop
-decreases-loop gob clg wide out₀ cx₀ t₀ j₀ i₀ out cx t j i = 16 - i
+abbrev decreases_loop : tie.decreases_loop
+decreases_loop gob clg wide out₀ cx₀ t₀ j₀ i₀ out cx t j i = 16 - i
 
 -- the next power, and the next angle
-cx-next : (gob : Float) (j : ℕ) → 1 ≤ j → cxOf gob (j + 1) ≡ cxOf gob j ⊗ gob
-unfolding cxOf
-cx-next gob zero h = absurd (omega arith)
-cx-next gob (suc j) h = ap (cxOf gob) (add-one (suc j))
+cx_next : (gob : Float) (j : ℕ) → 1 ≤ j → cx_of gob (j + 1) ≡ cx_of gob j ⊗ gob
+unfolding cx_of
+cx_next gob zero h = absurd (omega arith)
+cx_next gob (suc j) h = ap (cx_of gob) (add-one (suc j))
 
-t-next : (clg : Float) (j : ℕ) → 1 ≤ j → tOf clg (j + 1) ≡ mul binary32 (of_int binary32 (pos (j + 1))) clg
-unfolding tOf
-t-next clg j h = cond-false _ _ (ne_eqb (j + 1) 1 (λ e. omega arith))
+t_next : (clg : Float) (j : ℕ) → 1 ≤ j → t_of clg (j + 1) ≡ mul binary32 (of_int binary32 (pos (j + 1))) clg
+unfolding t_of
+t_next clg j h = cond_false _ _ (ne_eqb (j + 1) 1 (λ e. omega arith))
 
-two-more : (f : ℕ → Float) (l : List Float) (i : ℕ) → set (set (fill f 0 l i) i (f i)) (i + 1) (f (i + 1)) ≡ fill f 0 l (i + 2)
-two-more f l i =
+two_more : (f : ℕ → Float) (l : List Float) (i : ℕ) → set (set (fill f 0 l i) i (f i)) (i + 1) (f (i + 1)) ≡ fill f 0 l (i + 2)
+two_more f l i =
     let e : i + 1 + 1 ≡ i + 2 = omega arith in
-    ap (λ (x : List Float). set x (i + 1) (f (i + 1))) (sym (fill-first f l i)) ∙ sym (fill-first f l (i + 1)) ∙ ap (fill f 0 l) e
+    ap (λ (x : List Float). set x (i + 1) (f (i + 1))) (sym (fill_first f l i)) ∙ sym (fill_first f l (i + 1)) ∙ ap (fill f 0 l) e
 
-made-cos : (gob clg : Float) (j : ℕ) {cx t c : Float} → cx ≡ cxOf gob j → t ≡ tOf clg j → c ≡ cosOf t → cx ⊗ c ≡ cosWave gob clg j
-unfolding cosWave
-made-cos gob clg j {cx} {t} {c} p a e = ap (λ (x : Float). x ⊗ c) p ∙ ap (λ (x : Float). cxOf gob j ⊗ x) (e ∙ ap cosOf a)
+made_cos : (gob clg : Float) (j : ℕ) {cx t c : Float} → cx ≡ cx_of gob j → t ≡ t_of clg j → c ≡ cos_of t → cx ⊗ c ≡ cos_wave gob clg j
+unfolding cos_wave
+made_cos gob clg j {cx} {t} {c} p a e = ap (λ (x : Float). x ⊗ c) p ∙ ap (λ (x : Float). cx_of gob j ⊗ x) (e ∙ ap cos_of a)
 
-made-sin : (gob clg : Float) (j : ℕ) {cx t s : Float} → cx ≡ cxOf gob j → t ≡ tOf clg j → s ≡ sinOf t → cx ⊗ s ≡ sinWave gob clg j
-unfolding sinWave
-made-sin gob clg j {cx} {t} {s} p a e = ap (λ (x : Float). x ⊗ s) p ∙ ap (λ (x : Float). cxOf gob j ⊗ x) (e ∙ ap sinOf a)
+made_sin : (gob clg : Float) (j : ℕ) {cx t s : Float} → cx ≡ cx_of gob j → t ≡ t_of clg j → s ≡ sin_of t → cx ⊗ s ≡ sin_wave gob clg j
+unfolding sin_wave
+made_sin gob clg j {cx} {t} {s} p a e = ap (λ (x : Float). x ⊗ s) p ∙ ap (λ (x : Float). cx_of gob j ⊗ x) (e ∙ ap sin_of a)
 
 next :
     (gob clg wide : Float) (out₀ out : List Float) (cx t : Float) (j i : ℕ) {c s n : Float} → Made gob clg wide out₀ out cx t j i → i < 16 →
-    c ≡ cosOf t → s ≡ sinOf t → n ≡ mul binary32 (of_int binary32 (pos (j + 1))) clg →
+    c ≡ cos_of t → s ≡ sin_of t → n ≡ mul binary32 (of_int binary32 (pos (j + 1))) clg →
     Made gob clg wide out₀ (set (set out i (cx ⊗ c)) (i + 1) (cx ⊗ s)) (cx ⊗ wide) n (j + 1) (i + 2)
 next gob clg wide out₀ out cx t j i {c} {s} {n} m h ec es en =
-    let f = waveAt gob clg in
-    let p = made-cos gob clg j m.power m.angle ec ∙ sym (even-wave gob clg i j m.place) in
-    let q = made-sin gob clg j m.power m.angle es ∙ sym (odd-wave gob clg i j m.place) in
+    let f = wave_at gob clg in
+    let p = made_cos gob clg j m.power m.angle ec ∙ sym (even_wave gob clg i j m.place) in
+    let q = made_sin gob clg j m.power m.angle es ∙ sym (odd_wave gob clg i j m.place) in
     record {
       low = omega arith;
       high = (let e = m.place in omega arith);
       place = (let e = m.place in omega arith);
       widened = m.widened;
-      power = rw (m.power, m.widened) (sym (cx-next gob j m.low));
-      angle = en ∙ sym (t-next clg j m.low);
+      power = rw (m.power, m.widened) (sym (cx_next gob j m.low));
+      angle = en ∙ sym (t_next clg j m.low);
       filled =
           ap (λ (x : List Float). set (set x i (cx ⊗ c)) (i + 1) (cx ⊗ s)) m.filled
           ∙ ap (λ (v : Float). set (set (fill f 0 out₀ i) i v) (i + 1) (cx ⊗ s)) p
           ∙ ap (λ (v : Float). set (set (fill f 0 out₀ i) i (f i)) (i + 1) v) q
-          ∙ two-more f out₀ i;
+          ∙ two_more f out₀ i;
     }
 
-loop-holds : tie.Need-loop-init invariant-loop decreases-loop
-unfolding fill cxOf tOf
-loop-holds c =
+loop_holds : tie.Need-loop-init invariant_loop decreases_loop
+unfolding fill cx_of t_of
+loop_holds c =
     record {
       low = search rules;
       high = search rules;
@@ -86,44 +86,44 @@ loop-holds c =
       filled = refl;
     }
 
-loop-again : tie.Need-loop-preserved invariant-loop decreases-loop
-loop-again c =
+loop_again : tie.Need-loop-preserved invariant_loop decreases_loop
+loop_again c =
     let b = c.before.before.before in
     let a = b.before.before.before.before.before.args in
     next _ _ _ _ _ _ _ _ _ b.before.before.loop.invariant b.before.loop-test.true b.cos64.ensures c.before.before.sin64.ensures
     (c.widen3.ensures ∙ ap (λ (x : Float). mul binary32 x a.clg) c.before.nearest-u32-to-f32.ensures)
 
-returns : tie.Need-returns invariant-loop decreases-loop
-unfolding wavesOf
+returns : tie.Need-returns invariant_loop decreases_loop
+unfolding waves_of
 returns c =
     let l = c.before.loop in
     let a = c.before.before.before.before.args in
     let p = l.invariant.place in
     let h = l.invariant.high in
     let e : l.i ≡ 16 = omega arith in
-    l.invariant.filled ∙ ap (fill (waveAt a.gob a.clg) 0 (replicate 16 (of_bits binary64 0))) e
-    ∙ fill-all (waveAt a.gob a.clg) (replicate 16 (of_bits binary64 0)) 16 (length-replicate {A = Float} 16 (of_bits binary64 0))
+    l.invariant.filled ∙ ap (fill (wave_at a.gob a.clg) 0 (replicate 16 (of_bits binary64 0))) e
+    ∙ fill_all (wave_at a.gob a.clg) (replicate 16 (of_bits binary64 0)) 16 (length-replicate {A = Float} 16 (of_bits binary64 0))
 
-pub waves-spec : {M : Type 1} → statement M
-waves-spec =
+pub waves_spec : {M : Type 1} → statement M
+waves_spec =
     tie.close
     (tie.spec
-    invariant-loop
-    decreases-loop
+    invariant_loop
+    decreases_loop
     (λ c κs. search rules)
     (λ c κs. search rules)
-    loop-holds
-    (λ c κs. search rules)
-    (λ c. search rules)
-    (λ c. search rules)
+    loop_holds
     (λ c κs. search rules)
     (λ c. search rules)
     (λ c. search rules)
+    (λ c κs. search rules)
+    (λ c. search rules)
+    (λ c. search rules)
     (λ c. search rules)
     (λ c. search rules)
     (λ c κs. search rules)
     (λ c κs. search rules)
     (λ c. search rules)
     (λ c. search rules)
-    loop-again
+    loop_again
     returns)

@@ -1,83 +1,83 @@
--- `hour_waves` is `hourWaves`. The loop's invariant: each array is filled with the waves up to jb,
+-- `hour_waves` is `hour_waves`. The loop's invariant: each array is filled with the waves up to jb,
 -- and the cosine and the sine are the wave jb.
 use Rattle.std.proofs.Common.{◌≡◌, ℕ, ◌+◌, ◌-◌, ◌<◌, ◌≤◌, List, length, set, sym, refl, ap, ◌∙◌, add-one, arith, rules}
 use lib.Ieee.{Float, round, of_bits}
 use Rattle.base.specs.declared.angle.Radians.{Radians}
 use Rattle.base.specs.Single.{◌⊕◌, ◌⊖◌, ◌⊗◌, decimal}
 use Rattle.base.specs.Fill.{fill}
-use Rattle.base.proofs.lists.Fills.{fill-first, fill-all}
-use Rattle.base.specs.Elementary.{sin32Of, cos32Of}
+use Rattle.base.proofs.lists.Fills.{fill_first, fill_all}
+use Rattle.base.specs.Elementary.{sin32_of, cos32_of}
 use Rattle.maps.specs.declared.ionosphere.virtim.Waves.{Waves}
-use Rattle.maps.specs.Virtim.{timeOf, waveOf, hourWave, hourWaves}
+use Rattle.maps.specs.Virtim.{time_of, wave_of, hour_wave, hour_waves}
 use Rattle.maps.proofs.ionosphere.virtim.hour_waves.Statement.{statement}
 use Rattle.maps.proofs.ionosphere.virtim.hour_waves.Tie as tie
 
 pub record Made (c0 s0 : Float) (c₀ s₀ c s : List Float) (cosine sine : Float) (jb : ℕ) : Type 0 where
   pub turns : jb ≤ 8
-  pub cosines : c ≡ fill (λ i. (waveOf c0 s0 i).c) 0 c₀ jb
-  pub sines : s ≡ fill (λ i. (waveOf c0 s0 i).s) 0 s₀ jb
-  pub cos : cosine ≡ (waveOf c0 s0 jb).c
-  pub sin : sine ≡ (waveOf c0 s0 jb).s
+  pub cosines : c ≡ fill (λ i. (wave_of c0 s0 i).c) 0 c₀ jb
+  pub sines : s ≡ fill (λ i. (wave_of c0 s0 i).s) 0 s₀ jb
+  pub cos : cosine ≡ (wave_of c0 s0 jb).c
+  pub sin : sine ≡ (wave_of c0 s0 jb).s
 
-abbrev invariant-loop : tie.invariant-loop
-invariant-loop gmt c0 s0 c₀ s₀ cosine₀ sine₀ jb₀ c s cosine sine jb = Made c0 s0 c₀ s₀ c s cosine sine jb
+abbrev invariant_loop : tie.invariant_loop
+invariant_loop gmt c0 s0 c₀ s₀ cosine₀ sine₀ jb₀ c s cosine sine jb = Made c0 s0 c₀ s₀ c s cosine sine jb
 
-abbrev decreases-loop : tie.decreases-loop
-decreases-loop gmt c0 s0 c₀ s₀ cosine₀ sine₀ jb₀ c s cosine sine jb = 8 - jb
+abbrev decreases_loop : tie.decreases_loop
+decreases_loop gmt c0 s0 c₀ s₀ cosine₀ sine₀ jb₀ c s cosine sine jb = 8 - jb
 
 next :
     (c0 s0 : Float) (c₀ s₀ c s : List Float) (cosine sine : Float) (jb : ℕ) → Made c0 s0 c₀ s₀ c s cosine sine jb → jb < 8 →
     Made c0 s0 c₀ s₀ (set c jb cosine) (set s jb sine) (c0 ⊗ cosine ⊖ s0 ⊗ sine) (c0 ⊗ sine ⊕ s0 ⊗ cosine) (jb + 1)
-unfolding waveOf
+unfolding wave_of
 next c0 s0 c₀ s₀ c s cosine sine jb m h =
     record {
       turns = omega arith;
-      cosines = rw (m.cosines, m.cos) (sym (fill-first _ _ _));
-      sines = rw (m.sines, m.sin) (sym (fill-first _ _ _));
-      cos = rw (m.cos, m.sin) (sym (ap (λ (i : ℕ). (waveOf c0 s0 i).c) (add-one jb)));
-      sin = rw (m.cos, m.sin) (sym (ap (λ (i : ℕ). (waveOf c0 s0 i).s) (add-one jb)));
+      cosines = rw (m.cosines, m.cos) (sym (fill_first _ _ _));
+      sines = rw (m.sines, m.sin) (sym (fill_first _ _ _));
+      cos = rw (m.cos, m.sin) (sym (ap (λ (i : ℕ). (wave_of c0 s0 i).c) (add-one jb)));
+      sin = rw (m.cos, m.sin) (sym (ap (λ (i : ℕ). (wave_of c0 s0 i).s) (add-one jb)));
     }
 
 done :
     (gmt c0 s0 : Float) (c₀ s₀ c s : List Float) (cosine sine : Float) (jb : ℕ) → length c₀ ≡ 8 → length s₀ ≡ 8 →
-    Made c0 s0 c₀ s₀ c s cosine sine jb → 8 ≤ jb → c0 ≡ cos32Of (timeOf gmt).0 → s0 ≡ sin32Of (timeOf gmt).0 →
-    ◌≡◌ {A = Waves} (record { c = c; s = s }) (hourWaves gmt)
-unfolding hourWave hourWaves
+    Made c0 s0 c₀ s₀ c s cosine sine jb → 8 ≤ jb → c0 ≡ cos32_of (time_of gmt).0 → s0 ≡ sin32_of (time_of gmt).0 →
+    ◌≡◌ {A = Waves} (record { c = c; s = s }) (hour_waves gmt)
+unfolding hour_wave hour_waves
 done gmt c0 s0 c₀ s₀ c s cosine sine jb l m made h p q =
     let e : jb ≡ 8 = omega arith in
-    rw (made.cosines, made.sines, e, p, q) (λ i. record { c = fill-all (λ j. (hourWave gmt j).c) c₀ 8 l i; s = fill-all (λ j. (hourWave gmt j).s) s₀ 8 m i })
+    rw (made.cosines, made.sines, e, p, q) (λ i. record { c = fill_all (λ j. (hour_wave gmt j).c) c₀ 8 l i; s = fill_all (λ j. (hour_wave gmt j).s) s₀ 8 m i })
 
-loop-holds : tie.Need-loop-init invariant-loop decreases-loop
-unfolding fill waveOf
-loop-holds c = record { turns = search rules; cosines = refl; sines = refl; cos = refl; sin = refl }
+loop_holds : tie.Need-loop-init invariant_loop decreases_loop
+unfolding fill wave_of
+loop_holds c = record { turns = search rules; cosines = refl; sines = refl; cos = refl; sin = refl }
 
-loop-again : tie.Need-loop-preserved invariant-loop decreases-loop
-loop-again c = next _ _ _ _ _ _ _ _ _ c.before.loop.invariant c.loop-test.true
+loop_again : tie.Need-loop-preserved invariant_loop decreases_loop
+loop_again c = next _ _ _ _ _ _ _ _ _ c.before.loop.invariant c.loop-test.true
 
-returns : tie.Need-returns invariant-loop decreases-loop
-unfolding timeOf decimal round of_bits
+returns : tie.Need-returns invariant_loop decreases_loop
+unfolding time_of decimal round of_bits
 returns c =
     let k = c.before.before in
     let t = k.before.before.to_radians.ensures in
     done k.before.before.before.args.gmt _ _ _ _ _ _ _ _ _ refl refl c.before.loop.invariant c.loop-test.false
-    (k.before.cos32.ensures ∙ ap (λ (a : Radians). cos32Of a.0) t)
-    (k.sin32.ensures ∙ ap (λ (a : Radians). sin32Of a.0) t)
+    (k.before.cos32.ensures ∙ ap (λ (a : Radians). cos32_of a.0) t)
+    (k.sin32.ensures ∙ ap (λ (a : Radians). sin32_of a.0) t)
 
-pub hour-waves-spec : {M : Type 1} → statement M
-hour-waves-spec =
+pub hour_waves_spec : {M : Type 1} → statement M
+hour_waves_spec =
     tie.close
     (tie.spec
-    invariant-loop
-    decreases-loop
+    invariant_loop
+    decreases_loop
     (λ c κs. search rules)
     (λ c κs. search rules)
     (λ c κs. search rules)
-    loop-holds
+    loop_holds
     (λ c. search rules)
     (λ c. search rules)
     (λ c. search rules)
     (λ c. search rules)
     (λ c. search rules)
     (λ c. search rules)
-    loop-again
+    loop_again
     returns)

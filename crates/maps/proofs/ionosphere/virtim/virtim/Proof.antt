@@ -1,33 +1,33 @@
--- `virtim` is `virtimOf`. The loop's invariant: AB is what the loop of the definition has at k, and
+-- `virtim` is `virtim_of`. The loop's invariant: AB is what the loop of the definition has at k, and
 -- the table that is lent keeps its rule, which is computed here over all of its entries. The arrays
 -- of cosines and sines hold the waves that the definition takes, as far as a map's harmonics go.
 use Rattle.std.proofs.Common.{◌≡◌, ℕ, zero, suc, ◌+◌, ◌-◌, ◌*◌, ◌<◌, ◌≤◌, List, get_or, refl, ap, ◌∙◌, arith, rules}
 use lib.Ieee.{Float, nan, round, of_bits}
 use Rattle.base.specs.Single.{◌⊕◌, ◌⊗◌, decimal}
 use Rattle.base.specs.Fill.{fill}
-use Rattle.base.specs.Index.{mapWord}
+use Rattle.base.specs.Index.{map_word}
 use Rattle.base.specs.Blend.{IA, IB, IC}
 use Rattle.base.proofs.lists.Fills.{run_at}
 use Rattle.base.proofs.ladder.Ladders.{limits}
 use Rattle.maps.specs.declared.ionosphere.virtim.Waves.{Waves}
 use Rattle.maps.specs.Loop.{loop}
-use Rattle.maps.specs.Virtim.{GoodTable, StartsRule, Wave, hourWave, hourWaves, waveIn, value_of, rowValue, timeMapOf, virtimOf}
-use Rattle.maps.proofs.lists.Loops.{loop-start, loop-turn}
+use Rattle.maps.specs.Virtim.{GoodTable, StartsRule, Wave, hour_wave, hour_waves, wave_in, value_of, row_value, time_map_of, virtim_of}
+use Rattle.maps.proofs.lists.Loops.{loop_start, loop_turn}
 use Rattle.maps.proofs.lists.SeriesStarts.{carried}
 use Rattle.maps.proofs.ionosphere.virtim.virtim.Statement.{statement}
 use Rattle.maps.proofs.ionosphere.virtim.virtim.Tie as tie
 
-abbrev invariant-loop : tie.invariant-loop
-invariant-loop cof index gmt c s ab₀ k₀ starts ab k =
-    (k ≤ 6) × (ab ≡ loop 0 k (timeMapOf (hourWave gmt) cof index) ab₀) × StartsRule starts
+abbrev invariant_loop : tie.invariant_loop
+invariant_loop cof index gmt c s ab₀ k₀ starts ab k =
+    (k ≤ 6) × (ab ≡ loop 0 k (time_map_of (hour_wave gmt) cof index) ab₀) × StartsRule starts
 
-abbrev decreases-loop : tie.decreases-loop
-decreases-loop cof index gmt c s ab₀ k₀ starts ab k = 6 - k
+abbrev decreases_loop : tie.decreases_loop
+decreases_loop cof index gmt c s ab₀ k₀ starts ab k = 6 - k
 
-wave-in : (gmt : Float) (i : ℕ) → i < 8 → waveIn (hourWaves gmt).c (hourWaves gmt).s i ≡ hourWave gmt i
-unfolding hourWaves waveIn
-wave-in gmt i h =
-    λ t. record { c = run_at (λ j. (hourWave gmt j).c) 8 i nan h t; s = run_at (λ j. (hourWave gmt j).s) 8 i nan h t }
+wave_in_law : (gmt : Float) (i : ℕ) → i < 8 → wave_in (hour_waves gmt).c (hour_waves gmt).s i ≡ hour_wave gmt i
+unfolding hour_waves wave_in
+wave_in_law gmt i h =
+    λ t. record { c = run_at (λ j. (hour_wave gmt j).c) 8 i nan h t; s = run_at (λ j. (hour_wave gmt j).s) 8 i nan h t }
 
 -- a series of n harmonics takes n waves
 value_same : (v u : ℕ → Wave) (cof : List Float) (at n : ℕ) → ((i : ℕ) → i < n → v i ≡ u i) → value_of v cof at n ≡ value_of u cof at n
@@ -39,50 +39,50 @@ value_same v u cof at (suc n) f =
     λ t. p t ⊕ (q t).s ⊗ get_or cof (at + 2 * n + 1) nan ⊕ (q t).c ⊗ get_or cof (at + 2 * n + 2) nan
 
 map_same :
-    (cof : List Float) (index : List ℕ) (gmt : Float) (w : Waves) (k : ℕ) (ab : List Float) → GoodTable index → k < 6 → w ≡ hourWaves gmt →
-    timeMapOf (waveIn w.c w.s) cof index k ab ≡ timeMapOf (hourWave gmt) cof index k ab
-unfolding rowValue timeMapOf
+    (cof : List Float) (index : List ℕ) (gmt : Float) (w : Waves) (k : ℕ) (ab : List Float) → GoodTable index → k < 6 → w ≡ hour_waves gmt →
+    time_map_of (wave_in w.c w.s) cof index k ab ≡ time_map_of (hour_wave gmt) cof index k ab
+unfolding row_value time_map_of
 map_same cof index gmt w k ab good h e =
     let g = good k h in
     let l = limits k h in
-    ap (λ (v : Waves). timeMapOf (waveIn v.c v.s) cof index k ab) e
-    ∙ ap (λ (f : ℕ → Float). fill f (get_or IC k 0 - 1) ab (mapWord index k 8 + 1))
-    (λ t j. value_same (waveIn (hourWaves gmt).c (hourWaves gmt).s) (hourWave gmt) cof (get_or IA k 0 - 1 + j * get_or IB k 0) (mapWord index k 9)
-    (λ i q. wave-in gmt i (omega arith)) t)
+    ap (λ (v : Waves). time_map_of (wave_in v.c v.s) cof index k ab) e
+    ∙ ap (λ (f : ℕ → Float). fill f (get_or IC k 0 - 1) ab (map_word index k 8 + 1))
+    (λ t j. value_same (wave_in (hour_waves gmt).c (hour_waves gmt).s) (hour_wave gmt) cof (get_or IA k 0 - 1 + j * get_or IB k 0) (map_word index k 9)
+    (λ i q. wave_in_law gmt i (omega arith)) t)
 
-loop-holds : tie.Need-loop-init invariant-loop decreases-loop
-loop-holds c = (search rules, loop-start 0 _ _, carried _ tt)
+loop_holds : tie.Need-loop-init invariant_loop decreases_loop
+loop_holds c = (search rules, loop_start 0 _ _, carried _ tt)
 
-loop-again : tie.Need-loop-preserved invariant-loop decreases-loop
-loop-again c =
+loop_again : tie.Need-loop-preserved invariant_loop decreases_loop
+loop_again c =
     let k = c.before.before.before.before.before.before in
     let w = k.before.before.before in
     let s = w.before in
-    let f = timeMapOf (hourWave s.args.gmt) s.args.cof.now s.args.index.now in (
+    let f = time_map_of (hour_wave s.args.gmt) s.args.cof.now s.args.index.now in (
       search rules,
-      loop-turn 0 f _ k.loop.k (omega arith) k.loop.invariant.1
+      loop_turn 0 f _ k.loop.k (omega arith) k.loop.invariant.1
           (c.time-map.ensures
           ∙ map_same s.args.cof.now s.args.index.now s.args.gmt w.hour-waves.result k.loop.k _ s.requires
           c.before.before.before.before.before.loop-test.true w.hour-waves.ensures),
       k.loop.invariant.2,
     )
 
-returns : tie.Need-returns invariant-loop decreases-loop
-unfolding virtimOf decimal round of_bits
+returns : tie.Need-returns invariant_loop decreases_loop
+unfolding virtim_of decimal round of_bits
 returns c = let e : c.before.loop.k ≡ 6 = omega arith in rw e at c.before.loop.invariant.1
 
-pub virtim-spec : {M : Type 1} → statement M
-virtim-spec =
+pub virtim_spec : {M : Type 1} → statement M
+virtim_spec =
     tie.close
     (tie.spec
-    invariant-loop
-    decreases-loop
+    invariant_loop
+    decreases_loop
     (λ c κs. search rules)
-    loop-holds
+    loop_holds
     (λ c κs.
     let k = c.before.before.before.before in
     (k.before.before.before.before.before.requires, k.before.loop.invariant.2, k.loop-test.true))
     (λ c. search rules)
     (λ c. search rules)
-    loop-again
+    loop_again
     returns)
