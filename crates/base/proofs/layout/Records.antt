@@ -1,7 +1,7 @@
 -- The month record: what is known where it is not refused, and a part that is lent. Assumes
 -- nothing.
 use Rattle.std.proofs.Common.{◌≡◌, ℕ, ◌+◌, ◌-◌, ◌*◌, ◌≤◌, Bool, true, false, ◌&&◌, leb, List, length, take, drop, sym, refl, ap, ◌∙◌, arith, Bor, leb-true}
-use borrow.Rule.Slice.PartAt.{sl_part}
+use borrow.Rule.Slice.PartAt.{sl_partˢ}
 use Rattle.base.specs.declared.refusal.Refusal.{Refusal}
 use Rattle.base.specs.declared.refusal.Refusal.TheVariants.{Month, Record}
 use Rattle.base.specs.declared.refusal.Verdict.{Verdict}
@@ -41,8 +41,8 @@ module _ (s : List ℕ) (m : ℕ) {v : Verdict} (e : v ≡ month_record_check s 
 
 -- `&s[a..e]` is the part of e - a bytes from a on
 pub part_of :
-    (x : Bor (List ℕ)) (a e g : ℕ) (p : Part) → p.from ≡ a → p.size ≡ e - a → IsPart p x (sl_part x (a + x.ref_ptr.1) a e g)
-part_of x a e g p f z =
+    (x : Bor (List ℕ)) (a e : ℕ) (p : Part) → p.from ≡ a → p.size ≡ e - a → IsPart p x (sl_partˢ x (a + x.ref_ptr.1) a e)
+part_of x a e p f z =
     record {
       bytes = sym (ap (λ (n : ℕ). take n (drop p.from x.now)) z ∙ ap (λ (n : ℕ). take (e - a) (drop n x.now)) f);
       block = refl;

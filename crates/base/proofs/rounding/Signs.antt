@@ -167,4 +167,4 @@ signed_fits x = record { sfits = to_signed_in 31 x }
 
 -- through an `i64` and back to an `i32`
 pub signed_back : (z : ℤ) → SFits w32 z → to_z w64 (of_z w64 z) ≡ z
-signed_back z h = to_z-of_z (sfits_widen tt h)
+signed_back z h = to_z-of_z {w = w64} (sfits_widen {w = w32} {w' = w64} (tt {0}) h)

@@ -1,0 +1,10 @@
+-- `e_weights` is `e_weights`: the literals are the definition's decimals, by computation.
+use Rattle.std.proofs.Common.{refl}
+use lib.Ieee.{round, of_bits}
+use Rattle.base.specs.Single.{decimal}
+use Rattle.base.specs.Blend.{e_weights}
+use Rattle.base.proofs.blend.e_weights.Goals as goal
+
+pub returns : goal.returns
+unfolding e_weights decimal round of_bits
+returns c = refl

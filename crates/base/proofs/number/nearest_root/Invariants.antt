@@ -1,0 +1,11 @@
+-- `nearest_root` is the nearest root, a binary digit a turn: the invariant `Turn` has the digits
+-- read so far as a square and a rest.
+use Rattle.std.proofs.Common.{◌≡◌, ◌+◌, ◌-◌, ◌*◌, ◌^◌, ◌<◌, ⊎_elim, arith}
+use Rattle.base.proofs.roots.Roots.{Turn, first, turn_one, turn_zero, moved, q_lt, last_lt, all, down, up}
+use Rattle.base.proofs.number.nearest_root.Given as goal
+
+abbrev pub invariant-loop-i : goal.invariant-loop-i
+invariant-loop-i l = Turn l.a l.digits l.q l.rest l.i
+
+abbrev pub decreases-loop-i : goal.decreases-loop-i
+decreases-loop-i l = 53 - l.i

@@ -1,0 +1,11 @@
+-- `hour_check` is `hour_check`: the ends of the range are the decimals, by computation.
+use Rattle.std.proofs.Common.{rules}
+use lib.Ieee.{of_bits, round}
+use Rattle.base.specs.Single.{decimal}
+use Rattle.base.specs.Ranges.{hour_check}
+use Rattle.base.proofs.verdicts.Refusals.{by_test}
+use Rattle.base.proofs.ranges.hour_check.Goals as goal
+
+pub returns : goal.returns
+unfolding hour_check decimal round of_bits
+returns c = by_test _ c.refuse_unless.ensures c.is_to.ensures

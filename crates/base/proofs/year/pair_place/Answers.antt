@@ -1,0 +1,35 @@
+-- `pair_place` is the part `pair_part`, by whether the pair and its part lie in the file.
+use Rattle.std.proofs.Common.{◌≡◌, ℕ, ◌+◌, ◌≤◌, sym, ap, ◌∙◌, arith, rules}
+use Rattle.base.specs.MonthFile.{Part}
+use Rattle.base.specs.Year.{end_at}
+use Rattle.base.proofs.layout.Directories.{part_there, part_cut, part_beyond}
+use Rattle.base.proofs.year.pair_place.Goals as goal
+
+abbrev from_of : Part → ℕ
+from_of p = p.from
+
+abbrev size_of : Part → ℕ
+size_of p = p.size
+
+pub returns-then-year-k : goal.returns-then-year-k
+returns-then-year-k c =
+    let p = part_cut _ _ c.if-year-k.true in
+    record { start = sym (ap from_of p); size = sym (ap size_of p); within = omega arith }
+
+pub returns-then-year-end : goal.returns-then-year-end
+returns-then-year-end c =
+    let e = c.end.ensures in
+    let a = c.args in
+    let p = part_beyond a.year.now a.k c.if-year-k.false (omega (arith, e, c.if-year-end.true)) in
+    record { start = sym (ap from_of p); size = sym (ap size_of p); within = omega arith }
+
+pub returns : goal.returns
+unfolding end_at
+returns c =
+    let o = c.offset.ensures.answer in
+    let z = c.size.ensures.answer in
+    let e = c.end.ensures in
+    let h = c.if-year-end.false in
+    let a = c.args in
+    let p = part_there a.year.now a.k c.if-year-k.false (omega (arith, e, h)) in
+    record { start = o ∙ sym (ap from_of p); size = z ∙ sym (ap size_of p); within = omega (arith, o, z, e, h) }
