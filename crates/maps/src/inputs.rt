@@ -35,7 +35,7 @@ pub struct MagneticPole {
 
 impl MagneticPole {
     // The built-in pole: 78.5 degrees north, 69 degrees west.
-    pub fn built_in_law() -> MagneticPole
+    pub fn built_in() -> MagneticPole
         ensures latitude { result.lat.0 ≡ pole_lat }
         ensures longitude { result.lon.0 ≡ pole_lon }
     {

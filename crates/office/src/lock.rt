@@ -87,7 +87,7 @@ fn signed_into(lock: &[u8], who: &mut [u8; LINE]) -> usize
 }
 
 // Its first line, as it is told.
-fn told_of_law(lock: &[u8], who: &mut [u8; LINE]) -> usize
+fn told_of(lock: &[u8], who: &mut [u8; LINE]) -> usize
     ensures { IsPrefixLen result who.new }
 {
     let n = signed_into(lock, who);
@@ -96,7 +96,7 @@ fn told_of_law(lock: &[u8], who: &mut [u8; LINE]) -> usize
 
 fn say_signed(lock: &[u8]) {
     let mut who = [0u8; LINE];
-    let n = told_of_law(lock, &mut who);
+    let n = told_of(lock, &mut who);
     if n == 0 {
         io::write_all(STDERR_FILENO, b"a process that did not sign it");
     }

@@ -44,7 +44,7 @@ fn size_of_year(sizes: &Sizes) -> usize
     n
 }
 
-fn four_bytes_law(w: u32) -> [u8; 4]
+fn four_bytes(w: u32) -> [u8; 4]
     ensures { result ≡ four_bytes w }
 {
     [
@@ -60,7 +60,7 @@ fn put_word(out: &mut [u8; YEAR_MOST], at: usize, w: u32)
     requires { at + 4 ≤ 112 }
     ensures { out.new ≡ fill (λ (k : ℕ). get_or (four_bytes w) k 0) at out.old 4 }
 {
-    let bytes = four_bytes_law(w);
+    let bytes = four_bytes(w);
     let mut k = 0usize;
     while k < 4 {
         out[at + k] = bytes[k];
