@@ -4,7 +4,8 @@
 
 ghost use Rattle.std.specs.Prelude.{◌≡◌, ◌+◌, ◌%◌, ◌^◌, if◌then◌else◌};
 
-use libc::STDOUT_FILENO;
+// POSIX has 1 for standard output.
+const STDOUT_FILENO: i32 = 1;
 
 #[derive(Clone, Copy)]
 pub struct Tally {

@@ -1,0 +1,15 @@
+-- `fill_in` answers the path's count and fills the buffer with `figures_to`, by what its calls
+-- ensure: what the points share is worked out once.
+use Rattle.std.proofs.Common.{◌≡◌, refl, ap, rules}
+use Rattle.maps.specs.declared.geometry.PathGeometry.{PathGeometry}
+use Rattle.maps.specs.Figures.{hour_from}
+use Rattle.maps.proofs.figures.fill_in.Goals as goal
+
+pub returns : goal.returns
+unfolding hour_from
+returns c =
+    let b = c in
+    let d = b in (
+      ap (λ (g : PathGeometry). g.count) d.path-g.ensures,
+      rw (b.put_figures.ensures, d.path-g.ensures, d.monthly_of-m.ensures, d.virtim-ab.ensures) refl,
+    )

@@ -1,0 +1,15 @@
+-- `end_longitude` picks by the size of the latitude against 89.9.
+use Rattle.std.proofs.Common.{sym, ap, ◌∙◌, rules}
+use lib.Ieee.{round, of_bits}
+use Rattle.base.specs.Single.{decimal}
+use Rattle.maps.specs.Geometry.{end_longitude}
+use Rattle.base.proofs.verdicts.Picks.{cond_true, cond_false}
+use Rattle.maps.proofs.geometry.end_longitude.Goals as goal
+
+pub returns-then-abs32 : goal.returns-then-abs32
+unfolding end_longitude decimal round of_bits
+returns-then-abs32 c = sym (cond_true _ _ (rw c.abs32.ensures at c.if-abs32.true))
+
+pub returns-else-abs32 : goal.returns-else-abs32
+unfolding end_longitude decimal round of_bits
+returns-else-abs32 c = rw c.to_radians.ensures (sym (cond_false _ _ (rw c.abs32.ensures at c.if-abs32.false)))

@@ -1,0 +1,16 @@
+-- `folded` picks by the size of x against the engine's own `PI`.
+use Rattle.std.proofs.Common.{sym, ◌∙◌, rules}
+use lib.Ieee.{round, of_bits}
+use Rattle.base.specs.Single.{decimal}
+use Rattle.base.specs.Constants.{PI}
+use Rattle.maps.specs.Geometry.{folded_of}
+use Rattle.base.proofs.verdicts.Picks.{cond_true, cond_false}
+use Rattle.maps.proofs.geometry.folded.Goals as goal
+
+pub returns-then-abs32 : goal.returns-then-abs32
+unfolding folded_of PI decimal round of_bits
+returns-then-abs32 c = c.turned.ensures ∙ sym (cond_true _ _ (rw c.abs32.ensures at c.if-abs32.true))
+
+pub returns-else-abs32 : goal.returns-else-abs32
+unfolding folded_of PI decimal round of_bits
+returns-else-abs32 c = sym (cond_false _ _ (rw c.abs32.ensures at c.if-abs32.false))

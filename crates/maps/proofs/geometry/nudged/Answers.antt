@@ -1,0 +1,24 @@
+-- `nudged` moves the receiver where both differences are close; each arm rewrites with the tests
+-- that led there.
+use Rattle.std.proofs.Common.{Bool, ◌&&◌, sym, ap, ◌∙◌, rules}
+use lib.Ieee.{Float}
+use Rattle.maps.specs.Geometry.{close, nudge_of, nudged_of}
+use Rattle.base.proofs.verdicts.Picks.{cond_true, cond_false}
+use Rattle.maps.proofs.geometry.nudged.Goals as goal
+
+pub returns-then-is_close-2 : goal.returns-then-is_close-2
+unfolding nudged_of
+returns-then-is_close-2 c =
+    rw (
+      sym c.is_close.ensures ∙ c.if-is_close.true,
+      sym c.is_close-then-is_close.ensures ∙ c.if-is_close-2.true,
+      c.nudge.ensures,
+    )
+
+pub returns-else-is_close-2 : goal.returns-else-is_close-2
+unfolding nudged_of
+returns-else-is_close-2 c = rw (sym c.is_close.ensures ∙ c.if-is_close.true, sym c.is_close-then-is_close.ensures ∙ c.if-is_close-2.false)
+
+pub returns-else-is_close : goal.returns-else-is_close
+unfolding nudged_of
+returns-else-is_close c = rw (sym c.is_close.ensures ∙ c.if-is_close.false)

@@ -1,0 +1,14 @@
+-- `add_last` changes each of the first lm elements: the loop's invariant is that it has changed the
+-- first j.
+use Rattle.std.proofs.Common.{◌≡◌, ◌-◌, ◌≤◌, refl, arith, rules}
+use Rattle.base.specs.Single.{◌⊕◌}
+use Rattle.base.specs.Fill.{fill}
+use Rattle.maps.specs.Noisy.{in_plane, each}
+use Rattle.maps.proofs.lists.Refills.{each_turn}
+use Rattle.maps.proofs.ionosphere.noisy.add_last.Given as goal
+
+abbrev pub invariant-loop-j : goal.invariant-loop-j
+invariant-loop-j l = (l.j ≤ l.lm) × (l.zz ≡ each (λ i z. z ⊕ in_plane l.plane 15 i) l.initial.zz l.j)
+
+abbrev pub decreases-loop-j : goal.decreases-loop-j
+decreases-loop-j l = l.lm - l.j

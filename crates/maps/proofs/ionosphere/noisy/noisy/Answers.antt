@@ -1,0 +1,23 @@
+-- `noisy` picks the limits of the two series by the map; the two waves are those of `noisy_sum`.
+use Rattle.std.proofs.Common.{sym, rules}
+use lib.Ieee.{round, of_bits}
+use Rattle.base.specs.Single.{decimal}
+use Rattle.maps.specs.Noisy.{noisy_sum, noisy_of}
+use Rattle.base.proofs.verdicts.Picks.{cond_true, cond_false}
+use Rattle.maps.proofs.ionosphere.noisy.noisy.Goals as goal
+
+pub returns-then-ratio_map : goal.returns-then-ratio_map
+unfolding noisy_of noisy_sum decimal round of_bits
+returns-then-ratio_map c =
+    let k = c in
+    let e = k.wave_of-angle.ensures in
+    let f = k.wave_of-half.ensures in
+    rw (c.noisy_sum.ensures, e.0, e.1, f.0, f.1) (sym (cond_true _ _ c.if-ratio_map.true))
+
+pub returns-else-ratio_map : goal.returns-else-ratio_map
+unfolding noisy_of noisy_sum decimal round of_bits
+returns-else-ratio_map c =
+    let k = c in
+    let e = k.wave_of-angle.ensures in
+    let f = k.wave_of-half.ensures in
+    rw (c.noisy_sum-else-ratio_map.ensures, e.0, e.1, f.0, f.1) (sym (cond_false _ _ c.if-ratio_map.false))

@@ -1,0 +1,13 @@
+-- `together` is `sums_of`. The loop's invariant: each of the three sums has the terms 0 to k.
+use Rattle.std.proofs.Common.{◌≡◌, ℕ, ◌+◌, ◌-◌, ◌≤◌, sym, ap, ◌∙◌, arith, rules}
+use lib.Ieee.{Float}
+use Rattle.base.specs.Double.{◌⊗◌}
+use Rattle.maps.specs.Versy.{elements, sum_of, sums_of}
+use Rattle.maps.proofs.sums.MapSeries.{sum_next}
+use Rattle.maps.proofs.ionosphere.versy.together.Given as goal
+
+abbrev pub invariant-loop-k : goal.invariant-loop-k
+invariant-loop-k l = (l.k ≤ l.n) × (l.a ≡ sum_of l.ab l.i (elements l.ga) l.k) × (l.b ≡ sum_of l.ab l.j (elements l.gb) l.k) × (l.c ≡ sum_of l.ab l.l (elements l.gc) l.k)
+
+abbrev pub decreases-loop-k : goal.decreases-loop-k
+decreases-loop-k l = l.n - l.k

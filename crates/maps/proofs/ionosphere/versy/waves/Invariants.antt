@@ -1,0 +1,28 @@
+-- `waves` is `waves_of`. The loop's invariant: the array is filled up to i, cx and t are those of
+-- the harmonic j, and i + 2 is 2 * j.
+use Rattle.std.proofs.Common.{◌≡◌, ℕ, zero, suc, ◌+◌, ◌-◌, ◌*◌, ◌<◌, ◌≤◌, List, length, set, replicate, pos, sym, refl, ap, ◌∙◌, add-one, arith, rules, ne_eqb}
+use lib.ListN.{length-replicate}
+use lib.Ieee.{Float, binary32, binary64, of_int, mul, of_bits}
+use Rattle.base.specs.Double.{◌⊗◌}
+use Rattle.base.specs.Elementary.{sin_of, cos_of}
+use Rattle.base.specs.Fill.{fill}
+use Rattle.base.proofs.lists.Fills.{fill_first, fill_all}
+use Rattle.base.proofs.verdicts.Picks.{cond_false}
+use Rattle.maps.specs.Versy.{cx_of, t_of, cos_wave, sin_wave, wave_at, waves_of}
+use Rattle.maps.proofs.sums.GeographicFunctions.{even_wave, odd_wave}
+use Rattle.maps.proofs.ionosphere.versy.waves.Given as goal
+
+pub record Made (gob clg wide : Float) (out₀ out : List Float) (cx t : Float) (j i : ℕ) : Type 0 where
+  pub low : 1 ≤ j
+  pub high : j ≤ 9
+  pub place : i + 2 ≡ 2 * j
+  pub widened : wide ≡ gob
+  pub power : cx ≡ cx_of gob j
+  pub angle : t ≡ t_of clg j
+  pub filled : out ≡ fill (wave_at gob clg) 0 out₀ i
+
+abbrev pub invariant-loop-i : goal.invariant-loop-i
+invariant-loop-i l = Made l.gob l.clg l.wide l.initial.out l.out l.cx l.t l.j l.i
+
+abbrev pub decreases-loop-i : goal.decreases-loop-i
+decreases-loop-i l = 16 - l.i
