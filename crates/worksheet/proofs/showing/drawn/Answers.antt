@@ -13,7 +13,7 @@ returns-in-Points c =
     let f = c.figures-shown in
     let is = c.in-Points.is in
     let fits = c.if-out-ne-FIGURES.false in
-    drawn_points _ _ _ _ _ _ _ fits (sym is ∙ f.ensures.0) f.ensures.1 c.put.ensures
+    drawn_points _ _ _ _ _ _ _ fits (sym is ∙ f.ensures.answer) f.ensures.buffer c.put.ensures
 
 pub returns-in-Refused : goal.returns-in-Refused
 returns-in-Refused c =
