@@ -52,6 +52,6 @@ returns c =
     let m = c.magnitude in
     c.float32.ensures
     ∙ ap (λ x. of_bits binary32 (x + m.result)) c.sign_bit.ensures
-    ∙ m.ensures.1 d.negative
+    ∙ m.ensures.value d.negative
     ∙ ap (λ x. round binary32 d.negative d.digits x) c.power_of_ten.ensures
     ∙ sym (cond_true _ _ (ap (λ b. b && leb d.places 18) (lt-ltb d.digits (10 ^ 18) (omega arith)) ∙ le-leb d.places 18 (omega arith)))

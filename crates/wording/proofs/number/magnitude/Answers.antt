@@ -1,7 +1,7 @@
 -- `magnitude` is the pattern of n / d rounded, by the invariants of the two loops (`Widened`,
 -- `Divided`): n / d stays the same number of units, whichever of the two is doubled.
 use mathlib.Core.Path.{◌≡◌, sym, ap, ◌∙◌, subst}
-use mathlib.Core.Logic.{⊎_elim}
+use Rattle.wording.proofs.number.magnitude.Goals.{then-rest-by, else-rest-by}
 use mathlib.Core.Bool.{cond}
 use Prim.Native.Nat.{ℕ, ◌+◌, ◌-◌, ◌*◌, ◌^◌, ◌<◌}
 use native.Mathlib.Nat.{add-zero}
@@ -75,10 +75,10 @@ loop-q-preserved c =
     let t = c.loop-q.invariant in
     let Q = c.loop-q-test.true in
     let N : 0 < c.args.n = omega arith in
-    ⊎_elim
-    (λ w. moved w.1 w.2 (turn_one t Q N p.1 p.2 w.0.taken))
-    (λ w. moved w.1 w.2 (turn_zero t Q N p.1 p.2 w.0.left))
-    c.if-rest-by.branch
+    elim c.if-rest-by.branch [
+      | then-rest-by w ↦ moved w.q-is w.rest-is (turn_one t Q N p.1 p.2 w.if-rest-by.true)
+      | else-rest-by w ↦ moved w.q-is w.rest-is (turn_zero t Q N p.1 p.2 w.if-rest-by.false)
+    ]
 
 pub overflow_mul-result : goal.overflow_mul-result
 overflow_mul-result c =

@@ -8,4 +8,4 @@ use Rattle.wording.proofs.number.unsigned_in.Goals as goal
 pub returns : goal.returns
 returns c =
     let a = c.args in
-    c.number_of_lem.ensures ∙ ap (number_of a.negative) c.scan_from.ensures ∙ read a.negative _
+    c.number_of.ensures ∙ ap (number_of a.negative) c.scan_from.ensures ∙ read a.negative _

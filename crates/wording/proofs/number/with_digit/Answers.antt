@@ -2,7 +2,6 @@
 use borrow.Author.Rules.{rules}
 use borrow.Author.Tests.{lt-ltb, le-ltb}
 use mathlib.Core.Path.{◌≡◌, sym, ap, ◌∙◌}
-use mathlib.Core.Logic.{⊎_elim}
 use mathlib.Core.Bool.{◌&&◌, true, cond}
 use Prim.Native.Nat.{◌+◌, ◌*◌, ◌^◌}
 use native.Mathlib.Nat.{add-zero}
@@ -10,7 +9,7 @@ use lib.Dec.{ltb}
 use Rattle.base.proofs.verdicts.Picks.{cond_true, cond_false}
 use Rattle.wording.specs.declared.number.Scan.{Scan}
 use Rattle.wording.specs.Number.{with_digit}
-use Rattle.wording.proofs.number.with_digit.Goals.{Joined-s}
+use Rattle.wording.proofs.number.with_digit.Goals.{Joined-s, then-s, else-s}
 use Rattle.wording.proofs.number.with_digit.Goals as goal
 
 pub returns-then-s-ge100000000000000000 : goal.returns-then-s-ge100000000000000000
@@ -29,10 +28,10 @@ returns-then-s-ge18 c =
 places : (c : Joined-s) → let s = c.args.s in c.if-s.places ≡ s.places + cond s.point 1 0
 places c =
     let s = c.args.s in
-    ⊎_elim
-    (λ w. w.2 ∙ sym (ap (λ b. s.places + cond b 1 0) w.0.taken))
-    (λ w. w.1 ∙ sym (add-zero s.places) ∙ sym (ap (λ b. s.places + cond b 1 0) w.0.left))
-    c.if-s.branch
+    elim c.if-s.branch [
+      | then-s w ↦ w.places-is ∙ sym (ap (λ b. s.places + cond b 1 0) w.if-s.true)
+      | else-s w ↦ w.places-is ∙ sym (add-zero s.places) ∙ sym (ap (λ b. s.places + cond b 1 0) w.if-s.false)
+    ]
 
 pub returns : goal.returns
 unfolding with_digit

@@ -11,5 +11,5 @@ use Rattle.wording.proofs.token.slot_at.Goals as goal
 pub returns-else-k-lt-WORDS : goal.returns-else-k-lt-WORDS
 returns-else-k-lt-WORDS c =
     let a = c.args in
-    let past : length a.t1 ≤ a.k = omega arith in
-    sym (ap (λ (s : Slot). s.token) (get_or-eq_default a.t1 (record { token = End }) {n = a.k} past))
+    let past : length a.slots ≤ a.k = omega arith in
+    sym (ap (λ (s : Slot). s.token) (get_or-eq_default a.slots (record { token = End }) {n = a.k} past))

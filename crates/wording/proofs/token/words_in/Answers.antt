@@ -1,7 +1,7 @@
 -- `words_in` puts word after word. The loop's invariant: the words so far and those to come are all
 -- words.
 use mathlib.Core.Path.{◌≡◌, sym, ap, ◌∙◌}
-use mathlib.Core.Logic.{⊎_elim}
+use Rattle.wording.proofs.token.words_in.Goals.{then-at-end+else-n-eq-WORDS, else-at-end}
 use Prim.Native.Nat.{ℕ, ◌+◌, ◌-◌}
 use native.Mathlib.Omega.{arith}
 use borrow.Author.Rules.{rules}
@@ -22,12 +22,12 @@ loop-at-preserved c =
     let l = b.loop-at in
     let end = b.word_end-end.result in
     let ends = b.word_end-end.ensures in
-    ⊎_elim
-    (λ w.
-    let stored = w.4 ∙ ap (λ (t : Token). set l.slots l.n (record { token = t })) w.3.ensures in
-    rw (stored, w.5) (word_read l.invariant end ends.words w.0.taken ends.within.1 (omega (arith, l.invariant.few, w.1.left))))
-    (λ w. rw (w.1, w.2) (no_word l.invariant end ends.words w.0.left))
-    c.if-at-end.branch
+    elim c.if-at-end.branch [
+      | then-at-end+else-n-eq-WORDS w ↦
+          let stored = w.slots-is ∙ ap (λ (t : Token). set l.slots l.n (record { token = t })) w.token_in.ensures in
+          rw (stored, w.n-is) (word_read l.invariant end ends.words w.if-at-end.true ends.within.1 (omega (arith, l.invariant.few, w.if-n-eq-WORDS.false)))
+      | else-at-end w ↦ rw (w.slots-is, w.n-is) (no_word l.invariant end ends.words w.if-at-end.false)
+    ]
 
 pub returns : goal.returns
 returns c = all_read c.loop-at.invariant c.loop-at-test.false
