@@ -8,6 +8,9 @@ use base::month_file::{MONTH_FILE, RECORD};
 use base::words;
 use maps::ionosphere::hour_maps;
 use maps::ionosphere::starts::AB_ROWS;
+use std::io::Read;
+use std::rt::Files;
+use system::{opened, read_full};
 use tally::{Tally, counted, none, print_line};
 
 // The bytes of a row: the sunspot number, the hour and what is wanted.
@@ -35,34 +38,32 @@ fn is_hour(row: &[u8; ROW], record: &[u8; RECORD], month: &[u8; MONTH_FILE]) -> 
 }
 
 // A pair of files and the hours worked out from it.
-fn section(fd: i32, t: Tally) -> Tally {
+fn section(file: &mut impl Read, t: Tally) -> Tally {
     let mut t = t;
-    let record = next_record(fd);
-    let month = next_month(fd);
-    let mut left = files::next(fd);
+    let record = next_record(file);
+    let month = next_month(file);
+    let mut left = files::next(file);
     while left > 0 {
         let mut row = [0u8; ROW];
-        io::read_full(fd, &mut row);
+        read_full(file, &mut row);
         t = counted(t, is_hour(&row, &record, &month));
         left -= 1;
     }
     t
 }
 
-fn sections(fd: i32) -> Tally {
+fn sections(file: &mut impl Read) -> Tally {
     let mut t = none();
-    let mut left = files::next(fd);
+    let mut left = files::next(file);
     while left > 0 {
-        t = section(fd, t);
+        t = section(file, t);
         left -= 1;
     }
     t
 }
 
-pub fn replay() {
-    let fd = files::opened(b"hours.bin");
-    if fd >= 0 {
-        print_line(b"hours", sections(fd));
-        libc::close(fd);
+pub fn replay(rt: &impl Files) {
+    if let Some(mut file) = opened(rt, b"hours.bin") {
+        print_line(b"hours", sections(&mut file));
     }
 }

@@ -3,12 +3,14 @@
 // writes them. A row of function 0 holds the name of the function that follows.
 ghost use Rattle.std.specs.Prelude.{◌+◌, ◌^◌, ◌<◌};
 
-use crate::files;
 use crate::row::print_name;
 use base::angle::{Degrees, Radians};
 use base::{constants, elementary, number};
 use maps::geometry;
 use maps::inputs::MagneticPole;
+use std::io::Read;
+use std::rt::Files;
+use system::{opened, read_full};
 use tally::{counted, none, print_line};
 
 fn wide(x: u8) -> u64
@@ -140,14 +142,14 @@ fn is_right(f: u64, w: u64, wanted: u64) -> bool {
 }
 
 // The rows of a file, with a line for each function and one for all.
-fn rows(fd: i32) {
+fn rows(file: &mut impl Read) {
     let mut part = none();
     let mut all = none();
     let mut left: u64 = 1000000;
     while left > 0 {
         left -= 1;
         let mut row = [0u8; 24];
-        let got = io::read_full(fd, &mut row);
+        let got = read_full(file, &mut row);
         if got < 24 {
             left = 0;
         } else {
@@ -169,10 +171,8 @@ fn rows(fd: i32) {
     print_line(b"numbers", all);
 }
 
-pub fn replay() {
-    let fd = files::opened(b"numbers.bin");
-    if fd >= 0 {
-        rows(fd);
-        libc::close(fd);
+pub fn replay(rt: &impl Files) {
+    if let Some(mut file) = opened(rt, b"numbers.bin") {
+        rows(&mut file);
     }
 }

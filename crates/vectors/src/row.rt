@@ -2,8 +2,8 @@
 ghost use Rattle.std.specs.Prelude.{◌≤◌, length};
 
 use base::number;
-use libc::STDOUT_FILENO;
 use maps::geometry::Use;
+use system::STDOUT;
 
 // Whether a float has these bits; two NaNs are alike.
 pub fn is_float(x: f32, wanted: u32) -> bool {
@@ -40,6 +40,6 @@ fn name_end(row: &[u8], from: usize) -> usize
 pub fn print_name(row: &[u8], from: usize) {
     let end = name_end(row, from);
     if from <= end {
-        io::write_all(STDOUT_FILENO, &row[from..end]);
+        io::write_all(STDOUT, &row[from..end]);
     }
 }
