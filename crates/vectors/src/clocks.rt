@@ -96,10 +96,9 @@ fn is_next(file: &mut impl Read, section: u32) -> bool {
 
 fn rows(file: &mut impl Read, section: u32) -> Tally {
     let mut t = none();
-    let mut left = files::next(file);
-    while left > 0 {
+    let count = files::next(file);
+    for _ in 0..count {
         t = counted(t, is_next(file, section));
-        left -= 1;
     }
     t
 }

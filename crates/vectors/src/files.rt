@@ -70,10 +70,8 @@ fn is_walk(file: &mut impl Read, month: [u8; 38616]) -> bool {
 
 fn walks(file: &mut impl Read, month: [u8; 38616]) -> Tally {
     let mut t = none();
-    let mut k: u32 = 0;
-    while k < 2204 {
+    for _ in 0..2204u32 {
         t = counted(t, is_walk(file, month));
-        k += 1;
     }
     t
 }
@@ -104,10 +102,8 @@ fn is_record(file: &mut impl Read, daw: &[u8]) -> bool {
 
 fn records(file: &mut impl Read, daw: &[u8]) -> Tally {
     let mut t = none();
-    let mut k: u32 = 0;
-    while k < 450 {
+    for _ in 0..450u32 {
         t = counted(t, is_record(file, daw));
-        k += 1;
     }
     t
 }
@@ -127,10 +123,8 @@ fn is_index(file: &mut impl Read) -> bool {
 
 fn indexes(file: &mut impl Read) -> Tally {
     let mut t = none();
-    let mut k: u32 = 0;
-    while k < 3160 {
+    for _ in 0..3160u32 {
         t = counted(t, is_index(file));
-        k += 1;
     }
     t
 }
@@ -146,22 +140,18 @@ fn is_word(w: TableWord, wanted: u32) -> bool {
 // The n words of tables from `at` on.
 fn floats(file: &mut impl Read, s: &[u8], at: usize, n: usize, t: Tally) -> Tally {
     let mut t = t;
-    let mut k: usize = 0;
-    while k < n {
+    for k in 0..n {
         let place = std::num::wrapping_add_usize(at, std::num::wrapping_add_usize(k, k));
         let place = std::num::wrapping_add_usize(place, std::num::wrapping_add_usize(k, k));
         t = counted(t, is_word(table_word(s, place), next(file)));
-        k += 1;
     }
     t
 }
 
 fn integers(file: &mut impl Read, month: &[u8], t: Tally) -> Tally {
     let mut t = t;
-    let mut k: usize = 0;
-    while k < 60 {
+    for k in 0..60usize {
         t = counted(t, integer(month, 4 + 4 * k) == number::signed(next(file)));
-        k += 1;
     }
     t
 }
@@ -175,10 +165,8 @@ const STARTS: [usize; 8] = [252, 11444, 16780, 20316, 23492, 25420, 32556, 36964
 fn words(file: &mut impl Read, record: &[u8], month: &[u8]) -> Tally {
     let t = floats(file, record, 0, 1976, none());
     let mut t = integers(file, month, t);
-    let mut k: usize = 0;
-    while k < 8 {
+    for k in 0..8usize {
         t = floats(file, month, STARTS[k], BODIES[k], t);
-        k += 1;
     }
     t
 }
@@ -189,10 +177,8 @@ fn cofions(file: &mut impl Read, record: &[u8], month: &[u8], ssn: f32, t: Tally
     let mut all = [-12345.0f32; COFION];
     cofion(record, month, ssn, &mut all);
     let mut t = t;
-    let mut k: usize = 0;
-    while k < COFION {
+    for k in 0..COFION {
         t = counted(t, is_float(all[k], next(file)));
-        k += 1;
     }
     t
 }
@@ -201,22 +187,18 @@ fn heights(file: &mut impl Read, month: &[u8], ssn: f32, t: Tally) -> Tally {
     let mut all = [-12345.0f32; PLANE];
     hmym(month, ssn, &mut all);
     let mut t = t;
-    let mut k: usize = 0;
-    while k < PLANE {
+    for k in 0..PLANE {
         t = counted(t, is_float(all[k], next(file)));
-        k += 1;
     }
     t
 }
 
 fn blends(file: &mut impl Read, record: &[u8], month: &[u8], t: Tally) -> Tally {
     let mut t = t;
-    let mut k: u32 = 0;
-    while k < 15 {
+    for _ in 0..15u32 {
         let ssn = number::float32(next(file));
         t = cofions(file, record, month, ssn, t);
         t = heights(file, month, ssn, t);
-        k += 1;
     }
     t
 }

@@ -77,12 +77,10 @@ fn is_answered(row: &[u8; 56], record: [u8; RECORD], month: [u8; MONTH_FILE]) ->
 
 fn rows(file: &mut impl Read, record: [u8; RECORD], month: [u8; MONTH_FILE]) -> Tally {
     let mut t = none();
-    let mut k: u32 = 0;
-    while k < 1478 {
+    for _ in 0..1478u32 {
         let mut row = [0u8; 56];
         let n = read_full(file, &mut row);
         t = counted(t, n == 56 && is_answered(&row, record, month));
-        k += 1;
     }
     t
 }

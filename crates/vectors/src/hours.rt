@@ -18,12 +18,10 @@ const ROW: usize = 1280;
 
 // Whether the array holds what a row wants.
 fn is_wanted(ab: &[f32; AB_ROWS], row: &[u8; ROW]) -> bool {
-    let mut k = 0usize;
-    while k < AB_ROWS {
+    for k in 0..AB_ROWS {
         if !is_float(ab[k], words::word(row, 8 + 4 * k)) {
             return false;
         }
-        k += 1;
     }
     true
 }
@@ -42,22 +40,20 @@ fn section(file: &mut impl Read, t: Tally) -> Tally {
     let mut t = t;
     let record = next_record(file);
     let month = next_month(file);
-    let mut left = files::next(file);
-    while left > 0 {
+    let count = files::next(file);
+    for _ in 0..count {
         let mut row = [0u8; ROW];
         read_full(file, &mut row);
         t = counted(t, is_hour(&row, &record, &month));
-        left -= 1;
     }
     t
 }
 
 fn sections(file: &mut impl Read) -> Tally {
     let mut t = none();
-    let mut left = files::next(file);
-    while left > 0 {
+    let count = files::next(file);
+    for _ in 0..count {
         t = section(file, t);
-        left -= 1;
     }
     t
 }

@@ -145,26 +145,22 @@ fn is_right(f: u64, w: u64, wanted: u64) -> bool {
 fn rows(file: &mut impl Read) {
     let mut part = none();
     let mut all = none();
-    let mut left: u64 = 1000000;
-    while left > 0 {
-        left -= 1;
+    for _ in 0..1000000u32 {
         let mut row = [0u8; 24];
-        let got = read_full(file, &mut row);
-        if got < 24 {
-            left = 0;
-        } else {
-            let f = word(&row, 0);
-            if f == 0 {
-                if part.compared > 0 {
-                    tally::print(part);
-                }
-                print_name(&row, 8);
-                part = none();
-            } else {
-                let right = is_right(f, word(&row, 8), word(&row, 16));
-                part = counted(part, right);
-                all = counted(all, right);
+        if read_full(file, &mut row) < 24 {
+            break;
+        }
+        let f = word(&row, 0);
+        if f == 0 {
+            if part.compared > 0 {
+                tally::print(part);
             }
+            print_name(&row, 8);
+            part = none();
+        } else {
+            let right = is_right(f, word(&row, 8), word(&row, 16));
+            part = counted(part, right);
+            all = counted(all, right);
         }
     }
     tally::print(part);

@@ -124,14 +124,12 @@ fn is_route(row: &[u8]) -> bool {
 fn rows(file: &mut impl Read) {
     let mut part = none();
     let mut all = none();
-    let mut left: u64 = 100000000;
-    while left > 0 {
-        left -= 1;
+    for _ in 0..100000000u32 {
         let mut row = [0u8; 216];
-        let got = read_full(file, &mut row);
-        if got < 216 {
-            left = 0;
-        } else if is_heading(&row) {
+        if read_full(file, &mut row) < 216 {
+            break;
+        }
+        if is_heading(&row) {
             if part.compared > 0 {
                 tally::print(part);
             }

@@ -24,16 +24,12 @@ pub fn is_use(u: Use, wanted: u32) -> bool {
 fn name_end(row: &[u8], from: usize) -> usize
     ensures { result ≤ length row.now }
 {
-    let mut i: usize = 0;
-    while i < row.len() {
-        if from <= i {
-            if row[i] == 0 {
-                return i;
-            }
+    for i in from..row.len() {
+        if row[i] == 0 {
+            return i;
         }
-        i += 1;
     }
-    i
+    row.len()
 }
 
 // The name that a row holds from its byte `from` on.

@@ -32,12 +32,10 @@ fn word(row: &[u8], k: usize) -> u32
 
 // Whether the buffer holds a row's figures.
 fn is_figures(out: &[f32; FIGURES], row: &[u8]) -> bool {
-    let mut k = 0usize;
-    while k < FIGURES {
+    for k in 0..FIGURES {
         if !is_float(out[k], word(row, 20 + k)) {
             return false;
         }
-        k += 1;
     }
     true
 }
@@ -101,22 +99,20 @@ fn section(file: &mut impl Read, t: Tally) -> Tally {
     let mut t = t;
     let record = next_record(file);
     let month = next_month(file);
-    let mut left = files::next(file);
-    while left > 0 {
+    let count = files::next(file);
+    for _ in 0..count {
         let mut row = [0u8; 684];
         read_full(file, &mut row);
         t = counted(t, is_sheet(&row, &record, &month));
-        left -= 1;
     }
     t
 }
 
 fn replay_sheets(file: &mut impl Read) {
     let mut t = none();
-    let mut left = files::next(file);
-    while left > 0 {
+    let count = files::next(file);
+    for _ in 0..count {
         t = section(file, t);
-        left -= 1;
     }
     print_line(b"sheets", t);
 }
@@ -146,12 +142,10 @@ fn in_range() -> Inputs {
 }
 
 fn is_as_lent(out: &[f32; LARGEST]) -> bool {
-    let mut k = 0usize;
-    while k < LARGEST {
+    for k in 0..LARGEST {
         if out[k] != LENT {
             return false;
         }
-        k += 1;
     }
     true
 }
@@ -207,10 +201,9 @@ fn replay_refused(file: &mut impl Read) {
     let mut t = none();
     let record = next_record(file);
     let month = next_month(file);
-    let mut left = files::next(file);
-    while left > 0 {
+    let count = files::next(file);
+    for _ in 0..count {
         t = counted(t, is_refused(file, &record, month));
-        left -= 1;
     }
     print_line(b"refused sheets", t);
 }

@@ -37,8 +37,7 @@ fn wanted(row: &[u8]) -> Answer {
 
 // Whether a part is what words.bin has from a byte on.
 fn is_part(part: &[u8], all: &[u8; 46384], from: usize) -> bool {
-    let mut k: usize = 0;
-    while k < part.len() {
+    for k in 0..part.len() {
         let at = std::num::wrapping_add_usize(from, k);
         if at >= 46384 {
             return false;
@@ -46,7 +45,6 @@ fn is_part(part: &[u8], all: &[u8; 46384], from: usize) -> bool {
         if part[k] != all[at] {
             return false;
         }
-        k += 1;
     }
     true
 }
@@ -111,10 +109,9 @@ fn next_table(file: &mut impl Read, record: &[u8], month: [u8; 38616], all: &[u8
 
 fn rows(file: &mut impl Read, record: &[u8], month: [u8; 38616], all: &[u8; 46384]) -> Tally {
     let mut t = none();
-    let mut left = files::next(file);
-    while left > 0 {
+    let count = files::next(file);
+    for _ in 0..count {
         t = counted(t, next_table(file, record, month, all));
-        left -= 1;
     }
     t
 }
