@@ -1,7 +1,7 @@
 -- Bounds of atan, acos, sin and cos as document 01 steps them, by interval arithmetic: three
 -- halvings take [0, 1] into [0, 1/8], the quarter turns off leave 7/4 at most, and there a series'
 -- ends are computed. Assumes nothing.
-use mathlib.Core.Path.{◌≡◌, refl, sym, subst}
+use mathlib.Core.Path.{◌≡◌, refl, sym, ap, ◌∙◌, subst}
 use mathlib.Core.Logic.{inl, inr}
 use mathlib.Core.Bool.{Bool, true, false, not, cond}
 use mathlib.Core.List.{[], ◌∷◌}
@@ -306,9 +306,16 @@ unfolding fraction round
 cos_size v h = subst Small (sym (cos_is v (is_true (le (abs_of v) thousand) h))) (cos_at_law (quarter_of (turns_of v)) (reduced_of v (turns_of v)) (reduced_in_law v h))
 
 -- ---- over f32
+two_float : fraction 2 1 ≡ fin false 1 (pos 1)
+unfolding fraction round
+two_float = refl
+
+two_kept : narrow_of (fin false 1 (pos 1)) ≡ fin false 1 (pos 1)
+unfolding narrow_of round
+two_kept = refl
+
 two_narrow : narrow_of (fraction 2 1) ≡ fraction 2 1
-unfolding narrow_of fraction round
-two_narrow = refl
+two_narrow = ap narrow_of two_float ∙ two_kept ∙ sym two_float
 
 pub atan32_size : (v : Float) → T (not (is_nan v)) → T (le (abs_of (atan32_of v)) (fraction 2 1))
 unfolding atan32_of
@@ -319,9 +326,9 @@ unfolding acos32_of fraction round narrow_of le
 acos32_range v h = narrow_in (fraction 0 1) (fraction 4 1) tt (acos_range v h)
 
 pub sin32_size : (v : Float) → T (le (abs_of v) (fraction 1000 1)) → T (le (abs_of (sin32_of v)) (fraction 2 1))
-unfolding sin32_of fraction round narrow_of
-sin32_size v h = narrow_size (sin_of v) (fraction 2 1) (sin_size v h)
+unfolding sin32_of
+sin32_size v h = rw two_narrow at (narrow_size (sin_of v) (fraction 2 1) (sin_size v h))
 
 pub cos32_size : (v : Float) → T (le (abs_of v) (fraction 1000 1)) → T (le (abs_of (cos32_of v)) (fraction 2 1))
-unfolding cos32_of fraction round narrow_of
-cos32_size v h = narrow_size (cos_of v) (fraction 2 1) (cos_size v h)
+unfolding cos32_of
+cos32_size v h = rw two_narrow at (narrow_size (cos_of v) (fraction 2 1) (cos_size v h))
