@@ -204,14 +204,13 @@ fn is_journal(file: &mut impl Input, lent: Lent, files: &[u8], month: &[u8], sta
 
 fn replay_all(file: &mut impl Input) {
     let mut t = none();
-    let mut left = next(file);
+    let count = next(file);
     let mut record = [0u8; RECORD];
     read_full(file, &mut record);
     let mut month = [0u8; MONTH_FILE];
     read_full(file, &mut month);
-    while left > 0 {
+    for _ in 0..count {
         t = counted(t, is_journal(file, Lent::Pair, &record, &month, START));
-        left -= 1;
     }
     print_line(b"journals", t);
 }
@@ -223,10 +222,9 @@ fn replay_over(file: &mut impl Input, t: Tally, year: &mut [u8]) -> Tally
     read_full(file, year);
     let start = YEAR_START + year.len() as u32;
     let mut t = t;
-    let mut left = next(file);
-    while left > 0 {
+    let count = next(file);
+    for _ in 0..count {
         t = counted(t, is_journal(file, Lent::Year, year, b"", start));
-        left -= 1;
     }
     t
 }
@@ -255,10 +253,9 @@ fn replay_next(file: &mut impl Input, t: Tally) -> Tally {
 
 fn replay_years(file: &mut impl Input) {
     let mut t = none();
-    let mut left = next(file);
-    while left > 0 {
+    let count = next(file);
+    for _ in 0..count {
         t = replay_next(file, t);
-        left -= 1;
     }
     print_line(b"journals over a year", t);
 }

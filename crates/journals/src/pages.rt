@@ -48,10 +48,9 @@ fn replay_all(file: &mut impl Read) {
     next(file);
     let mut pairs = [0u8; PAIRS];
     read_full(file, &mut pairs);
-    let mut left = next(file);
-    while left > 0 {
+    let count = next(file);
+    for _ in 0..count {
         t = counted(t, is_page(file, &pairs));
-        left -= 1;
     }
     print_line(b"pages", t);
 }

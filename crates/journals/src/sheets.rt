@@ -115,12 +115,11 @@ fn is_case(rt: &impl Files, file: &mut impl Read) -> bool {
 
 fn replay_all(rt: &impl Files, file: &mut impl Read) {
     let mut t = none();
-    let mut left = next(file);
+    let count = next(file);
     let mut over = [0u8; PAIR];
     read_full(file, &mut over);
-    while left > 0 {
+    for _ in 0..count {
         t = counted(t, is_case(rt, file));
-        left -= 1;
     }
     print_line(b"sheets", t);
 }

@@ -25,25 +25,19 @@ fn line_end(buffer: &[u8], from: usize, to: usize) -> usize
     requires { (from ≤ to) × (to ≤ length buffer.now) }
     ensures { (from ≤ result) × (result ≤ to) }
 {
-    let mut i = from;
-    while i < to {
+    for i in from..to {
         if buffer[i] == b'\n' {
             return i;
         }
-        i += 1;
     }
-    i
+    to
 }
 
 // Moves the bytes of a line that is not whole yet to the start of the buffer.
 fn shift(buffer: &mut [u8], from: usize, to: usize)
     requires { (from ≤ to) × (to ≤ length buffer.old) }
 {
-    let mut i = from;
-    while i < to {
-        buffer[i - from] = buffer[i];
-        i += 1;
-    }
+    buffer.copy_within(from..to, 0);
 }
 
 // Reads once behind the first n bytes, and gives the number of bytes that came.

@@ -117,8 +117,7 @@ fn write_first(out: &impl Print, year: &[u8], n: usize)
 fn pack_with<R: Env + Files + Print>(rt: &R, year: &mut [u8; YEAR_MOST]) {
     let mut sizes = [0u32; PARTS];
     let mut at = DIRECTORY;
-    let mut k = 0usize;
-    while k < PARTS {
+    for k in 0..PARTS {
         let Some(n) = read_named(rt, k + 1, year, at) else {
             return;
         };
@@ -128,7 +127,6 @@ fn pack_with<R: Env + Files + Print>(rt: &R, year: &mut [u8; YEAR_MOST]) {
         }
         sizes[k] = n as u32;
         at = end;
-        k += 1;
     }
     let n = seal(year, &sizes);
     write_first(rt, year, n);
@@ -144,18 +142,14 @@ pub fn pack<R: Env + Files + Print>(rt: &R) {
 
 // A line for each month and model.
 fn survey(out: &impl Print, year: &[u8]) {
-    let mut month = 1u32;
-    while month <= 12 {
-        let mut model = 0u32;
-        while model < 2 {
+    for month in 1..13u32 {
+        for model in 0..2u32 {
             let mut line = [0u8; LINE];
             let n = survey_line(year, month, model, &mut line);
             if !print(out, &line[..n]) {
                 return;
             }
-            model += 1;
         }
-        month += 1;
     }
 }
 
