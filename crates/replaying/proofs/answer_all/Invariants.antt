@@ -1,14 +1,11 @@
 -- `answer_all` leaves the worksheet that a run of the calls read so far leaves: each call adds
 -- itself to the run. `turns` falls, and a call has at most 28 bytes, so `at` stays small.
-use borrow.Author.Rules.{rules}
-use mathlib.Core.List.{List, [], ◌∷◌, ◌++◌}
-use mathlib.Core.Path.{◌≡◌, refl, sym, ap, ◌∙◌}
-use native.Mathlib.Omega.{arith}
-use Prim.Native.Nat.{ℕ, ◌+◌, ◌*◌, ◌≤◌}
+use mathlib.Core.List.{List}
+use mathlib.Core.Path.{◌≡◌}
+use Prim.Native.Nat.{◌+◌, ◌*◌, ◌≤◌}
 use Rattle.worksheet.specs.declared.desks.Worksheet.{Worksheet}
 use Rattle.worksheet.specs.Showing.{Source, lent_as}
-use Rattle.worksheet.specs.Journal.{Call, step, run}
-use Rattle.listing.proofs.pieces.Turns.{run_last}
+use Rattle.worksheet.specs.Journal.{Call, run}
 use Rattle.replaying.proofs.answer_all.Given as goal
 
 -- v is what some calls on w leave
