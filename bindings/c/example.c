@@ -84,28 +84,11 @@ static int is_answer(const char *call, jt_answer given, uint32_t number, uint32_
     return good;
 }
 
-/* What each point that is there is used for. */
-static void print_uses(const jt_showing *shown)
-{
-    static const char *const words[] = {
-        [JT_USE_NONE] = "none",
-        [JT_USE_E] = "E layer",
-        [JT_USE_F] = "F layer",
-        [JT_USE_ALL] = "all layers",
-    };
-    size_t k;
-    for (k = 0; k < shown->points; k++) {
-        printf(", %s", words[shown->uses[k]]);
-    }
-}
-
 static int is_shown(const input *in, const uint32_t *sheet, uint32_t desk, float *figures)
 {
     jt_showing shown = jt_show(sheet, desk, f2_of(in), in->f2_size, file_of(in), in->file_size,
                                figures, JT_FIGURES);
-    printf("show %lu: %lu points", (unsigned long)desk, (unsigned long)shown.points);
-    print_uses(&shown);
-    putchar('\n');
+    printf("show %lu: %lu points\n", (unsigned long)desk, (unsigned long)shown.points);
     return shown.number == 0;
 }
 

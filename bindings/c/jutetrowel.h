@@ -17,13 +17,12 @@
 extern "C" {
 #endif
 
-/* The words of a sheet's 14 fields, in bytes, and of a worksheet's 15; the figures of a sheet, and its
- * points, absent ones too; the bytes of an F2 record, of a month file and of a year file's directory;
- * the 32-bit words of a worksheet. */
+/* The words of a sheet's 14 fields, in bytes, and of a worksheet's 15; the figures of a sheet; the
+ * bytes of an F2 record, of a month file and of a year file's directory; the 32-bit words of a
+ * worksheet. */
 #define JT_INPUT_BYTES 56
 #define JT_OPEN_BYTES 60
 #define JT_FIGURES 151
-#define JT_POINTS 5
 #define JT_RECORD_BYTES 7904
 #define JT_MONTH_FILE_BYTES 38552
 #define JT_DIRECTORY_BYTES 112
@@ -38,14 +37,6 @@ extern "C" {
 enum {
     JT_CCIR = 0,
     JT_URSI = 1
-};
-
-/* What a point is used for: the E layer, the F layer, all layers, or none where it is absent. */
-enum {
-    JT_USE_NONE = 0,
-    JT_USE_E = 1,
-    JT_USE_F = 2,
-    JT_USE_ALL = 3
 };
 
 /* The numbers of refusals; docs/REFUSALS.md says why each is given and what its place is. 7 is given
@@ -80,13 +71,11 @@ typedef struct {
     uint32_t place;
 } jt_answer;
 
-/* How many points a sheet has (1, 3 or 5), and what each of the five is used for, the rows past the
- * points none; refused, 0 points and no uses with the refusal's number and place. */
+/* How many points a sheet has (1, 3 or 5); refused, 0 with the refusal's number and place. */
 typedef struct {
     uint32_t points;
     uint32_t number;
     uint32_t place;
-    uint32_t uses[JT_POINTS];
 } jt_showing;
 
 /* A part of a lent file, in bytes from its start; refused, 0 and 0 with the refusal's number and

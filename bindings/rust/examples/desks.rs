@@ -15,8 +15,7 @@ fn main() -> Result<(), Box<dyn Error>> {
     let (f2, month_file) = files.split_at(RECORD);
     let mut worksheet = Worksheet::open_words(words)?;
     let before = worksheet.show(0, f2, month_file)?;
-    let uses = &before.uses[..before.points as usize];
-    println!("{} km, points used for {uses:?}", before.figures[1]);
+    println!("{} points, {} km", before.points, before.figures[1]);
 
     worksheet.begin(1)?;
     worksheet.begin(2)?;

@@ -14,7 +14,7 @@ pub mod raw;
 mod worksheet;
 
 pub use clocks::{hour_times, local_time, to_local, to_universal, HourTimes, Shifted};
-pub use raw::{FIGURES, POINTS, WORKSHEET_WORDS as WORDS};
+pub use raw::{FIGURES, WORKSHEET_WORDS as WORDS};
 pub use worksheet::{Change, Worksheet};
 
 use raw::OPEN_BYTES;
@@ -115,38 +115,11 @@ impl Inputs {
     }
 }
 
-/// What a point of a sheet is used for, counted as the library counts it, from 0.
-#[derive(Clone, Copy, Debug, PartialEq, Eq)]
-pub enum Use {
-    /// The point is absent.
-    None,
-    /// The E layer.
-    E,
-    /// The F layer.
-    F,
-    /// All layers.
-    All,
-}
-
-impl Use {
-    fn of(number: u32) -> Self {
-        match number {
-            0 => Use::None,
-            1 => Use::E,
-            2 => Use::F,
-            3 => Use::All,
-            _ => unreachable!("the library has no use {number}"),
-        }
-    }
-}
-
-/// A sheet's figures, and what its points are used for.
+/// A sheet's figures.
 #[derive(Clone, Debug, PartialEq)]
 pub struct Sheet {
     /// 1, 3 or 5.
     pub points: u32,
-    /// Those past the points are `None`.
-    pub uses: [Use; POINTS],
     pub figures: [f32; FIGURES],
 }
 
@@ -175,14 +148,9 @@ fn shown(call: impl FnOnce(&mut [f32]) -> raw::Showing) -> Result<Sheet, Refusal
         points,
         number,
         place,
-        uses,
     } = call(&mut figures);
     match number {
-        0 => Ok(Sheet {
-            points,
-            uses: uses.map(Use::of),
-            figures,
-        }),
+        0 => Ok(Sheet { points, figures }),
         _ => Err(Refusal { number, place }),
     }
 }

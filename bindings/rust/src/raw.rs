@@ -12,8 +12,6 @@ pub const INPUT_BYTES: usize = 56;
 pub const OPEN_BYTES: usize = 60;
 /// Figures of a sheet: six of the path, then 29 for each of five points.
 pub const FIGURES: usize = 151;
-/// Points of a sheet, absent ones too.
-pub const POINTS: usize = 5;
 /// Bytes of an F2 record.
 pub const RECORD_BYTES: usize = 7904;
 /// Bytes of a month file.
@@ -37,16 +35,13 @@ pub struct Answer {
     pub place: u32,
 }
 
-/// How many points a sheet has, and what each of the five is used for (1 E layer, 2 F layer, 3 all
-/// layers), the rows past the points none (0); refused, 0 points and no uses with the refusal's number
-/// and place.
+/// How many points a sheet has; refused, 0 with the refusal's number and place.
 #[repr(C)]
 #[derive(Clone, Copy, Debug, PartialEq, Eq)]
 pub struct Showing {
     pub points: u32,
     pub number: u32,
     pub place: u32,
-    pub uses: [u32; POINTS],
 }
 
 /// A part of a lent file, in bytes from its start; refused, 0 and 0.

@@ -5,7 +5,7 @@ mod common;
 
 use common::{data, lines, Reader, MONTH_FILE, RECORD, WORDS};
 use jutetrowel::raw::OPEN_BYTES;
-use jutetrowel::{Change, Factors, Path, Pole, Refusal, Sheet, Use, Worksheet, CCIR, URSI};
+use jutetrowel::{Change, Factors, Path, Pole, Refusal, Sheet, Worksheet, CCIR, URSI};
 
 fn refused(number: u32, place: u32) -> Result<(), Refusal> {
     Err(Refusal { number, place })
@@ -86,18 +86,6 @@ fn change(operation: u32, call: &mut Reader) -> Change {
     }
 }
 
-/// A sheet as the program `replay` prints it.
-fn shown(sheet: &Sheet) -> String {
-    let uses = sheet.uses.map(|used| match used {
-        Use::None => "none",
-        Use::E => "E",
-        Use::F => "F",
-        Use::All => "all",
-    });
-    let (uses, figures) = (uses.join(" "), lines(&sheet.bits()));
-    format!("points {} {uses}\n{figures}", sheet.points)
-}
-
 /// What a call answers.
 fn said(worksheet: &mut Worksheet, operation: u32, mut call: Reader, lent: Lent) -> String {
     let before = worksheet.clone();
@@ -110,7 +98,7 @@ fn said(worksheet: &mut Worksheet, operation: u32, mut call: Reader, lent: Lent)
         9 => worksheet.take_back(),
         _ => {
             return match lent.show(worksheet, desk) {
-                Ok(sheet) => shown(&sheet),
+                Ok(s) => format!("points {}\n{}", s.points, lines(&s.bits())),
                 Err(refusal) => format!("{refusal}\n"),
             }
         }

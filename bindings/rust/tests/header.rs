@@ -1,9 +1,7 @@
 //! The C header, `raw` and the library's source say the same: every function with its arguments and
-//! its answer, every struct with its fields, every length and every refusal's number. What points are
-//! used for has the same numbers in the header and in the wrapper. An export has the clauses of the
-//! function that it calls.
+//! its answer, every struct with its fields, every length and every refusal's number. An export has
+//! the clauses of the function that it calls.
 
-use jutetrowel::Use;
 use std::collections::BTreeMap;
 use std::fs;
 use std::path::{Path, PathBuf};
@@ -300,7 +298,6 @@ fn lengths_are_the_librarys() {
     assert_eq!(raw::OPEN_BYTES, 4 * fields);
     assert_eq!(raw::INPUT_BYTES, 4 * sheet_fields);
     assert_eq!(raw::DIRECTORY_BYTES, 8 * parts);
-    assert_eq!(raw::POINTS, declared_in("maps/src/geometry.rt", "POINTS"));
     // Inputs, earlier set and four drafts, each behind a word that says what it is.
     assert_eq!(raw::WORKSHEET_WORDS, 6 * (1 + fields));
     let record = declared_in("base/src/month_file.rt", "RECORD");
@@ -309,16 +306,6 @@ fn lengths_are_the_librarys() {
         [raw::RECORD_BYTES, raw::MONTH_FILE_BYTES],
         [record, month_file]
     );
-}
-
-/// The header's numbers whose names start so, by the rest of their names.
-fn c_numbers(start: &str) -> BTreeMap<String, String> {
-    let header = header();
-    let named = between(&header, start, "\n").map(|text| {
-        let (name, number) = text.split_once(" = ").expect("a number");
-        (name.to_owned(), number.trim_end_matches(',').to_owned())
-    });
-    collected(named)
 }
 
 /// `NoDraft` is NO_DRAFT.
@@ -346,12 +333,10 @@ fn refusals_are_the_librarys() {
     assert_eq!(numbers.remove("MONTH_WORD").as_ref(), Some(&word));
     numbers.insert("WORD".to_owned(), word);
     assert_eq!(numbers.len(), 20);
-    assert_eq!(c_numbers("JT_REFUSED_"), numbers);
-}
-
-#[test]
-fn uses_are_the_headers() {
-    let uses = [Use::None, Use::E, Use::F, Use::All];
-    let numbers = uses.map(|used| (in_capitals(&format!("{used:?}")), (used as u32).to_string()));
-    assert_eq!(c_numbers("JT_USE_"), collected(numbers.into_iter()));
+    let header = header();
+    let named = between(&header, "JT_REFUSED_", "\n").map(|text| {
+        let (name, number) = text.split_once(" = ").expect("a number");
+        (name.to_owned(), number.trim_end_matches(',').to_owned())
+    });
+    assert_eq!(collected(named), numbers);
 }

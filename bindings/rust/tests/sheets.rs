@@ -5,7 +5,7 @@ mod common;
 use common::{data, lines, Reader, MONTH_FILE, RECORD, WORDS};
 use jutetrowel::{
     file_check, month_file_check, month_record, sheet, sheet_of_words, table, Factors, Inputs,
-    Path, Pole, Refusal, Use, CCIR, POINTS, URSI,
+    Path, Pole, Refusal, CCIR, URSI,
 };
 
 fn refused<T>(number: u32, place: u32) -> Result<T, Refusal> {
@@ -94,32 +94,6 @@ fn the_example_of_sheet() {
     }
 }
 
-/// Document 02's request 11.
-#[test]
-fn what_points_are_used_for() {
-    let input = data("crates/sheet/stdin");
-    let (f2, file) = input[WORDS..].split_at(RECORD);
-    let shown = |rlat: f32, rlong: f32, long: bool| {
-        let path = Path {
-            rlat,
-            rlong,
-            long,
-            ..usual().path
-        };
-        let shown = sheet(&Inputs { path, ..usual() }, f2, file);
-        shown.map(|sheet| (sheet.points, sheet.uses))
-    };
-    let absent = Use::None;
-    let one = (1, [Use::All, absent, absent, absent, absent]);
-    let three = (3, [Use::E, Use::All, Use::E, absent, absent]);
-    let five = (5, [Use::E, Use::F, Use::All, Use::F, Use::E]);
-    assert_eq!(shown(62.0, 6.5, false), Ok(one));
-    assert_eq!(shown(66.5, -20.25, false), Ok(three));
-    assert_eq!(shown(-30.0, 15.0, false), Ok(five));
-    // The long way round is always far.
-    assert_eq!(shown(62.0, 6.5, true), Ok(five));
-}
-
 #[test]
 fn inputs_of_sheet_from_the_rust() {
     let all = data("crates/journals/data/sheets-in.bin");
@@ -162,13 +136,11 @@ fn sheets_from_the_rust() {
         for _ in 0..from.word() {
             let words = from.bytes(WORDS);
             let points = from.word();
-            let uses = [(); POINTS].map(|()| from.word());
             let wanted: Vec<u32> = (0..151).map(|_| from.word()).collect();
             // Some rows have fields outside document 01's ranges: those are refused by a field.
             match sheet_of_words(words, f2, file) {
                 Ok(sheet) => {
                     assert_eq!(sheet.points, points);
-                    assert_eq!(sheet.uses.map(|used| used as u32), uses);
                     assert_eq!(sheet.bits()[..], wanted);
                     shown += 1;
                 }

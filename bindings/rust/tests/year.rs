@@ -4,7 +4,7 @@
 mod common;
 
 use common::{data, Reader, MONTH_FILE, RECORD, WORDS};
-use jutetrowel::raw::{DIRECTORY_BYTES as DIRECTORY, FIGURES, POINTS};
+use jutetrowel::raw::{DIRECTORY_BYTES as DIRECTORY, FIGURES};
 use jutetrowel::{
     month_record, year_check, year_model, year_month, Change, Refusal, Worksheet, CCIR, URSI,
 };
@@ -35,7 +35,7 @@ fn files() -> ([Vec<u8>; 3], [Vec<u8>; 3]) {
     let mut next = || {
         let [record, file] = [RECORD, MONTH_FILE].map(|size| from.bytes(size).to_vec());
         let rows = from.word() as usize;
-        from.bytes(rows * (WORDS + 4 + 4 * POINTS + 4 * FIGURES));
+        from.bytes(rows * (WORDS + 4 + 4 * FIGURES));
         (record, file)
     };
     let [(r1, f1), (r2, f2), (r3, f3)] = [(); 3].map(|()| next());

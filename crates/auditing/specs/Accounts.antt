@@ -108,7 +108,7 @@ line_account text s = line_text (line_in (line_at text s))
 -- the page of a showing of the inputs i that was not refused
 abbrev pub answer_page : Inputs → Answer → List ℕ
 answer_page i (told v) = []
-answer_page i (shown (Points count uses) figures) = columns_text i count uses figures
+answer_page i (shown (Points count) figures) = columns_text i count figures
 answer_page i (shown (NotShown why) figures) = []
 
 -- THE SHEET that a showing of the worksheet w gives; nothing where it is refused
@@ -120,5 +120,5 @@ sheet_account source w = answer_page w.inputs (step source (show 0 blank) w).ans
 -- the same of an answer as it is handed back, with the buffer beside it
 unfoldable pub handed_page : Inputs → Handed → List Float → List ℕ
 handed_page i (handed.Told v) figures = []
-handed_page i (handed.Shown (Points count uses)) figures = columns_text i count uses figures
+handed_page i (handed.Shown (Points count)) figures = columns_text i count figures
 handed_page i (handed.Shown (NotShown why)) figures = []

@@ -152,7 +152,7 @@ module _ (source : Source) (text : List ℕ) where
 unfoldable pub handed_good : Handed → Bool
 handed_good (handed.Told Accepted) = true
 handed_good (handed.Told (Refused why)) = false
-handed_good (handed.Shown (Points count uses)) = true
+handed_good (handed.Shown (Points count)) = true
 handed_good (handed.Shown (NotShown why)) = false
 
 abbrev pub stage_of : Verdict → Stage

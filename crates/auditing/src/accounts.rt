@@ -236,7 +236,7 @@ fn handed_page(
     match answer {
         Answer::Told(_) => 0,
         Answer::Shown(s) => match s {
-            Shown::Points(count, uses) => columns_text(i, count, uses, figures, out),
+            Shown::Points(count) => columns_text(i, count, figures, out),
             Shown::Refused(_) => 0,
         },
     }

@@ -70,7 +70,7 @@ fn is_accepted(a: Answer) -> bool
             Verdict::Refused(_) => false,
         },
         Answer::Shown(s) => match s {
-            Shown::Points(_, _) => true,
+            Shown::Points(_) => true,
             Shown::Refused(_) => false,
         },
     }

@@ -2,12 +2,11 @@
 ghost use Rattle.std.specs.Prelude.{◌≡◌};
 ghost use Rattle.base.specs.declared.refusal.Verdict.TheVariants.{Refused};
 ghost use Rattle.base.specs.MonthFile.{empty_part};
-ghost use Rattle.jutetrowel.specs.Answers.{answer_of, use_code, use_codes, showing_of, shown_numbers, span_of, span_unless};
+ghost use Rattle.jutetrowel.specs.Answers.{answer_of, showing_of, shown_numbers, span_of, span_unless};
 
 use base::refusal::{Refusal, Verdict};
 use base::tables::Place;
 use maps::figures::Shown;
-use maps::geometry::{POINTS, Use, Uses};
 
 // The documents' number of a refusal, and its place; 0 and 0 where nothing is refused.
 #[repr(C)]
@@ -17,15 +16,13 @@ pub struct Answer {
     pub place: u32,
 }
 
-// How many points a sheet has and what the five are used for, as `use_code` has it; where it is
-// refused 0 and no uses, with the refusal's number and place.
+// How many points a sheet has; where it is refused 0, with the refusal's number and place.
 #[repr(C)]
 #[derive(Clone, Copy)]
 pub struct Showing {
     pub points: u32,
     pub number: u32,
     pub place: u32,
-    pub uses: [u32; POINTS],
 }
 
 // Where a part of a lent file starts, and its bytes; refused, both 0.
@@ -47,49 +44,19 @@ pub(crate) fn answered(v: Verdict) -> Answer
     }
 }
 
-fn use_code(u: Use) -> u32
-    ensures { result ≡ use_code u }
-{
-    match u {
-        Use::NoLayer => 0,
-        Use::ELayer => 1,
-        Use::FLayer => 2,
-        Use::AllLayers => 3,
-    }
-}
-
-fn use_codes(uses: Uses) -> [u32; POINTS]
-    ensures { result ≡ use_codes uses }
-{
-    let p1 = uses.p1;
-    let p2 = uses.p2;
-    let p3 = uses.p3;
-    let p4 = uses.p4;
-    let p5 = uses.p5;
-    [
-        use_code(p1),
-        use_code(p2),
-        use_code(p3),
-        use_code(p4),
-        use_code(p5),
-    ]
-}
-
 pub(crate) fn shown_as(shown: Shown) -> Showing
     ensures { result ≡ showing_of shown }
 {
     match shown {
-        Shown::Points(count, uses) => Showing {
+        Shown::Points(count) => Showing {
             points: count,
             number: 0,
             place: 0,
-            uses: use_codes(uses),
         },
         Shown::Refused(why) => Showing {
             points: 0,
             number: why.number(),
             place: why.place(),
-            uses: [0; POINTS],
         },
     }
 }

@@ -13,9 +13,9 @@ use maps::inputs::Inputs;
 use worksheet::desks::sheet_opened;
 use worksheet::showing::{drawn, show};
 
-// The number of points of a sheet by its fields, which nothing judges, and their uses, with its
-// figures in the buffer; a flag that is not 0 is the long way round. Refuses 12, 8, 9, 10, 23, 11;
-// the buffer stays.
+// The number of points of a sheet by its fields, which nothing judges, with its figures in the
+// buffer; a flag that is not 0 is the long way round. Refuses 12, 8, 9, 10, 23, 11; the buffer
+// stays.
 pub fn jt_figures(
     month: u32,
     ssn: f32,
@@ -56,9 +56,9 @@ pub fn jt_figures(
     shown_as(drawn(i, f2, file, out))
 }
 
-// A whole sheet of 14 little-endian words, an F2 record and a month file: the number of points and
-// their uses, with the figures in the buffer. A 15th word is not read: the model is 0. Refuses the
-// fields, 12, 8, 9, 10, 23, 11; the buffer stays.
+// A whole sheet of 14 little-endian words, an F2 record and a month file: the number of points,
+// with the figures in the buffer. A 15th word is not read: the model is 0. Refuses the fields, 12,
+// 8, 9, 10, 23, 11; the buffer stays.
 pub fn jt_sheet(words: &[u8], f2: &[u8], file: &[u8], out: &mut [f32]) -> Showing
     ensures { Shows (step (pair f2.now file.now)
         (showCall 0 out.old) (sheet_opened_of words.now).sheet).answer

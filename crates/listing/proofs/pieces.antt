@@ -1,7 +1,6 @@
 -- Texts put together piece by piece.
 pub mod Puts
 pub mod Rows
-pub mod UseWords
 pub mod Series
 pub mod Named
 pub mod Abreast

@@ -6,12 +6,10 @@ use Rattle.base.specs.declared.refusal.Refusal.{Refusal}
 use Rattle.base.specs.declared.refusal.Verdict.{Verdict}
 use Rattle.base.specs.declared.refusal.Verdict.TheVariants.{Accepted, Refused}
 use Rattle.base.specs.Refusal.{report_of}
-use Rattle.maps.specs.declared.geometry.Uses.{Uses}
 use Rattle.maps.specs.declared.figures.Shown.{Shown}
 use Rattle.maps.specs.declared.figures.Shown.TheVariants as shown
 use Rattle.wording.specs.Token.{ascii}
 use Rattle.listing.specs.Text.{decimal_of}
-use Rattle.listing.specs.Uses.{uses_text}
 
 -- ---- the lines of a sheet
 
@@ -54,19 +52,18 @@ unfoldable pub verdict_text : Verdict → List ℕ
 verdict_text Accepted = ascii "accepted\n"
 verdict_text (Refused why) = refusal_text why
 
--- 'points', number, what the five are used for, and the lines
-unfoldable pub points_text : ℕ → Uses → List Float → List ℕ
-points_text count uses figures =
-    ascii "points " ++ (decimal_of count ++ (uses_text uses ++ (ascii "\n" ++ lines_of figures)))
+-- 'points', number, and the lines
+unfoldable pub points_text : ℕ → List Float → List ℕ
+points_text count figures = ascii "points " ++ (decimal_of count ++ (ascii "\n" ++ lines_of figures))
 
 -- of a showing in a journal
 unfoldable pub shown_text : Shown → List Float → List ℕ
-shown_text (shown.Points count uses) figures = points_text count uses figures
+shown_text (shown.Points count) figures = points_text count figures
 shown_text (shown.Refused why) figures = refusal_text why
 
--- of a sheet by itself: no number of points and no uses
+-- of a sheet by itself: no number of points
 unfoldable pub sheet_text : Shown → List Float → List ℕ
-sheet_text (shown.Points count uses) figures = lines_of figures
+sheet_text (shown.Points count) figures = lines_of figures
 sheet_text (shown.Refused why) figures = refusal_text why
 
 -- of bytes that make no call: where they start

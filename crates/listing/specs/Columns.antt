@@ -1,13 +1,10 @@
 -- The page of a sheet with its points side by side, for a person to read. Assumes nothing.
 use Rattle.std.specs.Prelude.{ℕ, ◌+◌, ◌*◌, cond, List, ◌++◌, ltb, get_or, Float}
 use Rattle.std.specs.Float.{nan}
-use Rattle.maps.specs.declared.geometry.Uses.{Uses}
 use Rattle.maps.specs.declared.inputs.Inputs.{Inputs}
-use Rattle.maps.specs.Geometry.{use_at}
 use Rattle.wording.specs.Token.{ascii}
 use Rattle.listing.specs.Text.{decimal_of}
 use Rattle.listing.specs.Decimal.{decimal_text}
-use Rattle.listing.specs.Uses.{use_name}
 use Rattle.listing.specs.Page.{Row, page_row, name_text, unit_text}
 use Rattle.listing.specs.Fields.{at_right, in_turn, fields_words}
 
@@ -36,18 +33,13 @@ side_rows first figures at n m = in_turn (λ (k : ℕ). side_row (page_row (firs
 abbrev pub point_numbers : ℕ → List ℕ
 point_numbers n = in_turn (λ (p : ℕ). cell (decimal_of (p + 1))) n
 
--- what they are used for
-abbrev pub point_uses : Uses → ℕ → List ℕ
-point_uses uses n = in_turn (λ (p : ℕ). cell (ascii (use_name (use_at uses p)))) n
-
-unfoldable pub points_head : Uses → ℕ → List ℕ
-points_head uses n =
-    ascii "point       " ++ (point_numbers n ++ (ascii "\nused for    " ++ (point_uses uses n ++ ascii "\n")))
+unfoldable pub points_head : ℕ → List ℕ
+points_head n = ascii "point       " ++ (point_numbers n ++ ascii "\n")
 
 -- the fields, the six figures of the path, and the 29 of each point that is there
-unfoldable pub columns_text : Inputs → ℕ → Uses → List Float → List ℕ
-columns_text i count uses figures =
+unfoldable pub columns_text : Inputs → ℕ → List Float → List ℕ
+columns_text i count figures =
     let n = abreast count in
     let path = side_rows 12 figures 0 1 6 in
     let points = side_rows 18 figures 6 n 29 in
-    fields_words i ++ (ascii "\n" ++ (path ++ (ascii "\n" ++ (points_head uses n ++ points))))
+    fields_words i ++ (ascii "\n" ++ (path ++ (ascii "\n" ++ (points_head n ++ points))))

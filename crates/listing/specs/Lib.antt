@@ -1,5 +1,4 @@
 -- The definitions that the contracts of `listing` cite. Assumes nothing.
-pub mod Uses
 pub mod Answer
 pub mod Calls
 pub mod Turn

@@ -3,13 +3,10 @@ use Rattle.std.specs.Prelude.{ℕ, zero, suc, ◌+◌, ◌*◌, Bool, cond, List
 use Prim.Native.String.{String, [] as []ˢ, ◌∷◌ as ◌∷ˢ◌}
 use Rattle.std.specs.Float.{nan, binary32}
 use Rattle.std.specs.Float.Ieee.{to_bits}
-use Rattle.maps.specs.declared.geometry.Uses.{Uses}
 use Rattle.maps.specs.declared.inputs.Inputs.{Inputs}
-use Rattle.maps.specs.Geometry.{use_at}
 use Rattle.maps.specs.Inputs.{is_long}
 use Rattle.wording.specs.Token.{ascii}
 use Rattle.listing.specs.Text.{decimal_of}
-use Rattle.listing.specs.Uses.{use_name}
 use Rattle.listing.specs.Answer.{hex_of}
 use Rattle.listing.specs.Decimal.{decimal_text}
 
@@ -129,26 +126,21 @@ fields_text i =
     let long = long_text (is_long i.route.long_path) in
     ascii "month       " ++ (decimal_of i.month ++ (ascii "\n" ++ (early ++ (long ++ late))))
 
--- `point 1, used for: E layer`
-unfoldable pub point_head : Uses → ℕ → List ℕ
-point_head uses p =
-    ascii "point " ++ (decimal_of (p + 1) ++ (ascii ", used for: " ++ (ascii (use_name (use_at uses p)) ++ ascii "\n")))
-
 -- the point of number p, from 0 on: number k of it stands at 6 + 29 p + k
-unfoldable pub point_text : Uses → List Float → ℕ → List ℕ
-point_text uses figures p = point_head uses p ++ rows_text 18 figures (6 + 29 * p) 29
+unfoldable pub point_text : List Float → ℕ → List ℕ
+point_text figures p = ascii "point " ++ (decimal_of (p + 1) ++ (ascii "\n" ++ rows_text 18 figures (6 + 29 * p) 29))
 
 -- where it is there
-unfoldable pub there_text : ℕ → Uses → List Float → ℕ → List ℕ
-there_text count uses figures p = cond (ltb p count) (point_text uses figures p) []
+unfoldable pub there_text : ℕ → List Float → ℕ → List ℕ
+there_text count figures p = cond (ltb p count) (point_text figures p) []
 
 -- the first n points
-unfoldable pub first_points : ℕ → Uses → List Float → ℕ → List ℕ
-first_points count uses figures zero = []
-first_points count uses figures (suc p) = first_points count uses figures p ++ there_text count uses figures p
+unfoldable pub first_points : ℕ → List Float → ℕ → List ℕ
+first_points count figures zero = []
+first_points count figures (suc p) = first_points count figures p ++ there_text count figures p
 
-unfoldable pub page_text : Inputs → ℕ → Uses → List Float → List ℕ
-page_text i count uses figures = fields_text i ++ (rows_text 12 figures 0 6 ++ first_points count uses figures 5)
+unfoldable pub page_text : Inputs → ℕ → List Float → List ℕ
+page_text i count figures = fields_text i ++ (rows_text 12 figures 0 6 ++ first_points count figures 5)
 
 -- ---- on the way: nothing below need be believed
 

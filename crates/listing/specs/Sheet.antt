@@ -17,7 +17,7 @@ sheet_answer words f2 file =
     sheet_text (show_of (pair f2 file) 0 blank w) (show_buffer (pair f2 file) 0 blank w)
 
 unfoldable pub page_for : Inputs → Shown → List Float → List ℕ
-page_for i (Points count uses) figures = page_text i count uses figures
+page_for i (Points count) figures = page_text i count figures
 page_for i (Refused why) figures = refusal_text why
 
 -- the page, or the line of the refusal

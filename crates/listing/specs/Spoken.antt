@@ -3,7 +3,6 @@ use Rattle.std.specs.Prelude.{ℕ, cond, List, ◌++◌, eqb, Float}
 use Prim.Native.String.{String}
 use Rattle.base.specs.declared.refusal.Verdict.{Verdict}
 use Rattle.base.specs.declared.refusal.Verdict.TheVariants.{Accepted, Refused}
-use Rattle.maps.specs.declared.geometry.Uses.{Uses}
 use Rattle.maps.specs.declared.figures.Shown.{Shown}
 use Rattle.maps.specs.declared.figures.Shown.TheVariants.{Points, Refused as NotShown}
 use Rattle.maps.specs.declared.inputs.Inputs.{Inputs}
@@ -31,14 +30,14 @@ abbrev pub points_noun : ℕ → String
 points_noun count = cond (eqb count 1) " point\n" " points\n"
 
 -- `shown, 3 points`, the page and an empty line
-unfoldable pub points_words : Inputs → ℕ → Uses → List Float → List ℕ
-points_words i count uses figures =
+unfoldable pub points_words : Inputs → ℕ → List Float → List ℕ
+points_words i count figures =
     ascii "shown, "
     ++ (decimal_of count
-    ++ (ascii (points_noun count) ++ (columns_text i count uses figures ++ ascii "\n")))
+    ++ (ascii (points_noun count) ++ (columns_text i count figures ++ ascii "\n")))
 
 unfoldable pub shown_words : Inputs → Shown → List Float → List ℕ
-shown_words i (Points count uses) figures = points_words i count uses figures
+shown_words i (Points count) figures = points_words i count figures
 shown_words i (NotShown why) figures = refused_line why
 
 -- of an answer as demand 3 has it, a showing's being of the inputs i

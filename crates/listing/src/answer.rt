@@ -5,15 +5,13 @@ ghost use Rattle.listing.specs.Text.{Put};
 ghost use Rattle.listing.specs.Answer.{glyph_of, hex_of, line_of, lines_of, refusal_text, verdict_text, points_text, shown_text, sheet_text, stopped_text};
 
 use crate::text::{put, put_number};
-use crate::uses::put_uses;
 use base::number;
 use base::refusal::{Refusal, Verdict};
 use maps::figures::{FIGURES, Shown};
-use maps::geometry::Uses;
 
-// At least the bytes of the longest answer: `points`, a number of ten digits, five words of five
-// bytes, and a line of nine bytes for each figure.
-pub const ANSWER: usize = 43 + 9 * FIGURES;
+// The bytes of the longest answer: `points`, a number of ten digits, and a line of nine bytes for
+// each figure.
+pub const ANSWER: usize = 18 + 9 * FIGURES;
 
 // The lowercase hexadecimal digit of d as a byte of text, of its last one where d has more.
 pub fn glyph(d: u32) -> u8
@@ -86,26 +84,25 @@ pub fn verdict_text(v: Verdict, out: &mut [u8; ANSWER]) -> usize
     }
 }
 
-// The line `points`, number, uses, and the lines of the figures.
-fn points_text(count: u32, uses: Uses, figures: &[f32; FIGURES], out: &mut [u8; ANSWER]) -> usize
-    ensures text { take result out.new ≡ points_text count uses figures.now }
+// The line `points`, number, and the lines of the figures.
+fn points_text(count: u32, figures: &[f32; FIGURES], out: &mut [u8; ANSWER]) -> usize
+    ensures text { take result out.new ≡ points_text count figures.now }
     ensures count { IsPrefixLen result out.new }
 {
     let next = put(out, 0, b"points ");
     let next = put_number(out, next, count as u64);
-    let next = put_uses(out, next, uses);
     let next = put(out, next, b"\n");
     put_lines(out, next, figures)
 }
 
-// Writes what a showing in a journal answers, `points` with their number and uses and the figures'
-// lines, or the refusal's line, and gives its length in bytes.
+// Writes what a showing in a journal answers, `points` and the figures' lines or the refusal's
+// line, and gives its length in bytes.
 pub fn shown_text(s: Shown, figures: &[f32; FIGURES], out: &mut [u8; ANSWER]) -> usize
     ensures text { take result out.new ≡ shown_text s figures.now }
     ensures count { IsPrefixLen result out.new }
 {
     match s {
-        Shown::Points(count, uses) => points_text(count, uses, figures, out),
+        Shown::Points(count) => points_text(count, figures, out),
         Shown::Refused(why) => refusal_text(why, out),
     }
 }
@@ -117,7 +114,7 @@ pub fn sheet_text(s: Shown, figures: &[f32; FIGURES], out: &mut [u8; ANSWER]) ->
     ensures count { IsPrefixLen result out.new }
 {
     match s {
-        Shown::Points(_, _) => put_lines(out, 0, figures),
+        Shown::Points(_) => put_lines(out, 0, figures),
         Shown::Refused(why) => refusal_text(why, out),
     }
 }

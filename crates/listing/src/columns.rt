@@ -3,22 +3,18 @@ ghost use Rattle.std.specs.Prelude.{◌≡◌, ◌+◌, ◌-◌, ◌*◌, ◌≤
 ghost use Rattle.io.specs.Counts.{IsPrefixLen};
 ghost use Rattle.listing.specs.Text.{Put, decimal_of};
 ghost use Rattle.listing.specs.Decimal.{decimal_text};
-ghost use Rattle.wording.specs.Token.{ascii};
-ghost use Rattle.listing.specs.Uses.{use_name};
 ghost use Rattle.listing.specs.Page.{page_row};
-ghost use Rattle.listing.specs.Columns.{abreast, cell, cells_text, side_row, side_rows, point_numbers, point_uses, points_head, columns_text};
+ghost use Rattle.listing.specs.Columns.{abreast, cell, cells_text, side_row, side_rows, point_numbers, points_head, columns_text};
 
 use crate::decimal::put_float;
 use crate::fields::{put_fields_words, put_whole};
 use crate::page::{name, put_unit, unit};
 use crate::text::put;
-use crate::uses::put_use_name;
 use maps::figures::FIGURES;
-use maps::geometry::{Use, Uses, use_at};
 use maps::inputs::Inputs;
 
 // At least the bytes of the longest page.
-pub const COLUMNS: usize = 10200;
+pub const COLUMNS: usize = 10000;
 
 // How many points stand side by side.
 fn points_abreast(count: u32) -> usize
@@ -143,39 +139,13 @@ fn put_point_numbers(out: &mut [u8], at: usize, n: usize) -> usize
     next
 }
 
-fn put_point_use(out: &mut [u8], at: usize, u: Use) -> usize
-    requires { at + 45 ≤ length out.old }
-    ensures { Put out.old at (cell (ascii (use_name u))) out.new result }
-{
-    let mut text = [0u8; 10];
-    let size = put_use_name(&mut text, 0, u);
-    put_cell(out, at, &text[..size])
-}
-
-fn put_point_uses(out: &mut [u8], at: usize, uses: Uses, n: usize) -> usize
+fn put_points_head(out: &mut [u8], at: usize, n: usize) -> usize
     requires n_bound { n ≤ 5 }
-    requires n_in_bounds { at + 45 * n ≤ length out.old }
-    ensures { Put out.old at (point_uses uses n) out.new result }
-{
-    let mut next = at;
-    let mut p: usize = 0;
-    while p < n {
-        next = put_point_use(out, next, use_at(uses, p));
-        p += 1;
-    }
-    next
-}
-
-// Puts two lines, the numbers of the points and what they are used for.
-fn put_points_head(out: &mut [u8], at: usize, uses: Uses, n: usize) -> usize
-    requires n_bound { n ≤ 5 }
-    requires at_in_bounds { at + 356 ≤ length out.old }
-    ensures { Put out.old at (points_head uses n) out.new result }
+    requires at_in_bounds { at + 118 ≤ length out.old }
+    ensures { Put out.old at (points_head n) out.new result }
 {
     let next = put(out, at, b"point       ");
     let next = put_point_numbers(out, next, n);
-    let next = put(out, next, b"\nused for    ");
-    let next = put_point_uses(out, next, uses, n);
     put(out, next, b"\n")
 }
 
@@ -185,18 +155,17 @@ pub(crate) fn put_columns(
     at: usize,
     i: Inputs,
     count: u32,
-    uses: Uses,
     figures: &[f32; FIGURES],
 ) -> usize
-    requires { at + 10200 ≤ length out.old }
-    ensures { Put out.old at (columns_text i count uses figures.now) out.new result }
+    requires { at + 10000 ≤ length out.old }
+    ensures { Put out.old at (columns_text i count figures.now) out.new result }
 {
     let n = points_abreast(count);
     let next = put_fields_words(out, at, i);
     let next = put(out, next, b"\n");
     let next = put_side_rows(out, next, 12, figures, 0, 1, 6);
     let next = put(out, next, b"\n");
-    let next = put_points_head(out, next, uses, n);
+    let next = put_points_head(out, next, n);
     put_side_rows(out, next, 18, figures, 6, n, 29)
 }
 
@@ -204,12 +173,11 @@ pub(crate) fn put_columns(
 pub fn columns_text(
     i: Inputs,
     count: u32,
-    uses: Uses,
     figures: &[f32; FIGURES],
     out: &mut [u8; COLUMNS],
 ) -> usize
-    ensures text { take result out.new ≡ columns_text i count uses figures.now }
+    ensures text { take result out.new ≡ columns_text i count figures.now }
     ensures count { IsPrefixLen result out.new }
 {
-    put_columns(out, 0, i, count, uses, figures)
+    put_columns(out, 0, i, count, figures)
 }

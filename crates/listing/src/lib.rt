@@ -16,5 +16,4 @@ pub mod spoken;
 pub mod survey;
 mod text;
 pub mod turn;
-mod uses;
 pub mod written;

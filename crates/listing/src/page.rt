@@ -2,15 +2,13 @@
 ghost use Rattle.std.specs.Prelude.{◌≡◌, ◌+◌, ◌*◌, ◌≤◌, ◌<◌, length, take};
 ghost use Rattle.io.specs.Counts.{IsPrefixLen};
 ghost use Rattle.listing.specs.Text.{Put};
-ghost use Rattle.listing.specs.Page.{page_row, name_text, letters_in, unit_in, unit_text, value_text, row_text, rows_text, fields_text, point_head, point_text, there_text, first_points, page_text};
+ghost use Rattle.listing.specs.Page.{page_row, name_text, letters_in, unit_in, unit_text, value_text, row_text, rows_text, fields_text, point_text, there_text, first_points, page_text};
 
 use crate::answer::hex;
 use crate::decimal::put_float;
 use crate::text::{put, put_if, put_number};
-use crate::uses::put_use_name;
 use base::number;
 use maps::figures::FIGURES;
-use maps::geometry::{Uses, use_at};
 use maps::inputs::Inputs;
 
 // More than the bytes of the longest page.
@@ -227,55 +225,38 @@ fn put_fields(out: &mut [u8; PAGE], i: Inputs) -> usize
     put_rows(out, next, 6, &late, 0, 6)
 }
 
-// The line over a point: its number and what it is used for.
-fn put_point_head(out: &mut [u8], at: usize, uses: Uses, p: u32) -> usize
+// A point under a line with its number.
+fn put_point(out: &mut [u8], at: usize, figures: &[f32; FIGURES], p: u32) -> usize
     requires p_bound { p < 5 }
-    requires at_in_bounds { at + 49 ≤ length out.old }
-    ensures { Put out.old at (point_head uses p) out.new result }
+    requires at_in_bounds { at + 2231 ≤ length out.old }
+    ensures { Put out.old at (point_text figures.now p) out.new result }
 {
     let next = put(out, at, b"point ");
     let next = put_number(out, next, (p + 1) as u64);
-    let next = put(out, next, b", used for: ");
-    let next = put_use_name(out, next, use_at(uses, p as usize));
-    put(out, next, b"\n")
-}
-
-fn put_point(out: &mut [u8], at: usize, uses: Uses, figures: &[f32; FIGURES], p: u32) -> usize
-    requires p_bound { p < 5 }
-    requires at_in_bounds { at + 2253 ≤ length out.old }
-    ensures { Put out.old at (point_text uses figures.now p) out.new result }
-{
-    let next = put_point_head(out, at, uses, p);
+    let next = put(out, next, b"\n");
     put_rows(out, next, 18, figures, 6 + 29 * (p as usize), 29)
 }
 
-fn put_point_there(
-    out: &mut [u8],
-    at: usize,
-    count: u32,
-    uses: Uses,
-    figures: &[f32; FIGURES],
-    p: u32,
-) -> usize
+fn put_point_there(out: &mut [u8], at: usize, count: u32, figures: &[f32; FIGURES], p: u32) -> usize
     requires p_bound { p < 5 }
-    requires at_in_bounds { at + 2253 ≤ length out.old }
-    ensures { Put out.old at (there_text count uses figures.now p) out.new result }
+    requires at_in_bounds { at + 2231 ≤ length out.old }
+    ensures { Put out.old at (there_text count figures.now p) out.new result }
 {
     if p < count {
-        return put_point(out, at, uses, figures, p);
+        return put_point(out, at, figures, p);
     }
     at
 }
 
 // Each point that is there.
-fn put_points(out: &mut [u8], at: usize, count: u32, uses: Uses, figures: &[f32; FIGURES]) -> usize
-    requires { at + 11265 ≤ length out.old }
-    ensures { Put out.old at (first_points count uses figures.now 5) out.new result }
+fn put_points(out: &mut [u8], at: usize, count: u32, figures: &[f32; FIGURES]) -> usize
+    requires { at + 11155 ≤ length out.old }
+    ensures { Put out.old at (first_points count figures.now 5) out.new result }
 {
     let mut next = at;
     let mut p: u32 = 0;
     while p < 5 {
-        next = put_point_there(out, next, count, uses, figures, p);
+        next = put_point_there(out, next, count, figures, p);
         p += 1;
     }
     next
@@ -283,17 +264,11 @@ fn put_points(out: &mut [u8], at: usize, count: u32, uses: Uses, figures: &[f32;
 
 // Writes the page, the fields, the six figures of the path and the points that are there, and gives
 // its length in bytes.
-pub fn page_text(
-    i: Inputs,
-    count: u32,
-    uses: Uses,
-    figures: &[f32; FIGURES],
-    out: &mut [u8; PAGE],
-) -> usize
-    ensures text { take result out.new ≡ page_text i count uses figures.now }
+pub fn page_text(i: Inputs, count: u32, figures: &[f32; FIGURES], out: &mut [u8; PAGE]) -> usize
+    ensures text { take result out.new ≡ page_text i count figures.now }
     ensures count { IsPrefixLen result out.new }
 {
     let next = put_fields(out, i);
     let next = put_rows(out, next, 12, figures, 0, 6);
-    put_points(out, next, count, uses, figures)
+    put_points(out, next, count, figures)
 }

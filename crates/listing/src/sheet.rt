@@ -32,7 +32,7 @@ fn page_for(i: Inputs, shown: Shown, figures: &[f32; FIGURES], out: &mut [u8; PA
     ensures count { IsPrefixLen result out.new }
 {
     match shown {
-        Shown::Points(count, uses) => page_text(i, count, uses, figures, out),
+        Shown::Points(count) => page_text(i, count, figures, out),
         Shown::Refused(why) => put_refusal(why, out),
     }
 }

@@ -16,7 +16,6 @@ use crate::text::{put, put_number};
 use crate::turn::Turn;
 use base::refusal::{Refusal, Verdict};
 use maps::figures::{FIGURES, Shown};
-use maps::geometry::Uses;
 use maps::inputs::Inputs;
 use worksheet::desks::Worksheet;
 use worksheet::journal::{Answer, Call, make};
@@ -68,16 +67,15 @@ fn put_points_words(
     at: usize,
     i: Inputs,
     count: u32,
-    uses: Uses,
     figures: &[f32; FIGURES],
 ) -> usize
-    requires { at + 10226 ≤ length out.old }
-    ensures { Put out.old at (points_words i count uses figures.now) out.new result }
+    requires { at + 10026 ≤ length out.old }
+    ensures { Put out.old at (points_words i count figures.now) out.new result }
 {
     let next = put(out, at, b"shown, ");
     let next = put_number(out, next, count as u64);
     let next = put_points_noun(out, next, count);
-    let next = put_columns(out, next, i, count, uses, figures);
+    let next = put_columns(out, next, i, count, figures);
     put(out, next, b"\n")
 }
 
@@ -88,11 +86,11 @@ fn put_shown_words(
     s: Shown,
     figures: &[f32; FIGURES],
 ) -> usize
-    requires { at + 10226 ≤ length out.old }
+    requires { at + 10026 ≤ length out.old }
     ensures { Put out.old at (shown_words i s figures.now) out.new result }
 {
     match s {
-        Shown::Points(count, uses) => put_points_words(out, at, i, count, uses, figures),
+        Shown::Points(count) => put_points_words(out, at, i, count, figures),
         Shown::Refused(why) => put_refused_line(out, at, why),
     }
 }
@@ -104,7 +102,7 @@ fn put_handed_words(
     a: Answer,
     figures: &[f32; FIGURES],
 ) -> usize
-    requires { at + 10226 ≤ length out.old }
+    requires { at + 10026 ≤ length out.old }
     ensures { Put out.old at (handed_words i a figures.now) out.new result }
 {
     match a {

@@ -21,7 +21,7 @@ use Rattle.maps.specs.declared.ionosphere.layers.Ground.{Ground}
 use Rattle.maps.specs.Inputs.{is_long}
 use Rattle.maps.specs.Magnetic.{magvar_of}
 use Rattle.maps.specs.Virtim.{virtim_of}
-use Rattle.maps.specs.Geometry.{uses_of, path_of, alatd_of, nowhere}
+use Rattle.maps.specs.Geometry.{path_of, alatd_of, nowhere}
 use Rattle.maps.specs.Layers.{monthly_of, layers_of, esind_of, ground_of}
 use Rattle.maps.specs.Ionosphere.{gammas_at}
 
@@ -118,12 +118,8 @@ figures_of f2 file i = figures_to (hour_of f2 file i) i (sheet_path i) 5
 
 -- ---- what `figures` answers, and what the buffer holds afterwards
 
--- 'the number of points', and request 11's 'five uses'
-abbrev pub points_of : ℕ → Shown
-points_of count = Points count (uses_of count)
-
 abbrev pub points_or : Verdict → ℕ → Shown
-points_or v count = unless_refused v (points_of count) NotShown
+points_or v count = unless_refused v (Points count) NotShown
 
 unfoldable pub shown_of : List ℕ → List ℕ → Inputs → Shown
 shown_of f2 file i = points_or (files_check f2 file) (sheet_path i).count

@@ -13,9 +13,6 @@ use Rattle.base.specs.Number.{abs_of}
 use Rattle.base.specs.Constants.{PI, PI2, PIO2, RZ}
 use Rattle.base.specs.Angle.{radians_of, degrees_of}
 use Rattle.base.specs.Elementary.{sin32_of, cos32_of, acos32_of}
-use Rattle.maps.specs.declared.geometry.Use.{Use}
-use Rattle.maps.specs.declared.geometry.Use.TheVariants.{NoLayer, ELayer, FLayer, AllLayers}
-use Rattle.maps.specs.declared.geometry.Uses.{Uses}
 use Rattle.maps.specs.declared.geometry.ControlPoint.{ControlPoint}
 use Rattle.maps.specs.declared.geometry.PathGeometry.{PathGeometry}
 use Rattle.maps.specs.declared.geometry.Place.{Place}
@@ -138,25 +135,6 @@ circle_of tx rx long =
 unfoldable pub count_of : Float → ℕ
 count_of gcdKm = cond (le gcdKm (decimal 200001 2)) 1 (cond (le gcdKm (decimal 40000 1)) 3 5)
 
--- what a sample area is for, of five
-abbrev pub five_uses : Use → Use → Use → Use → Use → Uses
-five_uses p1 p2 p3 p4 p5 = record { p1 = p1; p2 = p2; p3 = p3; p4 = p4; p5 = p5 }
-
--- document 02, request 11: 'none where the point is absent. Five points are E, F, all, F, E as
--- `path_geometry` notes; three are E, all, E; one is all'; no path has another number of points
-unfoldable pub uses_of : ℕ → Uses
-uses_of count =
-    cond (count == 1) (five_uses AllLayers NoLayer NoLayer NoLayer NoLayer)
-    (cond (count == 3) (five_uses ELayer AllLayers ELayer NoLayer NoLayer)
-    (cond (count == 5) (five_uses ELayer FLayer AllLayers FLayer ELayer)
-    (five_uses NoLayer NoLayer NoLayer NoLayer NoLayer)))
-
--- the use of point i, from 0 on; past the five there is no point
-unfoldable pub use_at : Uses → ℕ → Use
-use_at u i =
-    cond (i == 0) u.p1
-    (cond (i == 1) u.p2 (cond (i == 2) u.p3 (cond (i == 3) u.p4 (cond (i == 4) u.p5 NoLayer))))
-
 -- 1000.0 / RZ
 unfoldable pub R1 : Float
 R1 = decimal 10000 1 ⊘ RZ
@@ -216,19 +194,18 @@ geomagnetic_of pole lat lon = record { 0 = gmlat_of (pole_place pole) (place_of 
 
 -- ---- the rows
 
--- rd: drf, lat: rflt, lon: rflg, gmlat; and the use
-unfoldable pub point_of : Track → Place → Float → Use → ControlPoint
-point_of track pole drf used_for =
+-- rd: drf, lat: rflt, lon: rflg, gmlat
+unfoldable pub point_of : Track → Place → Float → ControlPoint
+point_of track pole drf =
     let at = sample_of track drf in
     record {
       rd = record { 0 = drf };
       lat = record { 0 = at.lat };
       lon = record { 0 = at.lon };
       gmlat = record { 0 = gmlat_of pole at };
-      used_for = used_for;
     }
 
--- +0.0 in every number, and no use
+-- +0.0 in every field
 unfoldable pub absent : ControlPoint
 absent =
     record {
@@ -236,17 +213,15 @@ absent =
       lat = record { 0 = decimal 0 1 };
       lon = record { 0 = decimal 0 1 };
       gmlat = record { 0 = decimal 0 1 };
-      used_for = NoLayer;
     }
 
 -- a point, or +0.0 where it is absent
-unfoldable pub control_point_if : Track → Place → Float → Bool → Use → ControlPoint
-control_point_if track pole drf present used_for = cond present (point_of track pole drf used_for) absent
+unfoldable pub control_point_if : Track → Place → Float → Bool → ControlPoint
+control_point_if track pole drf present = cond present (point_of track pole drf) absent
 
 -- row i of a path of `count` points
 unfoldable pub control_row : Track → Place → Float → ℕ → ℕ → ControlPoint
-control_row track pole gcd count i =
-    control_point_if track pole (slice_index_or (distances_of gcd count) i nan) (nat_lt i count) (use_at (uses_of count) i)
+control_row track pole gcd count i = control_point_if track pole (slice_index_or (distances_of gcd count) i nan) (nat_lt i count)
 
 unfoldable pub rows_of : Track → Place → Float → ℕ → List ControlPoint
 rows_of track pole gcd count =
@@ -293,7 +268,6 @@ nowhere =
       lat = record { 0 = nan };
       lon = record { 0 = nan };
       gmlat = record { 0 = nan };
-      used_for = NoLayer;
     }
 
 -- points[i].lat

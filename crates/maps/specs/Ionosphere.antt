@@ -10,7 +10,6 @@ use Rattle.base.specs.Ranges.{month_check}
 use Rattle.base.specs.Index.{index_of}
 use Rattle.base.specs.Blend.{cofion_of, hmym_of}
 use Rattle.base.specs.Files.{file_check}
-use Rattle.maps.specs.declared.geometry.Use.TheVariants.{AllLayers}
 use Rattle.maps.specs.declared.geometry.ControlPoint.{ControlPoint}
 use Rattle.maps.specs.declared.magnetic.MagneticVars.{MagneticVars}
 use Rattle.maps.specs.declared.ionosphere.LayerInputs.{LayerInputs}
@@ -40,16 +39,10 @@ gammas_at ab index lat lon mag = gammas_of ab index mag.gmdip.0 lat.0 (east_of l
 unfoldable pub layers_check : ℕ → List ℕ → Verdict
 layers_check month file = month_check month then file_check file
 
--- the distance is 0.0, which no step reads; used for all layers, as the one point of a path is
+-- the distance is 0.0, which no step reads
 unfoldable pub point_at : MagneticPole → Radians → Radians → ControlPoint
 point_at pole lat lon =
-    record {
-      rd = record { 0 = decimal 0 1 };
-      lat = lat;
-      lon = lon;
-      gmlat = geomagnetic_of pole lat lon;
-      used_for = AllLayers;
-    }
+    record { rd = record { 0 = decimal 0 1 }; lat = lat; lon = lon; gmlat = geomagnetic_of pole lat lon }
 
 unfoldable pub layers_there :
     LayerInputs → Monthly → List Float → List ℕ → List Float → MagneticPole → Radians → Radians → LayerParams

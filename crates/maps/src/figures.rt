@@ -6,7 +6,7 @@ ghost use Rattle.base.specs.Finite.{FiniteMonth};
 ghost use Rattle.maps.specs.Virtim.{GoodTable};
 ghost use Rattle.maps.specs.Figures.{hour, hour_from, head_of, numbers_of, figure_row, figures_to, sheet_path, shown_of, figures_buffer};
 
-use crate::geometry::{ControlPoint, POINTS, PathGeometry, Uses, uses_of};
+use crate::geometry::{ControlPoint, POINTS, PathGeometry};
 use crate::inputs::Inputs;
 use crate::ionosphere::layers::{EsParams, Ground, LayerParams, Monthly};
 use crate::ionosphere::virtim::TimeMaps;
@@ -27,11 +27,10 @@ const ROW: usize = 29;
 // How many figures a sheet has, those of its path before a row for each of five points.
 pub const FIGURES: usize = HEAD + POINTS * ROW;
 
-// What a showing answers: the number of points with what the five rows are used for, or why it is
-// refused.
+// What a showing answers: the number of points, or why it is refused.
 #[derive(Clone, Copy)]
 pub enum Shown {
-    Points(u32, Uses),
+    Points(u32),
     Refused(Refusal),
 }
 
@@ -179,9 +178,8 @@ fn fill_in(
     g.count
 }
 
-// The number of points of a sheet and what they are used for, with its 151 figures in the lent
-// buffer; no field is judged. Where the files are refused (8, 9, 10, 23, 11) the buffer stays as it
-// is.
+// The number of points of a sheet, with its 151 figures in the lent buffer; no field is judged.
+// Where the files are refused (8, 9, 10, 23, 11) the buffer stays as it is.
 pub fn figures(i: Inputs, f2: &[u8], file: &[u8], out: &mut [f32; FIGURES]) -> Shown
     ensures answer { result ≡ shown_of f2.now file.now i }
     ensures buffer { out.new ≡ figures_buffer f2.now file.now i out.old }
@@ -200,10 +198,7 @@ pub fn figures(i: Inputs, f2: &[u8], file: &[u8], out: &mut [f32; FIGURES]) -> S
         &mut fakmap,
     );
     match verdict {
-        Verdict::Accepted => {
-            let count = fill_in(i, file, &index, &cofion, &hmym, &fakmap, out);
-            Shown::Points(count, uses_of(count))
-        }
+        Verdict::Accepted => Shown::Points(fill_in(i, file, &index, &cofion, &hmym, &fakmap, out)),
         Verdict::Refused(why) => Shown::Refused(why),
     }
 }

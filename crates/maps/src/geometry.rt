@@ -4,7 +4,7 @@
 ghost use Rattle.std.specs.Prelude.{◌≡◌, ◌^◌, if◌then◌else◌};
 ghost use Rattle.std.specs.Float.Ieee.{le};
 ghost use Rattle.base.specs.Single.{decimal};
-ghost use Rattle.maps.specs.Geometry.{sign_of, clamped_cosine, acos_clamped, latitude_of, turned_of, folded_of, other_way, polar, close, nudge_of, nudged_of, place_of, end_longitude, end_of, cos_between, dlong_of, at_least_minimum, gcd_of, from_north, circle_of, count_of, uses_of, use_at, distances_of, down_meridian, circle_longitude, on_circle, sample_of, pole_place, gmlat_of, point_of, control_point_if, rows_of, path_of, geomagnetic_of, mean_latitude, alatd_of, btr_deg, brt_deg};
+ghost use Rattle.maps.specs.Geometry.{sign_of, clamped_cosine, acos_clamped, latitude_of, turned_of, folded_of, other_way, polar, close, nudge_of, nudged_of, place_of, end_longitude, end_of, cos_between, dlong_of, at_least_minimum, gcd_of, from_north, circle_of, count_of, distances_of, down_meridian, circle_longitude, on_circle, sample_of, pole_place, gmlat_of, point_of, control_point_if, rows_of, path_of, geomagnetic_of, mean_latitude, alatd_of, btr_deg, brt_deg};
 
 use crate::inputs::MagneticPole;
 use base::angle::{Degrees, Radians};
@@ -19,35 +19,14 @@ const DDX: f32 = 0.03;
 // The control points of a path, at most.
 pub const POINTS: usize = 5;
 
-// What a sample area is for.
-#[derive(Clone, Copy)]
-pub enum Use {
-    // The point is absent.
-    NoLayer,
-    ELayer,
-    FLayer,
-    AllLayers,
-}
-
-// The uses of the points, nearest to the transmitter first.
-#[derive(Clone, Copy)]
-pub struct Uses {
-    pub p1: Use,
-    pub p2: Use,
-    pub p3: Use,
-    pub p4: Use,
-    pub p5: Use,
-}
-
-// A place on the path where the ionosphere is asked for, with its distance from the transmitter, its
-// latitude against the magnetic pole and what it is used for.
+// A place on the path where the ionosphere is asked for, with its distance from the transmitter and
+// its latitude against the magnetic pole.
 #[derive(Clone, Copy)]
 pub struct ControlPoint {
     pub rd: Radians,
     pub lat: Radians,
     pub lon: Radians,
     pub gmlat: Radians,
-    pub used_for: Use,
 }
 
 #[derive(Clone, Copy)]
@@ -60,7 +39,7 @@ pub struct PathGeometry {
     pub brt: Radians,
     // The receiver's latitude as used: 0.03 degrees from the one typed where both ends coincide.
     pub rlatd: Degrees,
-    // How many of the points are there; the rows past them are +0.0 and used for no layer.
+    // How many of the points are there; the rows past them are +0.0.
     pub count: u32,
     pub points: [ControlPoint; POINTS],
 }
@@ -287,66 +266,8 @@ fn point_count(gcd_km: f32) -> u32
     }
 }
 
-// What the points of a path with so many are used for. A path has 1, 3 or 5; of any other number none
-// is used.
-pub fn uses_of(count: u32) -> Uses
-    ensures { result ≡ uses_of count }
-{
-    if count == 1 {
-        Uses {
-            p1: Use::AllLayers,
-            p2: Use::NoLayer,
-            p3: Use::NoLayer,
-            p4: Use::NoLayer,
-            p5: Use::NoLayer,
-        }
-    } else if count == 3 {
-        Uses {
-            p1: Use::ELayer,
-            p2: Use::AllLayers,
-            p3: Use::ELayer,
-            p4: Use::NoLayer,
-            p5: Use::NoLayer,
-        }
-    } else if count == 5 {
-        Uses {
-            p1: Use::ELayer,
-            p2: Use::FLayer,
-            p3: Use::AllLayers,
-            p4: Use::FLayer,
-            p5: Use::ELayer,
-        }
-    } else {
-        Uses {
-            p1: Use::NoLayer,
-            p2: Use::NoLayer,
-            p3: Use::NoLayer,
-            p4: Use::NoLayer,
-            p5: Use::NoLayer,
-        }
-    }
-}
-
-// What the point of number p, from 0 on, is used for.
-pub fn use_at(uses: Uses, p: usize) -> Use
-    ensures { result ≡ use_at uses p }
-{
-    if p == 0 {
-        uses.p1
-    } else if p == 1 {
-        uses.p2
-    } else if p == 2 {
-        uses.p3
-    } else if p == 3 {
-        uses.p4
-    } else if p == 4 {
-        uses.p5
-    } else {
-        Use::NoLayer
-    }
-}
-
-// The distances, nearest first.
+// The distances, nearest first: of five the outer two serve the E layer, the next two the F layer
+// and the middle one all layers.
 fn distances(gcd: f32, count: u32) -> [f32; POINTS]
     ensures { result ≡ distances_of gcd count }
 {
@@ -432,8 +353,8 @@ fn gmlat(pole: Place, at: Place) -> f32
     latitude(cos_between(pole, at, at.lon - pole.lon))
 }
 
-fn control_point(track: Track, pole: Place, drf: f32, used_for: Use) -> ControlPoint
-    ensures { result ≡ point_of track pole drf used_for }
+fn control_point(track: Track, pole: Place, drf: f32) -> ControlPoint
+    ensures { result ≡ point_of track pole drf }
 {
     let at = sample(track, drf);
     ControlPoint {
@@ -441,23 +362,21 @@ fn control_point(track: Track, pole: Place, drf: f32, used_for: Use) -> ControlP
         lat: Radians(at.lat),
         lon: Radians(at.lon),
         gmlat: Radians(gmlat(pole, at)),
-        used_for,
     }
 }
 
-// A control point, or +0.0 in every number where it is absent.
-fn row(track: Track, pole: Place, drf: f32, present: bool, used_for: Use) -> ControlPoint
-    ensures { result ≡ control_point_if track pole drf present used_for }
+// A control point, or +0.0 in every field where it is absent.
+fn row(track: Track, pole: Place, drf: f32, present: bool) -> ControlPoint
+    ensures { result ≡ control_point_if track pole drf present }
 {
     if present {
-        control_point(track, pole, drf, used_for)
+        control_point(track, pole, drf)
     } else {
         ControlPoint {
             rd: Radians(0.0),
             lat: Radians(0.0),
             lon: Radians(0.0),
             gmlat: Radians(0.0),
-            used_for: Use::NoLayer,
         }
     }
 }
@@ -466,12 +385,11 @@ fn rows(track: Track, pole: Place, gcd: f32, count: u32) -> [ControlPoint; POINT
     ensures { result ≡ rows_of track pole gcd count }
 {
     let rd = distances(gcd, count);
-    let uses = uses_of(count);
-    let p1 = row(track, pole, rd[0], 0 < count, use_at(uses, 0));
-    let p2 = row(track, pole, rd[1], 1 < count, use_at(uses, 1));
-    let p3 = row(track, pole, rd[2], 2 < count, use_at(uses, 2));
-    let p4 = row(track, pole, rd[3], 3 < count, use_at(uses, 3));
-    let p5 = row(track, pole, rd[4], 4 < count, use_at(uses, 4));
+    let p1 = row(track, pole, rd[0], 0 < count);
+    let p2 = row(track, pole, rd[1], 1 < count);
+    let p3 = row(track, pole, rd[2], 2 < count);
+    let p4 = row(track, pole, rd[3], 3 < count);
+    let p5 = row(track, pole, rd[4], 4 < count);
     [p1, p2, p3, p4, p5]
 }
 

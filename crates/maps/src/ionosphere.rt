@@ -15,7 +15,7 @@ ghost use Rattle.base.specs.Files.{file_check, files_check};
 ghost use Rattle.maps.specs.Virtim.{GoodTable};
 ghost use Rattle.maps.specs.Ionosphere.{hour_maps_of, gammas_at, point_at, layers_check, layers_there, no_layers, layers_at_of};
 
-use crate::geometry::{ControlPoint, Use};
+use crate::geometry::ControlPoint;
 use crate::inputs::{Factors, MagneticPole};
 use crate::magnetic::MagneticVars;
 use crate::{geometry, magnetic};
@@ -83,8 +83,7 @@ pub struct LayersAt {
     pub params: LayerParams,
 }
 
-// The control point that a place is, used for all layers as the one point of a short path is.
-// Nothing reads its distance.
+// The control point that a place is. Nothing reads its distance.
 fn point_at(pole: MagneticPole, lat: Radians, lon: Radians) -> ControlPoint
     ensures { result ≡ point_at pole lat lon }
 {
@@ -93,7 +92,6 @@ fn point_at(pole: MagneticPole, lat: Radians, lon: Radians) -> ControlPoint
         lat,
         lon,
         gmlat: geometry::geomagnetic_latitude(pole, lat, lon),
-        used_for: Use::AllLayers,
     }
 }
 

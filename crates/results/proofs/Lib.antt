@@ -7,7 +7,6 @@ pub mod Heard
 pub mod AuditPage
 pub mod CancelledEdits
 pub mod FigureSources
-pub mod SampleAreas
 pub mod AsInTheRust
 pub mod FiniteOrNot
 pub mod AcceptedFiles

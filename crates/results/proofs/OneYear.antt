@@ -3,7 +3,6 @@ use mathlib.Core.List.{List}
 use mathlib.Core.Path.{refl}
 use lib.Ieee.{Float}
 use Prim.Native.Nat.{ℕ}
-use Rattle.maps.specs.declared.geometry.Uses.{Uses}
 use Rattle.maps.specs.declared.inputs.Inputs.{Inputs}
 use Rattle.maps.specs.Figures.{hour_from, hour_of, point_row, figure_row, figures_to, sheet_path, figures_of}
 use Rattle.worksheet.specs.Inputs.{edited}
@@ -62,24 +61,24 @@ pub demand_3_year_over : DemandThreeYearOver
 demand_3_year_over s = Carried.demand_3_over (yearly s)
 
 -- the set of an insured showing is of one month, one model and their own two parts
-in_year : (s : List ℕ) (start : Inputs) (entries : List Entry) (count : ℕ) (uses : Uses) (figures : List Float) →
-    Insured (yearly s) start entries count uses figures → InsuredInYear s start entries count uses figures
-in_year s start entries count uses figures h =
-    record { insured = h; own_parts = Own.figures_own_parts s (changed start h.edits) count uses figures h.one_set }
+in_year : (s : List ℕ) (start : Inputs) (entries : List Entry) (count : ℕ) (figures : List Float) →
+    Insured (yearly s) start entries count figures → InsuredInYear s start entries count figures
+in_year s start entries count figures h =
+    record { insured = h; own_parts = Own.figures_own_parts s (changed start h.edits) count figures h.one_set }
 
 pub insurers_sentence_year : InsurersSentenceYear
-insurers_sentence_year s opened h cs before later lent figures count uses e =
-    in_year s opened before count uses figures
-    (Unbroken.insurers_sentence (yearly s) opened h cs before later lent figures count uses e)
+insurers_sentence_year s opened h cs before later lent figures count e =
+    in_year s opened before count figures
+    (Unbroken.insurers_sentence (yearly s) opened h cs before later lent figures count e)
 
 pub insurers_sentence_year_over : InsurersSentenceYearOver
-insurers_sentence_year_over s words lent h cs k before later buffer figures count uses e =
-    in_year s _ before count uses figures
-    (Over.insurers_sentence_opened (yearly s) words lent h cs k before later buffer figures count uses e)
+insurers_sentence_year_over s words lent h cs k before later buffer figures count e =
+    in_year s _ before count figures
+    (Over.insurers_sentence_opened (yearly s) words lent h cs k before later buffer figures count e)
 
 pub insurers_sentence_year_handed : InsurersSentenceYearHanded
 insurers_sentence_year_handed s words lent h cs k buffer figures r given zero =
-    in_year s _ _ r.points _ figures
+    in_year s _ _ r.points figures
     (HandedBack.insurers_sentence_handed (yearly s) words lent h cs k buffer figures r given zero)
 
 pub year_always_shown : YearAlwaysShown

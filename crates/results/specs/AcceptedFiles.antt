@@ -16,7 +16,8 @@ use Rattle.base.specs.Blend.{IA, IB, IC}
 use Rattle.base.specs.Finite.{record_words_check, table_words_check, FiniteRecord, FiniteMonth}
 use Rattle.base.specs.Files.{file_check, files_check}
 use Rattle.maps.specs.declared.inputs.Inputs.{Inputs}
-use Rattle.maps.specs.Figures.{sheet_path, figures_of, shown_of, figures_buffer, points_of}
+use Rattle.maps.specs.declared.figures.Shown.TheVariants.{Points}
+use Rattle.maps.specs.Figures.{sheet_path, figures_of, shown_of, figures_buffer}
 use Rattle.results.specs.LaterBytes.{Alike}
 use Rattle.results.specs.ExhibitedFiles.{good_record, good_month_file, Below}
 
@@ -276,9 +277,9 @@ abbrev pub FileOfBytes : Type 0
 FileOfBytes = Below 256 good_month_file
 
 -- Over these files `figures`, which judges no field, answers any inputs with the number of their
--- points and what they are used for.
+-- points.
 abbrev pub SheetShown : Type 0
-SheetShown = (x : Inputs) → shown_of good_record good_month_file x ≡ points_of (sheet_path x).count
+SheetShown = (x : Inputs) → shown_of good_record good_month_file x ≡ Points (sheet_path x).count
 
 -- And writes their figures, whatever the buffer held.
 abbrev pub SheetWritten : Type 0

@@ -21,7 +21,6 @@ use Rattle.base.specs.MonthFile.{month_file_size, IsPart, month_file_check, Mark
 use Rattle.base.specs.Tables.{start_of, words_of, plane_of, holding, ikim, fakmap, xpmap, dimension, HasEntry, entry_word, entry_place, part_of, table_check, table_part, table_file, abmap}
 use Rattle.base.specs.Index.{index_of, map_word, rows, index_check, Climbs, Reaches}
 use Rattle.base.specs.Blend.{IA, IB, IC, blend_of, height_weights, cofion_of, hmym_of, fakmap_of, map_tables, coefficient_of}
-use Rattle.maps.specs.declared.geometry.Uses.{Uses}
 use Rattle.maps.specs.declared.inputs.Inputs.{Inputs}
 use Rattle.maps.specs.declared.inputs.MagneticPole.{MagneticPole}
 use Rattle.maps.specs.declared.geometry.ControlPoint.{ControlPoint}
@@ -375,7 +374,7 @@ abbrev pub LongFive : Type 0
 LongFive =
     (tlat tlong rlat rlong : Degrees) (pole : MagneticPole) → (path_of tlat tlong rlat rlong true pole).count ≡ 5
 
--- The rows of a path past its count, up to the fifth, are +0.0 in every number, and used for no layer.
+-- The rows of a path past its count, up to the fifth, are +0.0 in every field.
 abbrev pub RowsPast : Type 0
 RowsPast =
     (tlat tlong rlat rlong : Degrees) (long : Bool) (pole : MagneticPole) →
@@ -429,8 +428,7 @@ PointClock =
 -- whatever the files: number 20 of each point that is there.
 abbrev pub ShownClock : Type 0
 ShownClock =
-    (source : Source) (n : ℕ) (lent : List Float) (w : Worksheet) (count : ℕ) (uses : Uses) →
-    show_of source n lent w ≡ Points count uses →
+    (source : Source) (n : ℕ) (lent : List Float) (w : Worksheet) (count : ℕ) → show_of source n lent w ≡ Points count →
     (p : ℕ) → 1 ≤ p → p ≤ count → OnClock (get_or (show_buffer source n lent w) (6 + 29 * (p - 1) + 20) nan)
 
 -- the time before the correction: the hour, and the longitude in hours

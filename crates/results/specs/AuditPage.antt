@@ -9,7 +9,6 @@ use Rattle.std.specs.Prelude.{ℕ, suc, ◌≤◌, min, true, false, cond, List,
 use Rattle.base.specs.declared.refusal.Refusal.{Refusal}
 use Rattle.base.specs.declared.refusal.Verdict.TheVariants.{Accepted, Refused as NotPassed}
 use Rattle.base.specs.Files.{files_check}
-use Rattle.maps.specs.declared.geometry.Uses.{Uses}
 use Rattle.maps.specs.declared.figures.Shown.TheVariants.{Points, Refused as NotShown}
 use Rattle.maps.specs.declared.inputs.Inputs.{Inputs}
 use Rattle.worksheet.specs.declared.desks.Worksheet.{Worksheet}
@@ -107,11 +106,10 @@ pub record ShownLast (a : Audited) (line : ℕ) : Type 0 where
   pub before : List Numbered
   pub split : a.calls ≡ before ++ (record { call = Show 0; line = line } ∷ [])
   pub points : ℕ
-  pub uses : Uses
   pub figures : List Float
   pub answered :
       entries_in a
-      ≡ (run_told a.source a.opening before).entries ++ (accepted_showing blank points uses figures ∷ [])
+      ≡ (run_told a.source a.opening before).entries ++ (accepted_showing blank points figures ∷ [])
 
 -- the last call shows the worksheet, stands on this line, and was refused
 pub record RefusedShowing (a : Audited) (line : ℕ) : Type 0 where
@@ -229,26 +227,25 @@ PageCalls =
     ≡ lines_at a.text a.starts (places_kept a)
 
 -- What is said of the shorter journal, heard line by line as `desk run` hears it, ends with the same
--- showing: of the same inputs, with the same number of points, the same uses and the same figures
+-- showing: of the same inputs, with the same number of points and the same figures
 abbrev pub PageSameSheet : Type 0
 PageSameSheet =
     (a : Audited) (line : ℕ) (s : ShownLast a line) →
     let n = suc (length (calls_kept a)) in
     (before : List ℕ)
     × ((heard_by a.source first_sitting (shorter_text a) n).text
-    ≡ before
-    ++ spoken_text n (in_force (opened_sheet a) (entries_in a)) (shown (Points s.points s.uses) s.figures))
+    ≡ before ++ spoken_text n (in_force (opened_sheet a) (entries_in a)) (shown (Points s.points) s.figures))
 
 -- ---- the sheet
 
--- The sheet is the page of the showing on that line: of the inputs in force, with the points, uses and
+-- The sheet is the page of the showing on that line: of the inputs in force, with the points and
 -- figures that it was answered, and these are the figures of that one set of inputs
 abbrev pub PageSheet : Type 0
 PageSheet =
     (a : Audited) (line : ℕ) (s : ShownLast a line) →
     let i = in_force (opened_sheet a) (entries_in a) in
-    (sheet_account a.source a.kept.sheet ≡ columns_text i s.points s.uses s.figures)
-    × FiguresOf a.source i s.points s.uses s.figures
+    (sheet_account a.source a.kept.sheet ≡ columns_text i s.points s.figures)
+    × FiguresOf a.source i s.points s.figures
 
 -- ---- the whole
 

@@ -14,7 +14,7 @@ use Rattle.maps.specs.Inputs.{inputs_from, words_to, field_words, Singles}
 use Rattle.worksheet.specs.declared.desks.Worksheet.{Worksheet}
 use Rattle.worksheet.specs.Showing.{Source}
 use Rattle.worksheet.specs.Journal.{Call, run}
-use Rattle.jutetrowel.specs.Answers.{answer_of, uses_coded, showing_of}
+use Rattle.jutetrowel.specs.Answers.{answer_of, showing_of}
 use Rattle.jutetrowel.specs.Words.{worksheet_of, sheet_words, SheetSingles}
 use Rattle.jutetrowel.specs.Calls.{CallsSingles, entries_over, words_over}
 
@@ -48,11 +48,9 @@ WordsBack =
 abbrev pub AcceptedNumber : Type 0
 AcceptedNumber = (v : Verdict) → (answer_of v).number ≡ 0 → v ≡ Accepted
 
--- Where a showing hands back the number 0, it was accepted with the points that it hands back, and
--- with the uses whose codes it hands back
+-- Where a showing hands back the number 0, it was accepted with the points that it hands back
 abbrev pub ShownNumber : Type 0
-ShownNumber =
-    (x : Shown) → (showing_of x).number ≡ 0 → x ≡ Points (showing_of x).points (uses_coded (showing_of x).uses)
+ShownNumber = (x : Shown) → (showing_of x).number ≡ 0 → x ≡ Points (showing_of x).points
 
 -- ---- demand 3 of the library's calls rests on this
 

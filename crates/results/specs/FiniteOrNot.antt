@@ -19,7 +19,6 @@ use Rattle.base.specs.Index.{index_check}
 use Rattle.base.specs.Blend.{blend_of, f2_weights, fakmap_of}
 use Rattle.base.specs.Finite.{FiniteRecord, FiniteMonth}
 use Rattle.base.specs.Files.{files_check}
-use Rattle.maps.specs.declared.geometry.Uses.{Uses}
 use Rattle.maps.specs.declared.inputs.Inputs.{Inputs}
 use Rattle.maps.specs.declared.inputs.Factors.{Factors}
 use Rattle.maps.specs.declared.geometry.ControlPoint.{ControlPoint}
@@ -426,8 +425,8 @@ pub record FiniteFiles (f2 file : List ℕ) : Type 0 where
 -- files, is from files of finite words only.
 abbrev pub ShownFinite : Type 0
 ShownFinite =
-    (source : Source) (w : Worksheet) (n : ℕ) (lent figures : List Float) (count : ℕ) (uses : Uses) →
-    (step source (show n lent) w).answer ≡ shown (Points count uses) figures →
+    (source : Source) (w : Worksheet) (n : ℕ) (lent figures : List Float) (count : ℕ) →
+    (step source (show n lent) w).answer ≡ shown (Points count) figures →
     let i = inputs_shown n w in FiniteFiles (source i).f2 (source i).file
 
 -- of what a sheet takes of a month file and does not blend: the land map's 464 numbers and the four of

@@ -7,10 +7,9 @@ use mathlib.Core.List.{List, [], ◌∷◌, ◌++◌, reverse, Memᴰ}
 use Rattle.std.specs.Prelude.{true, ◌≡◌, ℕ, length, Float}
 use Rattle.base.specs.declared.refusal.Verdict.TheVariants.{Accepted}
 use Rattle.base.specs.Files.{files_check}
-use Rattle.maps.specs.declared.geometry.Uses.{Uses}
 use Rattle.maps.specs.declared.inputs.Inputs.{Inputs}
 use Rattle.maps.specs.declared.figures.Shown.TheVariants.{Points}
-use Rattle.maps.specs.Figures.{sheet_path, figures_of, points_of}
+use Rattle.maps.specs.Figures.{sheet_path, figures_of}
 use Rattle.worksheet.specs.declared.inputs.Edit.{Edit}
 use Rattle.worksheet.specs.declared.desks.Draft.TheVariants.{Closed, Fresh}
 use Rattle.worksheet.specs.declared.desks.Worksheet.{Worksheet}
@@ -20,7 +19,6 @@ use Rattle.worksheet.specs.Showing.{Source, pair}
 use Rattle.worksheet.specs.Journal.{Call, begin, commit, show, shown, Entry, accepted, good, step, run}
 use Rattle.worksheet.specs.InForce.{AcceptedCommit, changed, changes_by, commits_in_force, in_force, commits_left, start_left, FiguresOf, DraftUndisturbed, CommitInForce, InForceBy, NeverCancelled, Insured}
 use Rattle.jutetrowel.specs.declared.answers.Showing.{Showing}
-use Rattle.jutetrowel.specs.Answers.{uses_coded}
 use Rattle.jutetrowel.specs.Words.{worksheet_of, words_after}
 use Rattle.jutetrowel.specs.Calls.{CallsSingles, Shows, entries_over, words_over}
 use Rattle.results.specs.ExhibitedFiles.{Below}
@@ -28,9 +26,9 @@ use Rattle.results.specs.ExhibitedFiles.{Below}
 -- ---- two words of this page
 
 -- the entry of an accepted showing of the worksheet: this buffer was lent to it, and it gave this
--- many points, these uses and these figures
-abbrev pub accepted_showing : List Float → ℕ → Uses → List Float → Entry
-accepted_showing lent count uses figures = record { call = show 0 lent; answer = shown (Points count uses) figures }
+-- many points and these figures
+abbrev pub accepted_showing : List Float → ℕ → List Float → Entry
+accepted_showing lent count figures = record { call = show 0 lent; answer = shown (Points count) figures }
 
 -- no desk has a draft
 pub record DesksClosed (w : Worksheet) : Type 0 where
@@ -44,33 +42,31 @@ pub record DesksClosed (w : Worksheet) : Type 0 where
 -- cancelled'
 
 -- Of every list of calls on a worksheet that opens, with one record and one month file lent
--- throughout: each accepted showing of the worksheet gave the number of points, what each is used for
--- and all figures of ONE set of inputs: the opened inputs with the changes of exactly those commits
--- before the showing that were accepted and not taken back before it, in their order; and each of
--- these changes, as a value, was made in a draft that was committed and never cancelled
--- (`NeverCancelled`; of each commit for itself `CommitUndisturbed`)
+-- throughout: each accepted showing of the worksheet gave the number of points and all figures of
+-- ONE set of inputs: the opened inputs with the changes of exactly those commits before the showing
+-- that were accepted and not taken back before it, in their order; and each of these changes, as a
+-- value, was made in a draft that was committed and never cancelled (`NeverCancelled`; of each
+-- commit for itself `CommitUndisturbed`)
 abbrev pub InsurersSentence : Type 0
 InsurersSentence =
     (f2 file : List ℕ) (opened : Inputs) → (open_of opened).answer ≡ Accepted →
-    (cs : List Call) (before later : List Entry) (lent figures : List Float) (count : ℕ) (uses : Uses) →
-    (run (pair f2 file) cs (open_of opened).sheet).entries
-    ≡ before ++ (accepted_showing lent count uses figures ∷ later) →
-    Insured (pair f2 file) opened before count uses figures
+    (cs : List Call) (before later : List Entry) (lent figures : List Float) (count : ℕ) →
+    (run (pair f2 file) cs (open_of opened).sheet).entries ≡ before ++ (accepted_showing lent count figures ∷ later) →
+    Insured (pair f2 file) opened before count figures
 
 -- The same of the library's calls, each on the words that the one before it left, whatever words
 -- were lent to the open, if the numbers of the changes are values of an f32
 abbrev pub InsurersSentenceOpened : Type 0
 InsurersSentenceOpened =
     (f2 file s words : List ℕ) → (opened_of s).answer ≡ Accepted → (cs : List Call) → CallsSingles cs →
-    (before later : List Entry) (lent figures : List Float) (count : ℕ) (uses : Uses) →
+    (before later : List Entry) (lent figures : List Float) (count : ℕ) →
     entries_over (pair f2 file) cs (words_after (opened_of s) words)
-    ≡ before ++ (accepted_showing lent count uses figures ∷ later) →
-    Insured (pair f2 file) (opened_of s).sheet.inputs before count uses figures
+    ≡ before ++ (accepted_showing lent count figures ∷ later) →
+    Insured (pair f2 file) (opened_of s).sheet.inputs before count figures
 
 -- The same by what the caller sees: after an open that is accepted and any list of the library's
 -- calls, `jt_show` of the worksheet hands back r and leaves `figures` in the buffer (`Shows`, its
--- contract); where r's number is 0, the figures, r's points and the uses that its codes stand for
--- (`uses_coded`) are insured by the list before
+-- contract); where r's number is 0, the figures and r's points are insured by the list before
 abbrev pub InsurersSentenceHanded : Type 0
 InsurersSentenceHanded =
     (f2 file s words : List ℕ) → (opened_of s).answer ≡ Accepted → (cs : List Call) → CallsSingles cs →
@@ -78,8 +74,7 @@ InsurersSentenceHanded =
     let l = words_after (opened_of s) words in
     Shows (step (pair f2 file) (show 0 lent) (worksheet_of (words_over (pair f2 file) cs l))).answer r figures →
     r.number ≡ 0 →
-    Insured (pair f2 file) (opened_of s).sheet.inputs (entries_over (pair f2 file) cs l)
-    r.points (uses_coded r.uses) figures
+    Insured (pair f2 file) (opened_of s).sheet.inputs (entries_over (pair f2 file) cs l) r.points figures
 
 -- ---- and there are such showings
 
@@ -90,15 +85,14 @@ StayInRange =
     inputs_check (run source cs (open_of opened).sheet).sheet.inputs ≡ Accepted
 
 -- so over every record and month file that pass their checks a showing of the worksheet is accepted
--- then, in every buffer of 151 numbers: with the number of points, their uses and the figures of its
--- inputs
+-- then, in every buffer of 151 numbers: with the number of points and the figures of its inputs
 abbrev pub AlwaysShown : Type 0
 AlwaysShown =
     (f2 file : List ℕ) → files_check f2 file ≡ Accepted → (opened : Inputs) → (open_of opened).answer ≡ Accepted →
     (cs : List Call) (lent : List Float) → length lent ≡ 151 →
     let w = (run (pair f2 file) cs (open_of opened).sheet).sheet in
     (step (pair f2 file) (show 0 lent) w).answer
-    ≡ shown (points_of (sheet_path w.inputs).count) (figures_of f2 file w.inputs)
+    ≡ shown (Points (sheet_path w.inputs).count) (figures_of f2 file w.inputs)
 
 -- The same of the worksheet that was just opened
 abbrev pub FirstShowing : Type 0
@@ -106,7 +100,7 @@ FirstShowing =
     (f2 file : List ℕ) → files_check f2 file ≡ Accepted → (i : Inputs) → (open_of i).answer ≡ Accepted →
     (lent : List Float) → length lent ≡ 151 →
     (step (pair f2 file) (show 0 lent) (open_of i).sheet).answer
-    ≡ shown (points_of (sheet_path i).count) (figures_of f2 file i)
+    ≡ shown (Points (sheet_path i).count) (figures_of f2 file i)
 
 -- There are 56 bytes, the 14 words of a sheet, that open; a 15th word, the model, then counts as 0
 abbrev pub SomeOpen : Type 0
@@ -119,7 +113,7 @@ ShowingsExist =
     (f2 : List ℕ) × ((file : List ℕ) × (
     (i : Inputs) → (open_of i).answer ≡ Accepted → (lent : List Float) → length lent ≡ 151 →
     (step (pair f2 file) (show 0 lent) (open_of i).sheet).answer
-    ≡ shown (points_of (sheet_path i).count) (figures_of f2 file i)))
+    ≡ shown (Points (sheet_path i).count) (figures_of f2 file i)))
 
 -- ---- the same from other starts: a worksheet that may have an earlier set, any source of files
 
@@ -129,17 +123,17 @@ ShowingsExist =
 abbrev pub InsurersSentenceLent : Type 0
 InsurersSentenceLent =
     (source : Source) (w : Worksheet) → DesksClosed w →
-    (cs : List Call) (before later : List Entry) (lent figures : List Float) (count : ℕ) (uses : Uses) →
-    (run source cs w).entries ≡ before ++ (accepted_showing lent count uses figures ∷ later) →
-    Insured source (start_left w before) before count uses figures
+    (cs : List Call) (before later : List Entry) (lent figures : List Float) (count : ℕ) →
+    (run source cs w).entries ≡ before ++ (accepted_showing lent count figures ∷ later) →
+    Insured source (start_left w before) before count figures
 
 -- The same of the library's calls, from all words that hold such a worksheet
 abbrev pub InsurersSentenceOver : Type 0
 InsurersSentenceOver =
     (source : Source) (l : List ℕ) → DesksClosed (worksheet_of l) → (cs : List Call) → CallsSingles cs →
-    (before later : List Entry) (lent figures : List Float) (count : ℕ) (uses : Uses) →
-    entries_over source cs l ≡ before ++ (accepted_showing lent count uses figures ∷ later) →
-    Insured source (start_left (worksheet_of l) before) before count uses figures
+    (before later : List Entry) (lent figures : List Float) (count : ℕ) →
+    entries_over source cs l ≡ before ++ (accepted_showing lent count figures ∷ later) →
+    Insured source (start_left (worksheet_of l) before) before count figures
 
 -- ---- 'from no edit that somebody had cancelled', of every worksheet whose desks are closed at the
 -- start
@@ -195,32 +189,31 @@ CommitUndisturbed =
 -- ---- 'from one sunspot number, one hour and one route': the set is the inputs in force, a fold
 -- over the entries that looks at no draft
 
--- On a worksheet that opens, each accepted showing of the worksheet gave the number of points, their
--- uses and all figures of the inputs in force after the entries before it
+-- On a worksheet that opens, each accepted showing of the worksheet gave the number of points and
+-- all figures of the inputs in force after the entries before it
 abbrev pub InsurersLine : Type 0
 InsurersLine =
     (f2 file : List ℕ) (opened : Inputs) → (open_of opened).answer ≡ Accepted →
-    (cs : List Call) (before later : List Entry) (lent figures : List Float) (count : ℕ) (uses : Uses) →
-    (run (pair f2 file) cs (open_of opened).sheet).entries
-    ≡ before ++ (accepted_showing lent count uses figures ∷ later) →
-    FiguresOf (pair f2 file) (in_force (open_of opened).sheet before) count uses figures
+    (cs : List Call) (before later : List Entry) (lent figures : List Float) (count : ℕ) →
+    (run (pair f2 file) cs (open_of opened).sheet).entries ≡ before ++ (accepted_showing lent count figures ∷ later) →
+    FiguresOf (pair f2 file) (in_force (open_of opened).sheet before) count figures
 
 -- The same over any source of files, of every worksheet whose desks are closed
 abbrev pub InsurersLineLent : Type 0
 InsurersLineLent =
     (source : Source) (w : Worksheet) → DesksClosed w →
-    (cs : List Call) (before later : List Entry) (lent figures : List Float) (count : ℕ) (uses : Uses) →
-    (run source cs w).entries ≡ before ++ (accepted_showing lent count uses figures ∷ later) →
-    FiguresOf source (in_force w before) count uses figures
+    (cs : List Call) (before later : List Entry) (lent figures : List Float) (count : ℕ) →
+    (run source cs w).entries ≡ before ++ (accepted_showing lent count figures ∷ later) →
+    FiguresOf source (in_force w before) count figures
 
 -- The same of the library's calls, from all words that open
 abbrev pub InsurersLineOver : Type 0
 InsurersLineOver =
     (f2 file s words : List ℕ) → (opened_of s).answer ≡ Accepted → (cs : List Call) → CallsSingles cs →
-    (before later : List Entry) (lent figures : List Float) (count : ℕ) (uses : Uses) →
+    (before later : List Entry) (lent figures : List Float) (count : ℕ) →
     entries_over (pair f2 file) cs (words_after (opened_of s) words)
-    ≡ before ++ (accepted_showing lent count uses figures ∷ later) →
-    FiguresOf (pair f2 file) (in_force (worksheet_of (words_after (opened_of s) words)) before) count uses figures
+    ≡ before ++ (accepted_showing lent count figures ∷ later) →
+    FiguresOf (pair f2 file) (in_force (worksheet_of (words_after (opened_of s) words)) before) count figures
 
 -- ---- the inputs in force are the worksheet's inputs
 

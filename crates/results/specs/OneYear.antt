@@ -18,11 +18,9 @@ use Rattle.base.specs.Files.{file_check}
 use Rattle.base.specs.MonthFile.{record_size, month_start, month_file_check}
 use Rattle.base.specs.Year.{directory_size, offset_at, length_at, end_at, floor_at, year_check, pair_part, part_bytes}
 use Rattle.packing.specs.Pack.{part_check, packed}
-use Rattle.maps.specs.declared.geometry.Uses.{Uses}
 use Rattle.maps.specs.declared.inputs.Inputs.{Inputs}
 use Rattle.maps.specs.declared.figures.Shown.TheVariants.{Points}
-use Rattle.maps.specs.Geometry.{uses_of}
-use Rattle.maps.specs.Figures.{sheet_path, figures_of, points_of}
+use Rattle.maps.specs.Figures.{sheet_path, figures_of}
 use Rattle.worksheet.specs.declared.inputs.Edit.TheVariants.{Month, Model}
 use Rattle.worksheet.specs.declared.desks.Worksheet.{Worksheet}
 use Rattle.worksheet.specs.Inputs.{inputs_check, edited}
@@ -31,7 +29,6 @@ use Rattle.worksheet.specs.Showing.{year_files_check, yearly, inputs_shown, aske
 use Rattle.worksheet.specs.Journal.{Call, begin, change, commit, show, told, shown, Entry, step, run, Demand3}
 use Rattle.worksheet.specs.InForce.{changed, Insured}
 use Rattle.jutetrowel.specs.declared.answers.Showing.{Showing}
-use Rattle.jutetrowel.specs.Answers.{uses_coded}
 use Rattle.jutetrowel.specs.Words.{worksheet_of, words_after}
 use Rattle.jutetrowel.specs.Calls.{CallsSingles, Shows, entries_over, words_over, Demand3Over}
 use Rattle.results.specs.Insurer.{accepted_showing}
@@ -159,9 +156,8 @@ YearShowingExactly =
 -- ---- request 01: 'Showing picks its parts by these two'
 
 -- the figures are those of one month, one model and their own two parts: of the inputs i, over the
--- record of their month in the part of their model, and the part of their month; the number of points
--- and their uses are those of the inputs' path
-pub record OwnParts (s : List ℕ) (i : Inputs) (count : ℕ) (uses : Uses) (figures : List Float) : Type 0 where
+-- record of their month in the part of their model, and the part of their month
+pub record OwnParts (s : List ℕ) (i : Inputs) (count : ℕ) (figures : List Float) : Type 0 where
   pub month_low : 1 ≤ i.month
   pub month_high : i.month ≤ 12
   -- '(0 CCIR, 1 URSI)', the parts 12 and 13
@@ -171,16 +167,15 @@ pub record OwnParts (s : List ℕ) (i : Inputs) (count : ℕ) (uses : Uses) (fig
   pub words : FiniteRecord (record_at s i.month i.model)
   pub file : file_check (part_at s (i.month - 1)) ≡ Accepted
   pub points : count ≡ (sheet_path i).count
-  pub used : uses ≡ uses_of (sheet_path i).count
   pub whole : figures ≡ figures_of (record_at s i.month i.model) (part_at s (i.month - 1)) i
 
 -- Every accepted showing over a year file, of the worksheet or of a desk, on any worksheet, is of
 -- one month, one model and their own two parts: those of the inputs shown.
 abbrev pub OneMonthOneModel : Type 0
 OneMonthOneModel =
-    (s : List ℕ) (w : Worksheet) (n : ℕ) (lent figures : List Float) (count : ℕ) (uses : Uses) →
-    (step (yearly s) (show n lent) w).answer ≡ shown (Points count uses) figures →
-    OwnParts s (inputs_shown n w) count uses figures
+    (s : List ℕ) (w : Worksheet) (n : ℕ) (lent figures : List Float) (count : ℕ) →
+    (step (yearly s) (show n lent) w).answer ≡ shown (Points count) figures →
+    OwnParts s (inputs_shown n w) count figures
 
 -- ---- demand 3 and the insurer's question, 'with the year file lent throughout', whatever months
 -- and models the changes carry
@@ -202,37 +197,37 @@ DemandThreeYearOver =
 
 -- a showing is insured, and of one month, one model and their own two parts
 pub record InsuredInYear
-    (s : List ℕ) (start : Inputs) (entries : List Entry) (count : ℕ) (uses : Uses) (figures : List Float) : Type 0
+    (s : List ℕ) (start : Inputs) (entries : List Entry) (count : ℕ) (figures : List Float) : Type 0
   where
-    pub insured : Insured (yearly s) start entries count uses figures
-    pub own_parts : OwnParts s (changed start insured.edits) count uses figures
+    pub insured : Insured (yearly s) start entries count figures
+    pub own_parts : OwnParts s (changed start insured.edits) count figures
 
 -- Of every list of calls on a worksheet that opens, with one year file lent throughout: each
--- accepted showing of the worksheet gave the number of points, their uses and all figures of ONE set
--- of inputs: the opened inputs with the changes of exactly those commits before the showing that were
--- accepted and not taken back before it, in their order; each of these changes, as a value, was made
--- in a draft that was committed and never cancelled; and the figures are from that set's own month and
+-- accepted showing of the worksheet gave the number of points and all figures of ONE set of inputs:
+-- the opened inputs with the changes of exactly those commits before the showing that were accepted
+-- and not taken back before it, in their order; each of these changes, as a value, was made in a
+-- draft that was committed and never cancelled; and the figures are from that set's own month and
 -- model: the month's part of the file, and the month's record in the model's part.
 abbrev pub InsurersSentenceYear : Type 0
 InsurersSentenceYear =
     (s : List ℕ) (opened : Inputs) → (open_of opened).answer ≡ Accepted →
-    (cs : List Call) (before later : List Entry) (lent figures : List Float) (count : ℕ) (uses : Uses) →
-    (run (yearly s) cs (open_of opened).sheet).entries ≡ before ++ (accepted_showing lent count uses figures ∷ later) →
-    InsuredInYear s opened before count uses figures
+    (cs : List Call) (before later : List Entry) (lent figures : List Float) (count : ℕ) →
+    (run (yearly s) cs (open_of opened).sheet).entries ≡ before ++ (accepted_showing lent count figures ∷ later) →
+    InsuredInYear s opened before count figures
 
 -- The same of the library's calls, whose showings are by `jt_show_year`, each on the words that the
 -- one before it left, whatever words were lent to the open.
 abbrev pub InsurersSentenceYearOver : Type 0
 InsurersSentenceYearOver =
     (s words lent : List ℕ) → (opened_of words).answer ≡ Accepted → (cs : List Call) → CallsSingles cs →
-    (before later : List Entry) (buffer figures : List Float) (count : ℕ) (uses : Uses) →
+    (before later : List Entry) (buffer figures : List Float) (count : ℕ) →
     entries_over (yearly s) cs (words_after (opened_of words) lent)
-    ≡ before ++ (accepted_showing buffer count uses figures ∷ later) →
-    InsuredInYear s (opened_of words).sheet.inputs before count uses figures
+    ≡ before ++ (accepted_showing buffer count figures ∷ later) →
+    InsuredInYear s (opened_of words).sheet.inputs before count figures
 
 -- The same by what the caller sees: after an open that is accepted and any list of the library's
 -- calls, `jt_show_year` of the worksheet hands back r and leaves `figures` in the buffer; where r's
--- number is 0, the figures, r's points and the uses that its codes stand for are so insured.
+-- number is 0, the figures and r's points are so insured.
 abbrev pub InsurersSentenceYearHanded : Type 0
 InsurersSentenceYearHanded =
     (s words lent : List ℕ) → (opened_of words).answer ≡ Accepted → (cs : List Call) → CallsSingles cs →
@@ -240,15 +235,13 @@ InsurersSentenceYearHanded =
     let l = words_after (opened_of words) lent in
     Shows (step (yearly s) (show 0 buffer) (worksheet_of (words_over (yearly s) cs l))).answer r figures →
     r.number ≡ 0 →
-    InsuredInYear s (opened_of words).sheet.inputs (entries_over (yearly s) cs l) r.points (uses_coded r.uses)
-    figures
+    InsuredInYear s (opened_of words).sheet.inputs (entries_over (yearly s) cs l) r.points figures
 
 -- ---- and there are such showings
 
 -- After every list of calls on a worksheet that opens, a showing of the worksheet in a buffer of 151
 -- numbers is accepted where the year file refuses nothing of the month and model that the inputs
--- have then: with the number of points, their uses and the figures of these inputs, from their own two
--- parts.
+-- have then: with the number of points and the figures of these inputs, from their own two parts.
 abbrev pub YearAlwaysShown : Type 0
 YearAlwaysShown =
     (s : List ℕ) (opened : Inputs) → (open_of opened).answer ≡ Accepted →
@@ -258,7 +251,7 @@ YearAlwaysShown =
     year_files_check s i.month i.model ≡ Accepted →
     (step (yearly s) (show 0 lent) w).answer
     ≡
-    shown (points_of (sheet_path i).count)
+    shown (Points (sheet_path i).count)
     (figures_of (record_at s i.month i.model) (part_at s (i.month - 1)) i)
 
 -- every month and model of the year file can be shown
@@ -305,7 +298,7 @@ DecemberShown =
     ∷ told Accepted
     ∷ told Accepted
     ∷ told Accepted
-    ∷ shown (points_of (sheet_path i).count) (figures_of (record_at s 12 1) (part_at s 11) i)
+    ∷ shown (Points (sheet_path i).count) (figures_of (record_at s 12 1) (part_at s 11) i)
     ∷ []
 
 -- ---- '`sheet` keeps its 14 words and two files, with model 0'

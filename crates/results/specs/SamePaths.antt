@@ -17,7 +17,6 @@ pub record SamePlace (a b : ControlPoint) : Type 0 where
   pub rd : a.rd ≡ b.rd
   pub lat : a.lat ≡ b.lat
   pub lon : a.lon ≡ b.lon
-  pub used_for : a.used_for ≡ b.used_for
 
 -- of a path its five own figures, the count, and every point so
 pub record SamePath (g h : PathGeometry) : Type 0 where

@@ -1,10 +1,10 @@
 // The paths: distance, bearings and control points of each route of data/routes.bin, and the
-// magnetic field at each point. A row is 54 little-endian words: the route's seven numbers, six
-// figures, the number of points, and for each of five its four figures, its use and the field's three.
-// A row that starts with ffffffff holds the name of the routes that follow.
+// magnetic field at each point. A row is 49 little-endian words: the route's seven numbers, six
+// figures, the number of points and seven figures for each of five. A row that starts with ffffffff
+// holds the name of the routes that follow.
 ghost use Rattle.std.specs.Prelude.{◌+◌, ◌*◌, ◌<◌, ◌≤◌, length};
 
-use crate::row::{is_float, is_use, print_name};
+use crate::row::{is_float, print_name};
 use base::angle::Degrees;
 use base::words;
 use maps::geometry::{ControlPoint, PathGeometry};
@@ -58,25 +58,23 @@ fn is_head(row: &[u8], g: PathGeometry) -> bool {
         && g.count == word(row, 13)
 }
 
-// The place of a point and its use, from the word k on.
+// The place of a point, from the word k on.
 fn is_place(row: &[u8], k: usize, p: ControlPoint) -> bool
-    requires { k < 60 }
+    requires { k < 50 }
 {
     let rd = p.rd;
     let lat = p.lat;
     let lon = p.lon;
     let gmlat = p.gmlat;
-    let used_for = p.used_for;
     is_float(rd.0, word(row, k))
         && is_float(lat.0, word(row, k + 1))
         && is_float(lon.0, word(row, k + 2))
         && is_float(gmlat.0, word(row, k + 3))
-        && is_use(used_for, word(row, k + 4))
 }
 
 // The field at a point that is there, from the word k on.
 fn is_field(row: &[u8], k: usize, p: ControlPoint) -> bool
-    requires { k < 60 }
+    requires { k < 50 }
 {
     let m = magnetic::magvar(p.lat, p.lon);
     let gmdip = m.gmdip;
@@ -88,7 +86,7 @@ fn is_field(row: &[u8], k: usize, p: ControlPoint) -> bool
 
 // The field of a point that is absent: three zeros.
 fn is_blank(row: &[u8], k: usize) -> bool
-    requires { k < 60 }
+    requires { k < 50 }
 {
     word(row, k) == 0 && word(row, k + 1) == 0 && word(row, k + 2) == 0
 }
@@ -96,14 +94,14 @@ fn is_blank(row: &[u8], k: usize) -> bool
 fn is_point(row: &[u8], i: usize, count: u32, p: ControlPoint) -> bool
     requires { i < 5 }
 {
-    let k = 14 + 8 * i;
+    let k = 14 + 7 * i;
     if !is_place(row, k, p) {
         return false;
     }
     if (i as u32) < count {
-        is_field(row, k + 5, p)
+        is_field(row, k + 4, p)
     } else {
-        is_blank(row, k + 5)
+        is_blank(row, k + 4)
     }
 }
 
@@ -125,8 +123,8 @@ fn rows(file: &mut impl Read) {
     let mut part = none();
     let mut all = none();
     for _ in 0..100000000u32 {
-        let mut row = [0u8; 216];
-        if read_full(file, &mut row) < 216 {
+        let mut row = [0u8; 196];
+        if read_full(file, &mut row) < 196 {
             break;
         }
         if is_heading(&row) {
@@ -145,11 +143,11 @@ fn rows(file: &mut impl Read) {
     print_line(b"routes", all);
 }
 
-fn is_heading(row: &[u8; 216]) -> bool {
+fn is_heading(row: &[u8; 196]) -> bool {
     words::word(row, 0) == 0xffff_ffff
 }
 
-fn is_right(row: &[u8; 216]) -> bool {
+fn is_right(row: &[u8; 196]) -> bool {
     is_route(row)
 }
 

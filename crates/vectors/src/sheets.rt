@@ -1,15 +1,14 @@
-// The sheets: the points of each sheet of sheets.bin, what they are used for and all 151 figures, over
-// the files that it holds; and the refusals of refused-sheets.bin, which leave the buffer as it was.
+// The sheets: all 151 figures of each sheet of sheets.bin, over the files that it holds; and the
+// refusals of refused-sheets.bin, which leave the buffer as it was.
 ghost use Rattle.std.specs.Prelude.{◌+◌, ◌*◌, ◌<◌, ◌≤◌, length};
 
 use crate::files;
-use crate::row::{is_float, is_use};
+use crate::row::is_float;
 use base::angle::Degrees;
 use base::month_file::{MONTH_FILE, RECORD};
 use base::words;
 use maps::figures;
 use maps::figures::{FIGURES, Shown};
-use maps::geometry::{Uses, use_at};
 use maps::inputs::{Factors, Inputs, MagneticPole, Route, inputs_in};
 use std::io::Read;
 use std::rt::Files;
@@ -33,24 +32,14 @@ fn word(row: &[u8], k: usize) -> u32
 // Whether the buffer holds a row's figures.
 fn is_figures(out: &[f32; FIGURES], row: &[u8]) -> bool {
     for k in 0..FIGURES {
-        if !is_float(out[k], word(row, 20 + k)) {
+        if !is_float(out[k], word(row, 15 + k)) {
             return false;
         }
     }
     true
 }
 
-// Whether a row has these uses of the points.
-fn is_uses(row: &[u8], uses: Uses) -> bool {
-    is_use(use_at(uses, 0), word(row, 15))
-        && is_use(use_at(uses, 1), word(row, 16))
-        && is_use(use_at(uses, 2), word(row, 17))
-        && is_use(use_at(uses, 3), word(row, 18))
-        && is_use(use_at(uses, 4), word(row, 19))
-}
-
-// Of a showing that should be refused: the refusal's number and place; 0 and the points where it is
-// not.
+// What a showing answers: a refusal's number and place, or 0 and the points.
 #[derive(Clone, Copy)]
 struct Spoken {
     number: u32,
@@ -59,7 +48,7 @@ struct Spoken {
 
 fn told(shown: Shown) -> Spoken {
     match shown {
-        Shown::Points(count, _) => Spoken {
+        Shown::Points(count) => Spoken {
             number: 0,
             place: count,
         },
@@ -71,15 +60,10 @@ fn told(shown: Shown) -> Spoken {
 }
 
 // All of the buffer must be overwritten.
-fn is_sheet(row: &[u8; 684], record: &[u8; RECORD], month: &[u8; MONTH_FILE]) -> bool {
+fn is_sheet(row: &[u8; 664], record: &[u8; RECORD], month: &[u8; MONTH_FILE]) -> bool {
     let mut out = [LENT; FIGURES];
-    let shown = figures::figures(inputs_in(row), record, month, &mut out);
-    match shown {
-        Shown::Points(count, uses) => {
-            count == word(row, 14) && is_uses(row, uses) && is_figures(&out, row)
-        }
-        Shown::Refused(_) => false,
-    }
+    let t = told(figures::figures(inputs_in(row), record, month, &mut out));
+    t.number == 0 && t.place == word(row, 14) && is_figures(&out, row)
 }
 
 pub fn next_record(file: &mut impl Read) -> [u8; RECORD] {
@@ -101,7 +85,7 @@ fn section(file: &mut impl Read, t: Tally) -> Tally {
     let month = next_month(file);
     let count = files::next(file);
     for _ in 0..count {
-        let mut row = [0u8; 684];
+        let mut row = [0u8; 664];
         read_full(file, &mut row);
         t = counted(t, is_sheet(&row, &record, &month));
     }

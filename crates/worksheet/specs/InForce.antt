@@ -5,8 +5,6 @@ use mathlib.Core.List.{List, [], ◌∷◌, ◌++◌, reverse, Memᴰ}
 use Rattle.base.specs.declared.refusal.Verdict.TheVariants.{Accepted}
 use Rattle.base.specs.Files.{files_check}
 use Rattle.maps.specs.declared.inputs.Inputs.{Inputs}
-use Rattle.maps.specs.declared.geometry.Uses.{Uses}
-use Rattle.maps.specs.Geometry.{uses_of}
 use Rattle.maps.specs.Figures.{sheet_path, figures_of}
 use Rattle.worksheet.specs.declared.inputs.Edit.{Edit}
 use Rattle.worksheet.specs.declared.desks.Earlier.{Earlier}
@@ -157,14 +155,13 @@ start_left w entries = cond (taken_back entries) (set_of w.earlier w.inputs) w.i
 -- ---- the insurer's line
 
 module _ (source : Source) where
-  -- a showing's number of points, what they are used for and its whole figures are those of one set of
-  -- inputs and of the two files that the source gives them
-  pub record FiguresOf (i : Inputs) (count : ℕ) (uses : Uses) (figures : List Float) : Type 0 where
+  -- a showing's number of points and its whole figures are those of one set of inputs and of the two
+  -- files that the source gives them
+  pub record FiguresOf (i : Inputs) (count : ℕ) (figures : List Float) : Type 0 where
     pub lent : (source i).verdict ≡ Accepted
     -- the two have passed their checks
     pub checked : files_check (source i).f2 (source i).file ≡ Accepted
     pub points : count ≡ (sheet_path i).count
-    pub used : uses ≡ uses_of (sheet_path i).count
     pub whole : figures ≡ figures_of (source i).f2 (source i).file i
 
 -- ---- a commit's draft started from the inputs in force, and nothing came between
@@ -247,11 +244,10 @@ module _ (source : Source) where
   -- of a showing after some entries, from the inputs `start` on: 'its layer heights, its critical
   -- frequencies and its ground all came from one sunspot number, one hour and one route, and from
   -- no edit that somebody had cancelled'
-  pub record Insured
-      (start : Inputs) (entries : List Entry) (count : ℕ) (uses : Uses) (figures : List Float) : Type 0 where
+  pub record Insured (start : Inputs) (entries : List Entry) (count : ℕ) (figures : List Float) : Type 0 where
     pub edits : List Edit
-    -- one set of inputs has all the figures, the number of points and their uses
-    pub one_set : FiguresOf source (changed start edits) count uses figures
+    -- one set of inputs has all the figures
+    pub one_set : FiguresOf source (changed start edits) count figures
     -- it has the changes of all accepted commits that were not taken back, commit by commit in
     -- their order, each commit once
     pub all_edits : edits ≡ changes_by (commits_left [] entries)

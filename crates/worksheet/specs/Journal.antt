@@ -23,9 +23,8 @@ pub data Call : Type 0 where
   show : (desk : ℕ) → (lent : List Float) → Call
 
 -- of a showing 'the number of points or the refusal's number and place, and either way the buffer
--- afterwards', with 'the five uses' beside the number of points; of another call 'that it was
--- accepted, or the refusal's number and place'. A refusal's case stands for its number and place
--- (`report_of`)
+-- afterwards'; of another call 'that it was accepted, or the refusal's number and place'. A
+-- refusal's case stands for its number and place (`report_of`)
 pub data Answer : Type 0 where
   told : Verdict → Answer
   shown : Shown → (after : List Float) → Answer
@@ -39,7 +38,7 @@ pub record Entry : Type 0 where
 abbrev pub accepted : Answer → Bool
 accepted (told Accepted) = true
 accepted (told (Refused why)) = false
-accepted (shown (Points count uses) after) = true
+accepted (shown (Points count) after) = true
 accepted (shown (NotShown why) after) = false
 
 -- ---- the run of a list of calls, with one source of files lent throughout

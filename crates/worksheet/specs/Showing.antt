@@ -85,7 +85,7 @@ drawn_check s size = buffer_check size then s.verdict then files_check s.f2 s.fi
 
 -- ---- the figures of inputs in a lent buffer
 
--- 'The answer is the number of points', and it 'gains the five uses'
+-- 'The answer is the number of points'
 unfoldable pub drawn_of : Files → Inputs → List Float → Shown
 drawn_of s i lent = points_or (drawn_check s (length lent)) (sheet_path i).count
 

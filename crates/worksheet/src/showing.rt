@@ -82,9 +82,9 @@ pub fn drawn(i: Inputs, f2: &[u8], file: &[u8], out: &mut [f32]) -> Shown
     let mut all = [0.0f32; FIGURES];
     let shown = figures(i, f2, file, &mut all);
     match shown {
-        Shown::Points(count, uses) => {
+        Shown::Points(count) => {
             put(out, &all);
-            Shown::Points(count, uses)
+            Shown::Points(count)
         }
         Shown::Refused(why) => Shown::Refused(why),
     }
@@ -125,10 +125,9 @@ fn drawn_year(i: Inputs, year: &[u8], out: &mut [f32]) -> Shown
     }
 }
 
-// The number of points and what they are used for, with the figures of a desk's draft, of the
-// worksheet for desk 0, in the buffer. Refuses 14, 16, the 15 fields of the inputs shown, 12, 8, 9, 10,
-// 23, 11; the buffer stays as it was lent. The files are taken as lent, whatever month and model the
-// inputs shown have.
+// The number of points, with the figures of a desk's draft, of the worksheet for desk 0, in the
+// buffer. Refuses 14, 16, the 15 fields of the inputs shown, 12, 8, 9, 10, 23, 11; the buffer stays as
+// it was lent. The files are taken as lent, whatever month and model the inputs shown have.
 pub fn show(w: Worksheet, desk: u32, f2: &[u8], file: &[u8], out: &mut [f32]) -> Shown
     ensures answer { result ≡ show_of (pair f2.now file.now) desk out.old w }
     ensures buffer { let files = pair f2.now file.now in

@@ -1,7 +1,6 @@
 //! `bulk-sheets COUNT SEED`: the port's figures beside the Rust's over random
 //! sheets, files and buffers, refused ones included; by fields, which nothing
-//! judges, and by the words of a whole sheet, which are judged. What the points are
-//! used for is the model's.
+//! judges, and by the words of a whole sheet, which are judged.
 
 use crate::commands::buffer::Buffer;
 use crate::commands::compare::{report, Tally};
@@ -12,7 +11,7 @@ use crate::draw::generator::Generator;
 use crate::draw::sheet_kinds::one_of;
 use crate::model::desks::fields::{with_model, CCIR};
 use crate::model::desks::{Refusal, Worksheet};
-use crate::port::sheets::{self, figures_by};
+use crate::port::sheets::figures_by;
 use crate::reference::sheets::{put_all_months, showing, showing_check, Sheet, FIGURES};
 use jutetrowel::raw::{self, Showing};
 
@@ -149,16 +148,34 @@ impl<'a> Lent<'a> {
             put_all_months(self.files.record, &self.files.file);
         }
         let figures = showing(&self.sheet);
-        let wanted = sheets::shown(figures.points);
-        differing_answer(answer, wanted).or_else(|| buffer.differs_from(&figures.words()))
+        let points = Showing {
+            points: figures.points,
+            number: 0,
+            place: 0,
+        };
+        differing_answer(answer, points).or_else(|| buffer.differs_from(&figures.words()))
     }
 }
 
 /// A refusal leaves the buffer as it was.
 fn refused(why: Refusal, answer: Showing, buffer: &Buffer) -> Option<String> {
-    differing_answer(answer, sheets::refused(why)).or_else(|| buffer.changes())
+    let Refusal { number, place, .. } = why;
+    let wanted = Showing {
+        points: 0,
+        number,
+        place,
+    };
+    differing_answer(answer, wanted).or_else(|| buffer.changes())
 }
 
 fn differing_answer(ours: Showing, wanted: Showing) -> Option<String> {
-    (ours != wanted).then(|| format!("port: {ours:?}, wanted: {wanted:?}"))
+    let text = |answer: Showing| match answer {
+        Showing {
+            points,
+            number: 0,
+            place: 0,
+        } => format!("{points} points"),
+        Showing { number, place, .. } => format!("refused {number} {place}"),
+    };
+    (ours != wanted).then(|| format!("port: {}, wanted: {}", text(ours), text(wanted)))
 }

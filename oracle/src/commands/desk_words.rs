@@ -81,7 +81,7 @@ mod tests {
     }
 
     /// The answers to a journal's lines and to its words are the same, call by call:
-    /// accepted, number and place of a refusal, or points, uses and 151 figures.
+    /// accepted, number and place of a refusal, or points and 151 figures.
     fn hold_together(text: &[u8], year: &[u8], lent: &Lent) -> Journal {
         let heard = hear(&lines(text).0, lent);
         let input = in_words(text, year).expect("words");

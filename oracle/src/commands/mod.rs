@@ -66,7 +66,6 @@ mod growth;
 mod lent;
 #[cfg(linked)]
 mod parts;
-mod points_seen;
 mod program;
 #[cfg(linked)]
 mod sides;

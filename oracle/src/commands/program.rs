@@ -163,8 +163,8 @@ mod tests {
         );
         assert_eq!(difference(b"accepted\nrefused 14 0", wanted), "line ends");
         assert_eq!(
-            difference(b"accepted\nrefused 14 0\npoints 5 E F all F E\n", wanted),
-            "\"points 5 E F all F E\" after the end"
+            difference(b"accepted\nrefused 14 0\npoints 1\n", wanted),
+            "\"points 1\" after the end"
         );
     }
 }

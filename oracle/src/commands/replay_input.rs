@@ -79,12 +79,7 @@ mod tests {
         assert_eq!(replayed.answers.len(), 22);
         let text = replay_text(&replayed);
         assert!(text.ends_with(&format!("\nstopped at {}\n", input.len() - 12)));
-        for line in [
-            "points 3 E all E none none",
-            "points 1 all none none none none",
-            "accepted",
-            "refused 15 0",
-        ] {
+        for line in ["points 3", "points 1", "accepted", "refused 15 0"] {
             assert!(text.lines().any(|other| other == line), "{line}");
         }
     }

@@ -1,25 +1,18 @@
 //! `routes FILE`: the vectors of path geometry and magnetic field, in rows of
-//! 54 little-endian u32: the route, the six numbers of the path, the number
-//! of points, the five points with what each is used for.
+//! 49 little-endian u32: the route, the six numbers of the path, the number
+//! of points, the five points.
 
 mod edges;
 mod odd;
 mod ordinary;
 mod searched;
 
-use super::points_seen::PointsSeen;
 use super::put_file;
-use crate::model::uses::{codes, uses, POINTS};
 use crate::month_file::push_words;
 use crate::reference::branches::{self, Branch, Counts};
 use crate::reference::routes::{counted, plain, Route};
 
-/// The route, the six numbers and the number of points.
-const HEAD: usize = 7 + 6 + 1;
-/// The numbers of a control point, before its use, and of the field there, after it.
-const PLACE: usize = 4;
-const FIELD: usize = 3;
-const WORDS: usize = HEAD + POINTS * (PLACE + 1 + FIELD);
+const WORDS: usize = 49;
 /// The first word of a heading: a NaN with which no route starts.
 const HEADING: u32 = u32::MAX;
 const NAME_BYTES: usize = 32;
@@ -33,12 +26,10 @@ fn is_counted(branch: &Branch) -> bool {
 
 pub fn run(file: &str) -> Result<(), String> {
     let groups = groups();
-    let (bytes, counts, seen) = vectors(&groups)?;
+    let (bytes, counts) = vectors(&groups)?;
     print_groups(&groups);
     branches::print(&counts, is_counted);
-    seen.print();
     branches::refuse_untaken(&counts, is_counted, &[])?;
-    seen.refuse_unseen()?;
     println!("{} rows, {} bytes", bytes.len() / 4 / WORDS, bytes.len());
     put_file(file, &bytes)
 }
@@ -53,22 +44,18 @@ fn groups() -> Vec<Group> {
     groups
 }
 
-/// The file's bytes, what the counted sources decided on the way, and which points
-/// there are.
-fn vectors(groups: &[Group]) -> Result<(Vec<u8>, Counts, PointsSeen), String> {
+/// The file's bytes, and what the counted sources decided on the way.
+fn vectors(groups: &[Group]) -> Result<(Vec<u8>, Counts), String> {
     let mut bytes = Vec::new();
-    let mut seen = PointsSeen::default();
     // The searches have left notes.
     branches::take();
     for (name, routes) in groups {
         push_heading(&mut bytes, name);
         for route in routes {
-            let row = row(route)?;
-            seen.note(row[HEAD - 1]);
-            push_words(&mut bytes, &row);
+            push_words(&mut bytes, &row(route)?);
         }
     }
-    Ok((bytes, branches::counts(&branches::take()), seen))
+    Ok((bytes, branches::counts(&branches::take())))
 }
 
 /// The name's bytes, filled up with zeros.
@@ -80,8 +67,7 @@ pub fn push_heading(bytes: &mut Vec<u8>, name: &str) {
     bytes.resize(end, 0);
 }
 
-/// The answers of the plain sources, from which the counted must not differ, and the
-/// model's uses.
+/// The answers of the plain sources, from which the counted must not differ.
 pub fn row(route: &Route) -> Result<Vec<u32>, String> {
     let (path, other) = (plain(route), counted(route));
     let words = path.words();
@@ -89,18 +75,7 @@ pub fn row(route: &Route) -> Result<Vec<u32>, String> {
         return Err(format!("{route:?}: the counted sources differ"));
     }
     let (ends, points) = words.split_at(6);
-    let points = with_uses(points, path.points);
-    Ok([&route.words(), ends, &[path.points], &points].concat())
-}
-
-/// The numbers of all five points, with its use between each one's place and field.
-fn with_uses(points: &[u32], number: u32) -> Vec<u32> {
-    let points = points.chunks(PLACE + FIELD).zip(codes(&uses(number)));
-    let point = |(numbers, used): (&[u32], u32)| {
-        let (place, field) = numbers.split_at(PLACE);
-        [place, &[used], field].concat()
-    };
-    points.flat_map(point).collect()
+    Ok([&route.words(), ends, &[path.points], points].concat())
 }
 
 fn print_groups(groups: &[Group]) {
@@ -113,34 +88,18 @@ fn print_groups(groups: &[Group]) {
 
 #[cfg(test)]
 mod tests {
-    use super::{groups, is_counted, row, vectors, HEADING};
+    use super::{groups, is_counted, vectors, HEADING};
     use crate::reference::branches::refuse_untaken;
-    use crate::reference::routes::{end, plain, Route};
 
     #[test]
     fn vectors_take_every_branch_and_are_the_same_each_time() {
         let groups = groups();
-        let (bytes, counts, seen) = vectors(&groups).expect("both variants agree");
+        let (bytes, counts) = vectors(&groups).expect("both variants agree");
         assert_eq!(refuse_untaken(&counts, is_counted, &[]), Ok(()));
-        assert_eq!(seen.refuse_unseen(), Ok(()));
-        assert!(bytes.len() < 250_000, "{} bytes", bytes.len());
+        assert!(bytes.len() < 200_000, "{} bytes", bytes.len());
         for (_, routes) in groups {
             assert!(routes.iter().all(|route| route.words()[0] != HEADING));
         }
-        assert!(vectors(&super::groups()).is_ok_and(|(again, ..)| again == bytes));
-    }
-
-    /// After the number of points come eight words for each, the fifth its use.
-    #[test]
-    fn uses_stand_among_the_numbers_of_their_points() {
-        let route = Route::new(end(48.2, 16.4), end(30.0, 31.2));
-        let row = row(&route).expect("both variants agree");
-        let path = plain(&route).words();
-        assert_eq!((row.len(), row[13]), (54, 3));
-        for (i, (point, used)) in row[14..].chunks(8).zip([1, 3, 1, 0, 0]).enumerate() {
-            let numbers = &path[6 + 7 * i..][..7];
-            let wanted = [&numbers[..4], &[used], &numbers[4..]].concat();
-            assert_eq!(point, wanted);
-        }
+        assert!(vectors(&super::groups()).is_ok_and(|(again, _)| again == bytes));
     }
 }

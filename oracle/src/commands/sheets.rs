@@ -1,6 +1,6 @@
 //! `sheets FILE`: the vectors of whole sheets, in sections of a record, a
-//! month file and rows of 171 little-endian u32: the fields, the number of
-//! points, the five uses, the figures. Beside it `refused-sheets.bin`.
+//! month file and rows of 166 little-endian u32: the fields, the number of
+//! points, the figures. Beside it `refused-sheets.bin`.
 
 mod by_hand;
 mod drawn;
@@ -9,10 +9,8 @@ mod refused;
 mod searched;
 mod witnesses;
 
-use crate::commands::points_seen::PointsSeen;
 use crate::commands::write_file;
 use crate::draw::data_files::{extreme, named, Pair};
-use crate::model::uses::{codes, uses};
 use crate::month_file::push_words;
 use crate::reference::branches::{self, Branch, Counts, Side, BRANCHES};
 use crate::reference::files::read;
@@ -59,7 +57,6 @@ struct Seen {
     /// How many points of each month took the second end of its sun and how
     /// many the first, if their zenith angle shows it.
     suns: [[u64; 2]; 12],
-    points: PointsSeen,
     witnesses: Witnesses,
 }
 
@@ -78,7 +75,6 @@ impl Seen {
         Self {
             counts: branches::counts(&[]),
             suns: [[0; 2]; 12],
-            points: PointsSeen::default(),
             witnesses: Witnesses::new(),
         }
     }
@@ -94,7 +90,6 @@ impl Seen {
 
     fn print(&self) {
         branches::print(&self.counts, is_counted);
-        self.points.print();
         self.witnesses.print();
         for (month, [second, first]) in (1..).zip(self.suns) {
             println!(
@@ -108,7 +103,6 @@ impl Seen {
         if self.suns.as_flattened().contains(&0) {
             return Err(String::from("an end of a month's sun is not taken"));
         }
-        self.points.refuse_unseen()?;
         self.witnesses.refuse_unseen()
     }
 }
@@ -169,8 +163,7 @@ fn vectors(sections: &[Section]) -> Result<(Vec<u8>, Seen), String> {
     Ok((bytes, seen))
 }
 
-/// The answers of the plain sources, from which the counted must not differ, and the
-/// model's uses.
+/// The answers of the plain sources, from which the counted must not differ.
 fn row(sheet: &Sheet, seen: &mut Seen) -> Result<Vec<u32>, String> {
     let set = set_of(sheet);
     let figures = plain(sheet, &set);
@@ -180,11 +173,8 @@ fn row(sheet: &Sheet, seen: &mut Seen) -> Result<Vec<u32>, String> {
     }
     branches::add(&mut seen.counts, &trail);
     seen.note_suns(sheet, &trail, &figures);
-    seen.points.note(figures.points);
     seen.witnesses.note(sheet, &set, &figures);
-    let points = figures.points;
-    let uses = codes(&uses(points));
-    Ok([&sheet.words()[..], &[points], &uses, &figures.words()].concat())
+    Ok([&sheet.words()[..], &[figures.points], &figures.words()].concat())
 }
 
 /// From the files that are put.

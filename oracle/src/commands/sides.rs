@@ -4,7 +4,6 @@
 use super::timing::{sheets, LENGTHS};
 use crate::draw::data_files::Pair;
 use crate::month_file::{push_words, BYTES};
-use crate::port::sheets::shown;
 use crate::reference::files::{read, walk};
 use crate::reference::sheets::{put_all_months, showing, Sheet, FIGURES};
 use jutetrowel::raw::{self, Showing};
@@ -93,7 +92,7 @@ impl Sides {
             assert_eq!(self.refused, number != 0);
             if !self.refused {
                 let mut figures = showing(&case.sheet);
-                assert_eq!(answer, shown(figures.points));
+                assert_eq!(answer.points, figures.points);
                 let wanted = figures.words();
                 figures.values = out;
                 assert!(figures.words() == wanted);

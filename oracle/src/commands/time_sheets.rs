@@ -71,7 +71,12 @@ fn assert_alike(sheets: &[Sheet], pair: &Pair) {
         let wanted = figures.words();
         let values = &mut figures.values;
         let answer = crate::port::sheets::figures(sheet, &pair.daw, &pair.month, values);
-        assert_eq!(answer, crate::port::sheets::shown(figures.points));
+        let wanted_answer = jutetrowel::raw::Showing {
+            points: figures.points,
+            number: 0,
+            place: 0,
+        };
+        assert_eq!(answer, wanted_answer);
         assert!(figures.words() == wanted);
     }
 }

@@ -8,7 +8,6 @@ use crate::model::desks::fields::{model, month, with_model, Inputs};
 use crate::model::desks::lent::{Lent, Shown};
 use crate::model::year::{of_model, of_month};
 use crate::month_file::push_words;
-use crate::port::sheets::shown;
 use crate::port::ACCEPTED;
 use crate::reference::sheets::{Figures, FIGURES};
 use crate::reference::voacap::coefficients::F2_RECORD_BYTES;
@@ -91,8 +90,7 @@ fn assert_alike(cases: &[Case], year: &[u8]) {
 
 fn assert_shown(wanted: &Shown, showing: impl Fn(&mut [f32]) -> Showing) {
     let mut values = [0.0; FIGURES];
-    let answer = showing(&mut values);
-    assert_eq!(answer, shown(wanted.points));
-    let points = answer.points;
+    let Showing { points, number, .. } = showing(&mut values);
+    assert_eq!((points, number), (wanted.points, 0));
     assert!(Figures { points, values }.words() == wanted.words);
 }

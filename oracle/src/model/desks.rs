@@ -1,6 +1,5 @@
 //! Document 01's worksheet, written from its part 'At the desks' alone, with
-//! document 02's requests 01, 10 and 11: the Rust has none and gives only the
-//! figures.
+//! document 02's requests 01 and 10: the Rust has none and gives only the figures.
 
 pub mod fields;
 pub mod lent;

@@ -7,7 +7,11 @@ use jutetrowel::raw::{self, Answer, Showing};
 
 impl From<Answer> for Told {
     fn from(Answer { number, place }: Answer) -> Self {
-        Self::without_points(number, place)
+        Self {
+            points: 0,
+            number,
+            place,
+        }
     }
 }
 
@@ -17,13 +21,11 @@ impl From<Showing> for Told {
             points,
             number,
             place,
-            uses,
         } = showing;
         Self {
             points,
             number,
             place,
-            uses,
         }
     }
 }

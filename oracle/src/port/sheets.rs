@@ -1,30 +1,7 @@
-//! The port's figures of a sheet from its fields, which nothing judges, and what it
-//! must answer beside them.
+//! The port's figures of a sheet from its fields, which nothing judges.
 
-use crate::model::desks::Refusal;
-use crate::model::uses::{codes, uses, POINTS};
 use crate::reference::sheets::Sheet;
 use jutetrowel::raw::{self, Showing};
-
-/// The answer of a showing with so many points.
-pub fn shown(points: u32) -> Showing {
-    Showing {
-        points,
-        number: 0,
-        place: 0,
-        uses: codes(&uses(points)),
-    }
-}
-
-/// That of a refused one, which has no points and no uses.
-pub fn refused(Refusal { number, place, .. }: Refusal) -> Showing {
-    Showing {
-        points: 0,
-        number,
-        place,
-        uses: [0; POINTS],
-    }
-}
 
 pub fn figures(sheet: &Sheet, record: &[u8], file: &[u8], out: &mut [f32]) -> Showing {
     figures_by(sheet.route.long.into(), sheet, record, file, out)

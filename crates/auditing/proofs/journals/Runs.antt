@@ -27,7 +27,7 @@ handed_good_law : (a : Answer) → handed_good (handed a) ≡ accepted a
 unfolding handed_good
 handed_good_law (told Accepted) = refl
 handed_good_law (told (Refused why)) = refl
-handed_good_law (shown (Points count uses) after) = refl
+handed_good_law (shown (Points count) after) = refl
 handed_good_law (shown (NotShown why) after) = refl
 
 pub made_as :

@@ -18,7 +18,7 @@ same_page :
     (i : Inputs) (a : Answer) (lent : List Float) → handed_page i (handed a) (buffer_after a lent) ≡ answer_page i a
 unfolding handed_page
 same_page i (told v) lent = refl
-same_page i (shown (Points count uses) after) lent = refl
+same_page i (shown (Points count) after) lent = refl
 same_page i (shown (NotShown why) after) lent = refl
 
 pub sheet_as :

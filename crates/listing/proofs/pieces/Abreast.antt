@@ -7,20 +7,15 @@ use borrow.Author.Tests.{lt-ltb, le-ltb}
 use lib.ListN.{length, get_or, replicate, length-append, length-replicate}
 use lib.Ieee.{Float, nan}
 use Rattle.base.proofs.verdicts.Picks.{cond_true, cond_false}
-use Rattle.maps.specs.declared.geometry.Uses.{Uses}
 use Rattle.maps.specs.declared.inputs.Inputs.{Inputs}
-use Rattle.maps.specs.Geometry.{use_at}
-use Rattle.wording.specs.Token.{ascii}
 use Rattle.listing.specs.Text.{decimal_of}
 use Rattle.listing.specs.Decimal.{decimal_text}
-use Rattle.listing.specs.Uses.{use_name}
 use Rattle.listing.specs.Page.{page_row}
 use Rattle.listing.specs.Fields.{at_right}
-use Rattle.listing.specs.Columns.{abreast, cell, cells_text, side_row, side_rows, point_numbers, point_uses, points_head, columns_text}
+use Rattle.listing.specs.Columns.{abreast, cell, cells_text, side_row, side_rows, point_numbers, points_head, columns_text}
 use Rattle.listing.proofs.digits.Places.{at_most_20}
 use Rattle.listing.proofs.digits.Values.{length_decimal}
 use Rattle.listing.proofs.pieces.Rows.{length_name, length_its_unit}
-use Rattle.listing.proofs.pieces.UseWords.{length_use}
 use Rattle.listing.proofs.pieces.Series.{length_turns}
 use Rattle.listing.proofs.pieces.Named.{length_fields}
 
@@ -51,16 +46,10 @@ length_numbers n =
     length_turns (λ (p : ℕ). cell (decimal_of (p + 1))) 21 n
     (λ p h. length_cell (decimal_of (p + 1)) 20 (omega arith) (at_most_20 (p + 1)))
 
-pub length_uses : (u : Uses) (n : ℕ) → length (point_uses u n) ≤ 17 * n
-length_uses u n =
-    length_turns (λ (p : ℕ). cell (ascii (use_name (use_at u p)))) 17 n
-    (λ p h. let a = length_use (use_at u p) in length_cell (ascii (use_name (use_at u p))) 16 (omega arith) (omega arith))
-
-pub length_head : (u : Uses) (n : ℕ) → n ≤ 5 → length (points_head u n) ≤ 216
+pub length_head : (n : ℕ) → n ≤ 5 → length (points_head n) ≤ 118
 unfolding points_head
-length_head u n h =
+length_head n h =
     let a = length_numbers n in
-    let b = length_uses u n in
     simp length-append (omega arith)
 
 few : (count : ℕ) → abreast count ≤ 5
@@ -71,12 +60,12 @@ few count =
       | no h ↦ (let e = cond_false count 5 (le-ltb count 5 (omega arith)) in omega arith)
     ]
 
-pub length_columns : (i : Inputs) (count : ℕ) (u : Uses) (xs : List Float) → length (columns_text i count u xs) ≤ 10200
+pub length_columns : (i : Inputs) (count : ℕ) (xs : List Float) → length (columns_text i count xs) ≤ 10000
 unfolding columns_text
-length_columns i count u xs =
+length_columns i count xs =
     let n = abreast count in
     let a = length_fields i in
     let b = length_sides 12 xs 0 1 6 (omega arith) (omega arith) in
-    let d = length_head u n (few count) in
+    let d = length_head n (few count) in
     let e = length_sides 18 xs 6 n 29 (omega arith) (few count) in
     simp length-append (omega arith)

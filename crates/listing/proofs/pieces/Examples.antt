@@ -11,13 +11,11 @@ use Rattle.base.specs.declared.refusal.Verdict.TheVariants.{Accepted, Refused}
 use Rattle.base.specs.Single.{decimal, minus_decimal}
 use Rattle.maps.specs.declared.figures.Shown.TheVariants.{Refused as NotShown}
 use Rattle.maps.specs.declared.inputs.Inputs.{Inputs}
-use Rattle.maps.specs.Geometry.{uses_of, use_at}
 use Rattle.worksheet.specs.Journal.{told, shown}
 use Rattle.wording.specs.Token.{ascii}
 use Rattle.listing.specs.Text.{digit_of, has_digit, digit_at, digits_below}
 use Rattle.listing.specs.Decimal.{nearest_of, sign_text, leading_of, text_of, minus_of, scaled_text, large_text, sized_text, decimal_text}
-use Rattle.listing.specs.Uses.{use_name}
-use Rattle.listing.specs.Page.{name_text, page_row, point_head}
+use Rattle.listing.specs.Page.{name_text, page_row}
 use Rattle.listing.specs.Reason.{refused_words}
 use Rattle.listing.specs.Survey.{refused_line}
 use Rattle.listing.specs.Fields.{at_right, in_turn, field_name, field_text}
@@ -59,18 +57,12 @@ fields = (refl, refl, refl, refl, refl, refl, refl, refl)
 
 -- ---- points side by side
 
--- of three points with the uses of three; of eight five are there
+-- of two points, and of eight, of which five are there
 heads :
-    (points_head (uses_of 3) (abreast 3)
-    ≡ ascii "point                       1                2                3\nused for              E layer       all layers          E layer\n")
+    (points_head (abreast 2) ≡ ascii "point                       1                2\n")
     × (abreast 8 ≡ 5)
-unfolding abreast points_head uses_of use_at use_name cell in_turn at_right digits_below digit_at has_digit digit_of
+unfolding abreast points_head cell in_turn at_right digits_below digit_at has_digit digit_of
 heads = (refl, refl)
-
--- and over a point by itself
-alone : point_head (uses_of 5) 3 ≡ ascii "point 4, used for: F layer\n"
-unfolding point_head uses_of use_at use_name digits_below digit_at has_digit digit_of
-alone = refl
 
 -- the row of the distance in km over a list of two numbers
 distance : side_row (page_row 13) (cells_text (nan ∷ decimal 25 1 ∷ []) 1 1) ≡ ascii "gcd_km               2.500000  km\n"

@@ -80,8 +80,8 @@ name_rows = names ++ ("another" ∷ [])
 pub same_names : map (cut 7) name_rows ≡ map ascii name_rows
 same_names = refl
 
-pub name_at_law : (k : ℕ) → get_or name_rows (name_row k) "" ≡ word_name k
-name_at_law k =
+pub name_at : (k : ℕ) → get_or name_rows (name_row k) "" ≡ word_name k
+name_at k =
     elim (dec_lt k 19) [
       | yes h ↦
           ap (λ (j : ℕ). get_or name_rows j "") (cond_true k 19 (lt-ltb k 19 h))

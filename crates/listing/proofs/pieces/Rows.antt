@@ -18,13 +18,10 @@ use Rattle.maps.specs.Inputs.{is_long}
 use Rattle.wording.specs.Token.{ascii}
 use Rattle.listing.specs.Text.{Put}
 use Rattle.listing.specs.Answer.{hex_of}
-use Rattle.maps.specs.declared.geometry.Uses.{Uses}
-use Rattle.maps.specs.Geometry.{use_at}
-use Rattle.listing.specs.Page.{Row, page_rows, page_row, name_text, letters_in, unit_in, unit_text, value_text, row_text, rows_text, early_fields, late_fields, long_text, fields_text, point_head, point_text, there_text, first_points}
+use Rattle.listing.specs.Page.{Row, page_rows, page_row, name_text, letters_in, unit_in, unit_text, value_text, row_text, rows_text, early_fields, late_fields, long_text, fields_text, point_text, there_text, first_points}
 use Rattle.listing.proofs.digits.Places.{at_most_20}
 use Rattle.listing.proofs.pieces.Puts.{nothing}
 use Rattle.listing.proofs.digits.Values.{either, length_decimal}
-use Rattle.listing.proofs.pieces.UseWords.{length_use}
 
 -- ---- the letters before a blank
 
@@ -72,8 +69,8 @@ any_default [] k d d' h = absurd (omega arith)
 any_default (x ∷ l) zero d d' h = refl
 any_default (x ∷ l) (suc k) d d' h = any_default l k d d' (omega arith)
 
-pub name_at_law : (k : ℕ) → k < 47 → get_or (map name_text page_rows) k [] ≡ name_text (page_row k)
-name_at_law k h = any_default (map name_text page_rows) k [] (name_text nobody) h ∙ get_or-map name_text page_rows k nobody
+pub name_at : (k : ℕ) → k < 47 → get_or (map name_text page_rows) k [] ≡ name_text (page_row k)
+name_at k h = any_default (map name_text page_rows) k [] (name_text nobody) h ∙ get_or-map name_text page_rows k nobody
 
 same_units : map unit_in (map padded page_rows) ≡ map its_unit page_rows
 unfolding unit_in letters_in
@@ -147,40 +144,33 @@ module _ (first : ℕ) (xs : List Float) (at : ℕ) where
 
 -- ---- points
 
-pub length_point_head : (u : Uses) (p : ℕ) → length (point_head u p) ≤ 49
-unfolding point_head
-length_point_head u p =
-    let a = at_most_20 (p + 1) in
-    let b = length_use (use_at u p) in
-    simp length-append (omega arith)
-
-pub length_point : (u : Uses) (xs : List Float) (p : ℕ) → length (point_text u xs p) ≤ 2253
+pub length_point : (xs : List Float) (p : ℕ) → length (point_text xs p) ≤ 2231
 unfolding point_text
-length_point u xs p =
-    let a = length_point_head u p in
+length_point xs p =
+    let a = at_most_20 (p + 1) in
     let b = length_rows 18 xs (6 + 29 * p) 29 (omega arith) in
     simp length-append (omega arith)
 
-pub length_there : (count : ℕ) (u : Uses) (xs : List Float) (p : ℕ) → length (there_text count u xs p) ≤ 2253
+pub length_there : (count : ℕ) (xs : List Float) (p : ℕ) → length (there_text count xs p) ≤ 2231
 unfolding there_text
-length_there count u xs p = either (ltb p count) (point_text u xs p) [] 2253 (length_point u xs p) (omega arith)
+length_there count xs p = either (ltb p count) (point_text xs p) [] 2231 (length_point xs p) (omega arith)
 
-module _ (count : ℕ) (u : Uses) (xs : List Float) where
-  pub no_points : (l : List ℕ) (at : ℕ) → Put l at (first_points count u xs 0) l at
+module _ (count : ℕ) (xs : List Float) where
+  pub no_points : (l : List ℕ) (at : ℕ) → Put l at (first_points count xs 0) l at
   unfolding first_points
   no_points l at = nothing l at
 
-  pub next_point : (p : ℕ) → first_points count u xs p ++ there_text count u xs p ≡ first_points count u xs (p + 1)
+  pub next_point : (p : ℕ) → first_points count xs p ++ there_text count xs p ≡ first_points count xs (p + 1)
   unfolding first_points
-  next_point p = sym (ap (first_points count u xs) (add-one p))
+  next_point p = sym (ap (first_points count xs) (add-one p))
 
-  pub length_points : (n : ℕ) → length (first_points count u xs n) ≤ 2253 * n
+  pub length_points : (n : ℕ) → length (first_points count xs n) ≤ 2231 * n
   unfolding first_points
   length_points zero = omega arith
   length_points (suc p) =
       let a = length_points p in
-      let b = length_there count u xs p in
-      omega (arith, length-append (first_points count u xs p) (there_text count u xs p))
+      let b = length_there count xs p in
+      omega (arith, length-append (first_points count xs p) (there_text count xs p))
 
 -- ---- fields
 

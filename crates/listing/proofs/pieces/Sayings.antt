@@ -11,7 +11,6 @@ use lib.Ieee.{Float}
 use Rattle.base.specs.declared.refusal.Refusal.{Refusal}
 use Rattle.base.specs.declared.refusal.Verdict.{Verdict}
 use Rattle.base.specs.declared.refusal.Verdict.TheVariants.{Accepted, Refused}
-use Rattle.maps.specs.declared.geometry.Uses.{Uses}
 use Rattle.maps.specs.declared.figures.Shown.{Shown}
 use Rattle.maps.specs.declared.figures.Shown.TheVariants.{Points, Refused as NotShown}
 use Rattle.maps.specs.declared.inputs.Inputs.{Inputs}
@@ -57,20 +56,20 @@ noun_most false = omega arith
 pub length_noun : (count : ℕ) → length (ascii (points_noun count)) ≤ 8
 length_noun count = noun_most (eqb count 1)
 
-length_points : (i : Inputs) (count : ℕ) (u : Uses) (xs : List Float) → length (points_words i count u xs) ≤ 10236
+length_points : (i : Inputs) (count : ℕ) (xs : List Float) → length (points_words i count xs) ≤ 10036
 unfolding points_words
-length_points i count u xs =
+length_points i count xs =
     let a = at_most_20 count in
     let b = length_noun count in
-    let d = length_columns i count u xs in
+    let d = length_columns i count xs in
     simp length-append (omega arith)
 
-length_shown : (i : Inputs) (s : Shown) (xs : List Float) → length (shown_words i s xs) ≤ 10236
+length_shown : (i : Inputs) (s : Shown) (xs : List Float) → length (shown_words i s xs) ≤ 10036
 unfolding shown_words
-length_shown i (Points count u) xs = length_points i count u xs
+length_shown i (Points count) xs = length_points i count xs
 length_shown i (NotShown why) xs = (let a = length_refused_line why in omega arith)
 
-pub length_handed : (i : Inputs) (a : Handed) (xs : List Float) → length (handed_words i a xs) ≤ 10236
+pub length_handed : (i : Inputs) (a : Handed) (xs : List Float) → length (handed_words i a xs) ≤ 10036
 unfolding handed_words
 length_handed i (Told v) xs = (let a = length_verdict v in omega arith)
 length_handed i (ShownTo s) xs = length_shown i s xs

@@ -16,7 +16,6 @@ use Rattle.base.specs.Finite.{FiniteMonth}
 use Rattle.base.proofs.lists.Fills.{run_at}
 use Rattle.base.proofs.layout.Readers.{files_record_finite, files_finite}
 use Rattle.maps.specs.Layers.{term_of, abmap_at, monthly_of}
-use Rattle.maps.specs.declared.geometry.Uses.{Uses}
 use Rattle.maps.specs.declared.figures.Shown.TheVariants.{Points}
 use Rattle.worksheet.specs.declared.desks.Worksheet.{Worksheet}
 use Rattle.worksheet.specs.Showing.{Source, inputs_shown}
@@ -27,12 +26,12 @@ use Rattle.results.proofs.finite.FiniteSheets.{ranged_finite}
 use Rattle.results.proofs.force.Insured.{shown_figures}
 
 pub shown_finite :
-    (source : Source) (w : Worksheet) (n : ℕ) (lent figures : List Float) (count : ℕ) (uses : Uses) →
-    (step source (show n lent) w).answer ≡ shown (Points count uses) figures →
+    (source : Source) (w : Worksheet) (n : ℕ) (lent figures : List Float) (count : ℕ) →
+    (step source (show n lent) w).answer ≡ shown (Points count) figures →
     let i = inputs_shown n w in FiniteFiles (source i).f2 (source i).file
-shown_finite source w n lent figures count uses h =
+shown_finite source w n lent figures count h =
     let i = inputs_shown n w in
-    let f = shown_figures source n w lent figures count uses (sym h) in
+    let f = shown_figures source n w lent figures count (sym h) in
     record {
       in_record_law = files_record_finite (source i).f2 (source i).file f.checked;
       in_month_law = files_finite (source i).f2 (source i).file f.checked;

@@ -20,7 +20,6 @@ use Rattle.base.specs.Angle.{radians_of, degrees_of}
 use Rattle.base.proofs.order.Order.{Between, trans_le}
 use Rattle.base.proofs.order.Monotone.{div_size}
 use Rattle.results.proofs.numbers.Sizes.{Sized, plus_sized, less_sized, times_sized, larger, sized_number, sized_finite}
-use Rattle.maps.specs.declared.geometry.Use.{Use}
 use Rattle.maps.specs.declared.geometry.ControlPoint.{ControlPoint}
 use Rattle.maps.specs.declared.geometry.PathGeometry.{PathGeometry}
 use Rattle.maps.specs.declared.geometry.Place.{Place}
@@ -45,20 +44,20 @@ gmlat_sized p at h k =
     let d : Sized angle (at.lon ⊖ p.lon) = unfold add le in less_sized angle tt (lon_sized k.lon) (lon_sized h.lon) in
     latitude_sized _ (sized_number (cos_between_law p at (at.lon ⊖ p.lon) h k d))
 
-row_located : (t : Track) (p : Place) (drf : Float) (present : Bool) (u : Use) → Tracked t → Known p → Sized angle drf → Located (control_point_if t p drf present u)
+row_located : (t : Track) (p : Place) (drf : Float) (present : Bool) → Tracked t → Known p → Sized angle drf → Located (control_point_if t p drf present)
 unfolding control_point_if point_of absent
-row_located t p drf true u k h s =
+row_located t p drf true k h s =
     let at = sample_known t k drf s in
     record { rd = s; lat = at.lat; lon = at.lon; gmlat = gmlat_sized p _ h at }
-row_located t p drf false u k h s = record { rd = zero_sized; lat = zero_sized; lon = zero_longitude; gmlat = zero_sized }
+row_located t p drf false k h s = record { rd = zero_sized; lat = zero_sized; lon = zero_longitude; gmlat = zero_sized }
 
 rows_located : (t : Track) (p : Place) (gcd : Float) (n : ℕ) → Tracked t → Known p → Between (decimal 1 6) farther gcd → (i : ℕ) → i < 5 → Located (get_or (rows_of t p gcd n) i nowhere)
 unfolding rows_of control_row
-rows_located t p gcd n k h b zero l = row_located t p _ _ _ k h (distance_sized gcd b n 0 l)
-rows_located t p gcd n k h b (suc zero) l = row_located t p _ _ _ k h (distance_sized gcd b n 1 l)
-rows_located t p gcd n k h b (suc (suc zero)) l = row_located t p _ _ _ k h (distance_sized gcd b n 2 l)
-rows_located t p gcd n k h b (suc (suc (suc zero))) l = row_located t p _ _ _ k h (distance_sized gcd b n 3 l)
-rows_located t p gcd n k h b (suc (suc (suc (suc zero)))) l = row_located t p _ _ _ k h (distance_sized gcd b n 4 l)
+rows_located t p gcd n k h b zero l = row_located t p _ _ k h (distance_sized gcd b n 0 l)
+rows_located t p gcd n k h b (suc zero) l = row_located t p _ _ k h (distance_sized gcd b n 1 l)
+rows_located t p gcd n k h b (suc (suc zero)) l = row_located t p _ _ k h (distance_sized gcd b n 2 l)
+rows_located t p gcd n k h b (suc (suc (suc zero))) l = row_located t p _ _ k h (distance_sized gcd b n 3 l)
+rows_located t p gcd n k h b (suc (suc (suc (suc zero)))) l = row_located t p _ _ k h (distance_sized gcd b n 4 l)
 rows_located t p gcd n k h b (suc (suc (suc (suc (suc i))))) l = absurd (omega arith)
 
 -- ---- the figures

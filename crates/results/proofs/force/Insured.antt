@@ -15,7 +15,6 @@ use Rattle.base.specs.declared.refusal.Verdict.{Verdict}
 use Rattle.base.specs.declared.refusal.Verdict.TheVariants.{Accepted, Refused}
 use Rattle.base.specs.Refusal.{◌then◌, written_over}
 use Rattle.base.proofs.verdicts.Refusals.{then_both}
-use Rattle.maps.specs.declared.geometry.Uses.{Uses}
 use Rattle.maps.specs.declared.inputs.Inputs.{Inputs}
 use Rattle.maps.specs.declared.figures.Shown.TheVariants.{Points}
 use Rattle.base.specs.Files.{files_check}
@@ -130,10 +129,10 @@ opened_in_force source opened given cs = in_force_law source (open_of opened).sh
 -- ---- THE INSURER'S LINE
 
 -- an accepted showing on the worksheet s, of its inputs or of a desk
-pub shown_figures : (source : Source) (n : ℕ) (s : Worksheet) (lent after : List Float) (count : ℕ) (uses : Uses)
-    → shown (Points count uses) after ≡ (step source (show n lent) s).answer → FiguresOf source (inputs_shown n s) count uses after
+pub shown_figures : (source : Source) (n : ℕ) (s : Worksheet) (lent after : List Float) (count : ℕ)
+    → shown (Points count) after ≡ (step source (show n lent) s).answer → FiguresOf source (inputs_shown n s) count after
 unfolding step show_of show_buffer show_check drawn_check
-shown_figures source n s lent after count uses h =
+shown_figures source n s lent after count h =
     go (judged_check n s then drawn_check (source i) (length lent)) refl h
   where
     i : Inputs
@@ -143,35 +142,35 @@ shown_figures source n s lent after count uses h =
     files = (source i).verdict then files_check (source i).f2 (source i).file
 
     go : (v : Verdict) → (judged_check n s then buffer_check (length lent) then files) ≡ v
-        → shown (Points count uses) after ≡ shown (points_or v (sheet_path i).count) (written_over v (figures_of (source i).f2 (source i).file i) lent)
-        → FiguresOf source i count uses after
+        → shown (Points count) after ≡ shown (points_or v (sheet_path i).count) (written_over v (figures_of (source i).f2 (source i).file i) lent)
+        → FiguresOf source i count after
     go Accepted c e =
         let a = then_both (judged_check n s) (buffer_check (length lent) then files) c in
         let b = then_both (buffer_check (length lent)) files a.1 in
         let d = then_both (source i).verdict (files_check (source i).f2 (source i).file) b.1 in
-        record { lent = d.0; checked = d.1; points = (cc); used = (cc); whole = (cc) }
+        record { lent = d.0; checked = d.1; points = (cc); whole = (cc) }
     go (Refused why) c e = let z : ◌≡◌ {A = ℕ} 0 1 = cc in absurd (omega arith)
 
 -- Over any source of files, of every worksheet whose desks are closed and every list of calls: each
--- accepted showing of the worksheet, with the entries before it, gave the number of points, their uses
--- and the whole figures of the inputs in force after those entries.
+-- accepted showing of the worksheet, with the entries before it, gave the number of points and the
+-- whole figures of the inputs in force after those entries.
 pub insurers_line_lent : (source : Source) (w : Worksheet) → at_rest w ≡ w
-    → (cs : List Call) (before later : List Entry) (lent figures : List Float) (count : ℕ) (uses : Uses)
-    → (run source cs w).entries ≡ before ++ (record { call = show 0 lent; answer = shown (Points count uses) figures } ∷ later)
-    → FiguresOf source (in_force w before) count uses figures
+    → (cs : List Call) (before later : List Entry) (lent figures : List Float) (count : ℕ)
+    → (run source cs w).entries ≡ before ++ (record { call = show 0 lent; answer = shown (Points count) figures } ∷ later)
+    → FiguresOf source (in_force w before) count figures
 unfolding in_force inputs_shown
-insurers_line_lent source w rest cs before later lent figures count uses h =
-    let x : Entry = record { call = show 0 lent; answer = shown (Points count uses) figures } in
+insurers_line_lent source w rest cs before later lent figures count h =
+    let x : Entry = record { call = show 0 lent; answer = shown (Points count) figures } in
     let a = run_split source cs w before x later h in
     let s = (run source a.calls w).sheet in
-    subst (λ (j : Inputs). FiguresOf source j count uses figures) (at_holds source w rest before x a).at_present
-    (shown_figures source 0 s lent figures count uses (ap (λ (y : Entry). y.answer) a.there))
+    subst (λ (j : Inputs). FiguresOf source j count figures) (at_holds source w rest before x a).at_present
+    (shown_figures source 0 s lent figures count (ap (λ (y : Entry). y.answer) a.there))
 
 -- THE INSURER'S LINE for every source of files and every worksheet that open gives
 pub insurers_line : (source : Source) (opened : Inputs) → (open_of opened).answer ≡ Accepted
-    → (cs : List Call) (before later : List Entry) (lent figures : List Float) (count : ℕ) (uses : Uses)
-    → (run source cs (open_of opened).sheet).entries ≡ before ++ (record { call = show 0 lent; answer = shown (Points count uses) figures } ∷ later)
-    → FiguresOf source (in_force (open_of opened).sheet before) count uses figures
+    → (cs : List Call) (before later : List Entry) (lent figures : List Float) (count : ℕ)
+    → (run source cs (open_of opened).sheet).entries ≡ before ++ (record { call = show 0 lent; answer = shown (Points count) figures } ∷ later)
+    → FiguresOf source (in_force (open_of opened).sheet before) count figures
 unfolding open_of fresh_sheet
 insurers_line source opened given = insurers_line_lent source (open_of opened).sheet refl
 

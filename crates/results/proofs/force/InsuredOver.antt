@@ -7,7 +7,6 @@ use mathlib.Core.List.{List, ◌∷◌, ◌++◌, Memᴰ}
 use mathlib.Core.Path.{◌≡◌, refl, sym, ap, subst, ◌∙◌}
 use lib.Ieee.{Float}
 use Rattle.base.specs.declared.refusal.Verdict.TheVariants.{Accepted}
-use Rattle.maps.specs.declared.geometry.Uses.{Uses}
 use Rattle.maps.specs.declared.figures.Shown.TheVariants.{Points}
 use Rattle.maps.specs.declared.inputs.Inputs.{Inputs}
 use Rattle.worksheet.specs.declared.desks.Worksheet.{Worksheet}
@@ -34,21 +33,21 @@ module _
     same = (all_calls source cs l (worksheet_of l) refl k).0
 
     pub insurers_line_over_lent :
-        (before later : List Entry) (lent figures : List Float) (count : ℕ) (uses : Uses) →
+        (before later : List Entry) (lent figures : List Float) (count : ℕ) →
         entries_over source cs l
-        ≡ before ++ (record { call = show 0 lent; answer = shown (Points count uses) figures } ∷ later) →
-        FiguresOf source (in_force (worksheet_of l) before) count uses figures
-    insurers_line_over_lent before later lent figures count uses h =
-        insurers_line_lent source (worksheet_of l) rest cs before later lent figures count uses (sym same ∙ h)
+        ≡ before ++ (record { call = show 0 lent; answer = shown (Points count) figures } ∷ later) →
+        FiguresOf source (in_force (worksheet_of l) before) count figures
+    insurers_line_over_lent before later lent figures count h =
+        insurers_line_lent source (worksheet_of l) rest cs before later lent figures count (sym same ∙ h)
 
     -- the insurer's sentence whole
     pub insurers_sentence_over :
-        (before later : List Entry) (lent figures : List Float) (count : ℕ) (uses : Uses) →
+        (before later : List Entry) (lent figures : List Float) (count : ℕ) →
         entries_over source cs l
-        ≡ before ++ (record { call = show 0 lent; answer = shown (Points count uses) figures } ∷ later) →
-        Insured source (start_left (worksheet_of l) before) before count uses figures
-    insurers_sentence_over before later lent figures count uses h =
-        insurers_sentence_lent source (worksheet_of l) rest cs before later lent figures count uses (sym same ∙ h)
+        ≡ before ++ (record { call = show 0 lent; answer = shown (Points count) figures } ∷ later) →
+        Insured source (start_left (worksheet_of l) before) before count figures
+    insurers_sentence_over before later lent figures count h =
+        insurers_sentence_lent source (worksheet_of l) rest cs before later lent figures count (sym same ∙ h)
 
     -- the words' inputs are those in force
     pub in_force_over :
@@ -78,22 +77,22 @@ open_rest s lent h = ap at_rest (open_read s lent h) ∙ sym (open_read s lent h
 -- numbers
 pub insurers_line_over :
     (source : Source) (s words : List ℕ) → (opened_of s).answer ≡ Accepted → (cs : List Call) → CallsSingles cs →
-    (before later : List Entry) (lent figures : List Float) (count : ℕ) (uses : Uses) →
+    (before later : List Entry) (lent figures : List Float) (count : ℕ) →
     entries_over source cs (words_after (opened_of s) words)
-    ≡ before ++ (record { call = show 0 lent; answer = shown (Points count uses) figures } ∷ later) →
-    FiguresOf source (in_force (worksheet_of (words_after (opened_of s) words)) before) count uses figures
+    ≡ before ++ (record { call = show 0 lent; answer = shown (Points count) figures } ∷ later) →
+    FiguresOf source (in_force (worksheet_of (words_after (opened_of s) words)) before) count figures
 insurers_line_over source s words h cs k =
     insurers_line_over_lent source (words_after (opened_of s) words) (open_rest s words h) cs k
 
 -- THE INSURER'S SENTENCE of the same, from the inputs that the words open with
 pub insurers_sentence_opened :
     (source : Source) (s words : List ℕ) → (opened_of s).answer ≡ Accepted → (cs : List Call) → CallsSingles cs →
-    (before later : List Entry) (lent figures : List Float) (count : ℕ) (uses : Uses) →
+    (before later : List Entry) (lent figures : List Float) (count : ℕ) →
     entries_over source cs (words_after (opened_of s) words)
-    ≡ before ++ (record { call = show 0 lent; answer = shown (Points count uses) figures } ∷ later) →
-    Insured source (opened_of s).sheet.inputs before count uses figures
+    ≡ before ++ (record { call = show 0 lent; answer = shown (Points count) figures } ∷ later) →
+    Insured source (opened_of s).sheet.inputs before count figures
 unfolding opened_of open_of fresh_sheet set_of
-insurers_sentence_opened source s words h cs k before later lent figures count uses e =
-    subst (λ (i : Inputs). Insured source i before count uses figures)
+insurers_sentence_opened source s words h cs k before later lent figures count e =
+    subst (λ (i : Inputs). Insured source i before count figures)
     (ap (λ (w : Worksheet). start_left w before) (open_read s words h) ∙ same_start (taken_back before) (opened_of s).sheet.inputs)
-    (insurers_sentence_over source (words_after (opened_of s) words) (open_rest s words h) cs k before later lent figures count uses e)
+    (insurers_sentence_over source (words_after (opened_of s) words) (open_rest s words h) cs k before later lent figures count e)

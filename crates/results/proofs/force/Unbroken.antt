@@ -12,7 +12,6 @@ use lib.Dec.{eqb}
 use lib.Ieee.{Float}
 use borrow.Author.Tests.{eqb-true, eq-eqb}
 use Rattle.base.specs.declared.refusal.Verdict.TheVariants.{Accepted}
-use Rattle.maps.specs.declared.geometry.Uses.{Uses}
 use Rattle.maps.specs.declared.inputs.Inputs.{Inputs}
 use Rattle.maps.specs.declared.figures.Shown.TheVariants.{Points}
 use Rattle.worksheet.specs.declared.inputs.Edit.{Edit}
@@ -181,11 +180,11 @@ never_cancelled source w rest cs e h =
 -- over any source of files, of every worksheet whose desks are closed and every list of calls: each
 -- accepted showing of the worksheet
 pub insurers_sentence_lent : (source : Source) (w : Worksheet) → at_rest w ≡ w
-    → (cs : List Call) (before later : List Entry) (lent figures : List Float) (count : ℕ) (uses : Uses)
-    → (run source cs w).entries ≡ before ++ (record { call = show 0 lent; answer = shown (Points count uses) figures } ∷ later)
-    → Insured source (start_left w before) before count uses figures
-insurers_sentence_lent source w rest cs before later lent figures count uses h =
-    let r = run_before source cs w before (record { call = show 0 lent; answer = shown (Points count uses) figures }) later h in
+    → (cs : List Call) (before later : List Entry) (lent figures : List Float) (count : ℕ)
+    → (run source cs w).entries ≡ before ++ (record { call = show 0 lent; answer = shown (Points count) figures } ∷ later)
+    → Insured source (start_left w before) before count figures
+insurers_sentence_lent source w rest cs before later lent figures count h =
+    let r = run_before source cs w before (record { call = show 0 lent; answer = shown (Points count) figures }) later h in
     let l = (run source r.0 w).entries in
     let exactly : in_force w before ≡ changed (start_left w before) (changes_by (commits_left [] before)) =
     subst (λ (k : List Entry). in_force w k ≡ changed (start_left w k) (changes_by (commits_left [] k))) r.1 (in_force_exactly source w rest r.0) in
@@ -193,7 +192,7 @@ insurers_sentence_lent source w rest cs before later lent figures count uses h =
     ap (λ (k : List Entry). changes_by (commits_left [] k)) (sym r.1) ∙ sym (ap changes_by (commits_exactly source w rest r.0)) in
     record {
       edits = changes_by (commits_left [] before);
-      one_set = subst (λ (i : Inputs). FiguresOf source i count uses figures) exactly (insurers_line_lent source w rest cs before later lent figures count uses h);
+      one_set = subst (λ (i : Inputs). FiguresOf source i count figures) exactly (insurers_line_lent source w rest cs before later lent figures count h);
       all_edits = refl;
       none_cancelled = λ e m.
           subst (λ (k : List Entry). NeverCancelled k e) r.1
@@ -203,10 +202,10 @@ insurers_sentence_lent source w rest cs before later lent figures count uses h =
 -- for every source of files and every worksheet that open gives: from the inputs that it was opened
 -- with
 pub insurers_sentence : (source : Source) (opened : Inputs) → (open_of opened).answer ≡ Accepted
-    → (cs : List Call) (before later : List Entry) (lent figures : List Float) (count : ℕ) (uses : Uses)
-    → (run source cs (open_of opened).sheet).entries ≡ before ++ (record { call = show 0 lent; answer = shown (Points count uses) figures } ∷ later)
-    → Insured source opened before count uses figures
+    → (cs : List Call) (before later : List Entry) (lent figures : List Float) (count : ℕ)
+    → (run source cs (open_of opened).sheet).entries ≡ before ++ (record { call = show 0 lent; answer = shown (Points count) figures } ∷ later)
+    → Insured source opened before count figures
 unfolding open_of fresh_sheet set_of
-insurers_sentence source opened given cs before later lent figures count uses h =
-    subst (λ (i : Inputs). Insured source i before count uses figures) (same_start (taken_back before) opened)
-    (insurers_sentence_lent source (open_of opened).sheet refl cs before later lent figures count uses h)
+insurers_sentence source opened given cs before later lent figures count h =
+    subst (λ (i : Inputs). Insured source i before count figures) (same_start (taken_back before) opened)
+    (insurers_sentence_lent source (open_of opened).sheet refl cs before later lent figures count h)

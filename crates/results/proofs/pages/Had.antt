@@ -14,7 +14,6 @@ use Rattle.base.specs.Files.{files_check}
 use Rattle.base.specs.Single.{decimal, minus_decimal}
 use Rattle.base.specs.Ranges.{month_check, hour_check, latitude_check, longitude_check, model_check}
 use Rattle.maps.specs.declared.inputs.Inputs.{Inputs}
-use Rattle.maps.specs.Geometry.{uses_of}
 use Rattle.maps.specs.Figures.{sheet_path, figures_of}
 use Rattle.worksheet.specs.Inputs.{sunspot_check, factor_check, flag_check, route_check, factors_check, pole_check, inputs_check}
 use Rattle.worksheet.specs.Desks.{open_of}
@@ -165,7 +164,6 @@ module _ (f2 file : List ℕ) (room : ℕ) (some : 1 ≤ room) where
         before = [];
         split = refl;
         points = (sheet_path i).count;
-        uses = uses_of (sheet_path i).count;
         figures = figures_of f2 file i;
         answered =
             ap (λ (x : Answer). record { call = show 0 blank; answer = x } ∷ [])

@@ -8,7 +8,6 @@ use native.Mathlib.Omega.{arith}
 use lib.ListN.{length, length-append}
 use lib.Ieee.{Float}
 use Rattle.base.specs.declared.refusal.Verdict.TheVariants.{Accepted}
-use Rattle.maps.specs.declared.geometry.Uses.{Uses}
 use Rattle.maps.specs.declared.figures.Shown.TheVariants.{Points}
 use Rattle.maps.specs.declared.inputs.Inputs.{Inputs}
 use Rattle.worksheet.specs.declared.desks.Worksheet.{Worksheet}
@@ -53,10 +52,10 @@ numbered_more n m (x ∷ cs) c e =
     ap (λ (l : List Numbered). record { call = x; line = n } ∷ l) (numbered_more (suc n) m cs c (omega arith))
 
 shorter_ends :
-    (front : List Entry) (points : ℕ) (uses : Uses) (figures : List Float) →
-    let x = accepted_showing blank points uses figures in shorter [] (front ++ (x ∷ [])) ≡ shorter [] front ++ (x ∷ [])
+    (front : List Entry) (points : ℕ) (figures : List Float) →
+    let x = accepted_showing blank points figures in shorter [] (front ++ (x ∷ [])) ≡ shorter [] front ++ (x ∷ [])
 unfolding shorter kept_for
-shorter_ends front points uses figures = shorter_append [] front (accepted_showing blank points uses figures ∷ [])
+shorter_ends front points figures = shorter_append [] front (accepted_showing blank points figures ∷ [])
 
 -- such a call asks to see the worksheet's inputs
 asks_worksheet :
@@ -83,7 +82,7 @@ module _ (a : Audited) (line : ℕ) (s : ShownLast a line) where
   front = (run_told a.source a.opening s.before).entries
 
   abbrev shows : Entry
-  shows = accepted_showing blank s.points s.uses s.figures
+  shows = accepted_showing blank s.points s.figures
 
   abbrev n : ℕ
   n = suc (length (calls_kept a))
@@ -99,7 +98,7 @@ module _ (a : Audited) (line : ℕ) (s : ShownLast a line) where
       ap (λ (cs : List Call). (run a.source cs w).entries) t.shorter_list
       ∙ demand.answers
       ∙ ap (shorter []) s.answered
-      ∙ shorter_ends front s.points s.uses s.figures
+      ∙ shorter_ends front s.points s.figures
 
   left : (run_told a.source a.opening (numbered_from 2 (calls_kept a))).sheet.inputs ≡ i
   unfolding kept_of short_run
@@ -151,7 +150,7 @@ module _ (a : Audited) (line : ℕ) (s : ShownLast a line) where
         ∙ ap (λ (cs : List Numbered). (run_told a.source a.opening cs).sheet.inputs) (sym numbered)
         ∙ left
 
-    said_last : answer_said a.source x v ≡ spoken_text n i (shown (Points s.points s.uses) s.figures)
+    said_last : answer_said a.source x v ≡ spoken_text n i (shown (Points s.points) s.figures)
     said_last =
         let asked = asks_worksheet (call_written e.last) v shows_so ∙ inputs_then in
         λ k. spoken_text n (asked k) (last_is k).answer
@@ -159,7 +158,7 @@ module _ (a : Audited) (line : ℕ) (s : ShownLast a line) where
     heard_last :
         (before : List ℕ)
         × ((heard_by a.source first_sitting (shorter_text a) n).text
-        ≡ before ++ spoken_text n i (shown (Points s.points s.uses) s.figures))
+        ≡ before ++ spoken_text n i (shown (Points s.points) s.figures))
     unfolding HeardAs first_sitting
     heard_last =
         let opened = spoken_verdict 1 Accepted in
@@ -170,20 +169,20 @@ module _ (a : Audited) (line : ℕ) (s : ShownLast a line) where
               ∙ ap (λ (cs : List Numbered). opened ++ said_of a.source w cs) numbered
               ∙ ap (λ (l : List ℕ). opened ++ l)
               (said_more a.source w ns x ∙ ap (λ (l : List ℕ). said ++ l) said_last)
-              ∙ sym (append_assoc opened said (spoken_text n i (shown (Points s.points s.uses) s.figures))),
+              ∙ sym (append_assoc opened said (spoken_text n i (shown (Points s.points) s.figures))),
         )
 
   -- THE SAME SHEET
   pub page_same_sheet :
       (before : List ℕ)
       × ((heard_by a.source first_sitting (shorter_text a) n).text
-      ≡ before ++ spoken_text n i (shown (Points s.points s.uses) s.figures))
+      ≡ before ++ spoken_text n i (shown (Points s.points) s.figures))
   page_same_sheet = go (last_of_law (calls_kept a))
     where
       go :
           (calls_kept a ≡ []) ⊎ Ends (calls_kept a) →
           (before : List ℕ)
           × ((heard_by a.source first_sitting (shorter_text a) n).text
-          ≡ before ++ spoken_text n i (shown (Points s.points s.uses) s.figures))
+          ≡ before ++ spoken_text n i (shown (Points s.points) s.figures))
       go (inl e) = absurd (some_call e)
       go (inr e) = heard_last e

@@ -30,7 +30,7 @@ module _ (a : Audited) (line : ℕ) (s : ShownLast a line) where
   abbrev last : Numbered
   last = record { call = Show 0; line = line }
 
-  pub answered_there : (step a.source (show 0 blank) sheet_shown).answer ≡ shown (Points s.points s.uses) s.figures
+  pub answered_there : (step a.source (show 0 blank) sheet_shown).answer ≡ shown (Points s.points) s.figures
   unfolding call_written
   answered_there =
       let front = (run_told a.source a.opening s.before).entries in
@@ -50,15 +50,15 @@ module _ (a : Audited) (line : ℕ) (s : ShownLast a line) where
   -- THE SHEET
   pub sheet_page :
       sheet_account a.source a.kept.sheet
-      ≡ columns_text (in_force (opened_sheet a) (entries_in a)) s.points s.uses s.figures
+      ≡ columns_text (in_force (opened_sheet a) (entries_in a)) s.points s.figures
   unfolding sheet_account
   sheet_page =
       ap (λ (w : Worksheet). answer_page w.inputs (step a.source (show 0 blank) w).answer) sheet_left
       ∙ (λ t. answer_page (inputs_there t) (answered_there t))
 
   -- ITS FIGURES are those of the inputs in force
-  pub sheet_figures : FiguresOf a.source (in_force (opened_sheet a) (entries_in a)) s.points s.uses s.figures
+  pub sheet_figures : FiguresOf a.source (in_force (opened_sheet a) (entries_in a)) s.points s.figures
   unfolding inputs_shown
   sheet_figures =
-      subst (λ (i : Inputs). FiguresOf a.source i s.points s.uses s.figures) inputs_there
-      (shown_figures a.source 0 sheet_shown blank s.figures s.points s.uses (sym answered_there))
+      subst (λ (i : Inputs). FiguresOf a.source i s.points s.figures) inputs_there
+      (shown_figures a.source 0 sheet_shown blank s.figures s.points (sym answered_there))

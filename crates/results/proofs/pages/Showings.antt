@@ -54,12 +54,12 @@ abbrev showing_entry : Given → List Float → Entry
 showing_entry s buffer = record { call = show 0 blank; answer = shown s buffer }
 
 abbrev told_of : Given → Showing
-told_of (Points n u) = Shown
+told_of (Points n) = Shown
 told_of (NotShown why) = Refused
 
 told_of_law : (s : Given) (buffer : List Float) → showing_by (mark_of (showing_entry s buffer)) ≡ told_of s
 unfolding showing_by mark_of
-told_of_law (Points n u) buffer = refl
+told_of_law (Points n) buffer = refl
 told_of_law (NotShown why) buffer = refl
 
 -- a number for each that can be told, since these differ where numbers do
@@ -148,14 +148,14 @@ module _ (a : Audited) (line : ℕ) where
   page_showing = (λ e. there e found, back)
     where
       there : answer ≡ Shown → Found → ShownLast a line
-      there e (showed (Points n u) h) =
-          record { before = h.before; split = h.split; points = n; uses = u; figures = h.buffer; answered = h.answered }
+      there e (showed (Points n) h) =
+          record { before = h.before; split = h.split; points = n; figures = h.buffer; answered = h.answered }
       there e (showed (NotShown why) h) = absurd (omega (arith, ap number_of (sym (told_so _ h) ∙ e)))
       there e (neither o) = absurd (omega (arith, ap number_of (sym o ∙ e)))
 
       back : ShownLast a line → answer ≡ Shown
       back s =
-          told_so (Points s.points s.uses)
+          told_so (Points s.points)
           record { before = s.before; split = s.split; buffer = s.figures; answered = s.answered }
 
   -- THE SHOWING WAS REFUSED
@@ -163,7 +163,7 @@ module _ (a : Audited) (line : ℕ) where
   page_refused = (λ e. there e found, back)
     where
       there : answer ≡ Refused → Found → RefusedShowing a line
-      there e (showed (Points n u) h) = absurd (omega (arith, ap number_of (sym (told_so _ h) ∙ e)))
+      there e (showed (Points n) h) = absurd (omega (arith, ap number_of (sym (told_so _ h) ∙ e)))
       there e (showed (NotShown why) h) =
           record { before = h.before; split = h.split; why = why; buffer = h.buffer; answered = h.answered }
       there e (neither o) = absurd (omega (arith, ap number_of (sym o ∙ e)))

@@ -30,7 +30,6 @@ use Rattle.base.proofs.order.Monotone.{sub_mono, div_size, abs_finite}
 use Rattle.base.proofs.order.Intervals.{exactly, sub_in, div_in}
 use Rattle.results.proofs.numbers.Bounds.{sin32_size, cos32_size}
 use Rattle.results.proofs.numbers.Sizes.{Sized, plus_sized, less_sized, times_sized, between_sized, larger, sized_number}
-use Rattle.maps.specs.declared.geometry.Use.{Use}
 use Rattle.maps.specs.declared.geometry.Place.{Place}
 use Rattle.maps.specs.declared.geometry.Track.{Track}
 use Rattle.maps.specs.Geometry.{EPSLON, DDX, R1, latitude_of, distances_of, clamped_cosine, cos_between, dlong_of, at_least_minimum, gcd_of, from_north, circle_of, close, nudge_of, nudged_of, sign_of, acos_clamped, turned_of, folded_of, other_way, polar, place_of, end_longitude, end_of, down_meridian, circle_longitude, on_circle, sample_of, point_of, absent, control_point_if, control_row, rows_of, track_of, path_of, nowhere}
@@ -463,18 +462,18 @@ module _ (gcd : Float) (b : Between (decimal 1 6) farther gcd) where
       go false false = each_at (of_five gcd) (more R1 R1_sized.0, (more (R1 ⊕ R1) R1_sized.1, (half_sized, (less_one (R1 ⊕ R1) R1_sized.1, (less_one R1 R1_sized.0, tt))))) i h
 
 -- ---- the rows
-row_in : (t : Track) (p : Place) (drf : Float) (present : Bool) (u : Use) → Tracked t → Sized angle drf → Longitude (control_point_if t p drf present u).lon.0
+row_in : (t : Track) (p : Place) (drf : Float) (present : Bool) → Tracked t → Sized angle drf → Longitude (control_point_if t p drf present).lon.0
 unfolding control_point_if point_of absent
-row_in t p drf true u k s = (sample_known t k drf s).lon
-row_in t p drf false u k s = zero_longitude
+row_in t p drf true k s = (sample_known t k drf s).lon
+row_in t p drf false k s = zero_longitude
 
 rows_in : (t : Track) (p : Place) (gcd : Float) (n : ℕ) → Tracked t → Between (decimal 1 6) farther gcd → (i : ℕ) → i < 5 → Longitude (get_or (rows_of t p gcd n) i nowhere).lon.0
 unfolding rows_of control_row
-rows_in t p gcd n k b zero h = row_in t p _ _ _ k (distance_sized gcd b n 0 h)
-rows_in t p gcd n k b (suc zero) h = row_in t p _ _ _ k (distance_sized gcd b n 1 h)
-rows_in t p gcd n k b (suc (suc zero)) h = row_in t p _ _ _ k (distance_sized gcd b n 2 h)
-rows_in t p gcd n k b (suc (suc (suc zero))) h = row_in t p _ _ _ k (distance_sized gcd b n 3 h)
-rows_in t p gcd n k b (suc (suc (suc (suc zero)))) h = row_in t p _ _ _ k (distance_sized gcd b n 4 h)
+rows_in t p gcd n k b zero h = row_in t p _ _ k (distance_sized gcd b n 0 h)
+rows_in t p gcd n k b (suc zero) h = row_in t p _ _ k (distance_sized gcd b n 1 h)
+rows_in t p gcd n k b (suc (suc zero)) h = row_in t p _ _ k (distance_sized gcd b n 2 h)
+rows_in t p gcd n k b (suc (suc (suc zero))) h = row_in t p _ _ k (distance_sized gcd b n 3 h)
+rows_in t p gcd n k b (suc (suc (suc (suc zero)))) h = row_in t p _ _ k (distance_sized gcd b n 4 h)
 rows_in t p gcd n k b (suc (suc (suc (suc (suc i))))) h = absurd (omega arith)
 
 -- ---- a path whose ends are in range

@@ -17,19 +17,18 @@ use Rattle.maps.specs.declared.inputs.Route.{Route}
 use Rattle.base.specs.Single.{◌⊖◌, decimal}
 use Rattle.base.specs.Angle.{degrees_of}
 use Rattle.base.proofs.verdicts.Picks.{cond_true, cond_false}
-use Rattle.maps.specs.declared.geometry.Use.{Use}
 use Rattle.maps.specs.declared.geometry.ControlPoint.{ControlPoint}
 use Rattle.maps.specs.declared.geometry.PathGeometry.{PathGeometry}
 use Rattle.maps.specs.declared.geometry.Place.{Place}
 use Rattle.maps.specs.declared.geometry.Track.{Track}
-use Rattle.maps.specs.Geometry.{EPSLON, uses_of, use_at, place_of, down_meridian, on_circle, sample_of, pole_place, gmlat_of, geomagnetic_of, point_of, absent, control_point_if, control_row, rows_of, distances_of, path_of, nowhere, lat_at, mean_latitude, alatd_of}
+use Rattle.maps.specs.Geometry.{EPSLON, place_of, down_meridian, on_circle, sample_of, pole_place, gmlat_of, geomagnetic_of, point_of, absent, control_point_if, control_row, rows_of, distances_of, path_of, nowhere, lat_at, mean_latitude, alatd_of}
 use Rattle.maps.specs.Inputs.{is_long}
 use Rattle.maps.specs.Figures.{head_of, sheet_path}
 use Rattle.results.specs.SamePaths.{SamePlace, SamePath}
 use Rattle.results.proofs.path.PointCounts.{CountRule, one, three, five, count_rule}
 
 -- ---- five rows, by number
-pub row_at : (t : Track) (p : Place) (gcd : Float) (n i : ℕ) → i < 5 → get_or (rows_of t p gcd n) i nowhere ≡ control_row t p gcd n i
+row_at : (t : Track) (p : Place) (gcd : Float) (n i : ℕ) → i < 5 → get_or (rows_of t p gcd n) i nowhere ≡ control_row t p gcd n i
 unfolding rows_of
 row_at t p gcd n zero h = refl
 row_at t p gcd n (suc zero) h = refl
@@ -38,11 +37,11 @@ row_at t p gcd n (suc (suc (suc zero))) h = refl
 row_at t p gcd n (suc (suc (suc (suc zero)))) h = refl
 row_at t p gcd n (suc (suc (suc (suc (suc i))))) h = absurd (omega arith)
 
-pub row_absent : (t : Track) (p : Place) (gcd : Float) (n i : ℕ) → n ≤ i → control_row t p gcd n i ≡ absent
+row_absent : (t : Track) (p : Place) (gcd : Float) (n i : ℕ) → n ≤ i → control_row t p gcd n i ≡ absent
 unfolding control_row control_point_if
 row_absent t p gcd n i h = cond_false _ _ (le-ltb i n h)
 
-pub row_there : (t : Track) (p : Place) (gcd : Float) (n i : ℕ) → i < n → control_row t p gcd n i ≡ point_of t p (get_or (distances_of gcd n) i nan) (use_at (uses_of n) i)
+row_there : (t : Track) (p : Place) (gcd : Float) (n i : ℕ) → i < n → control_row t p gcd n i ≡ point_of t p (get_or (distances_of gcd n) i nan)
 unfolding control_row control_point_if
 row_there t p gcd n i h = cond_true _ _ (lt-ltb i n h)
 
@@ -72,9 +71,9 @@ unfolding sample_of
 sample_placed t d =
     either_placed (lt (t.tx.cos ⊖ EPSLON) (decimal 0 1)) (place_of (down_meridian t.tx.lat d) t.rlong) (on_circle t d) (placed _ _) (circle_placed t d)
 
-point_gmlat : (t : Track) (pole : MagneticPole) (d : Float) (u : Use) → let p = point_of t (pole_place pole) d u in p.gmlat ≡ geomagnetic_of pole p.lat p.lon
+point_gmlat : (t : Track) (pole : MagneticPole) (d : Float) → (point_of t (pole_place pole) d).gmlat ≡ geomagnetic_of pole (point_of t (pole_place pole) d).lat (point_of t (pole_place pole) d).lon
 unfolding point_of geomagnetic_of
-point_gmlat t pole d u = ap (λ (at : Place). record { 0 = gmlat_of (pole_place pole) at }) (sample_placed t d)
+point_gmlat t pole d = ap (λ (at : Place). record { 0 = gmlat_of (pole_place pole) at }) (sample_placed t d)
 
 -- ---- the rows of a path
 module _ (tlat tlong rlat rlong : Degrees) (long : Bool) (pole : MagneticPole) where
@@ -94,22 +93,22 @@ module _ (tlat tlong rlat rlong : Degrees) (long : Bool) (pole : MagneticPole) w
   row_gmlat i h =
       subst (λ (p : ControlPoint). p.gmlat ≡ geomagnetic_of pole p.lat p.lon)
       (sym (row_at _ _ _ _ i (lt_of_lt_of_le h most) ∙ row_there _ _ _ _ i h))
-      (point_gmlat _ pole _ _)
+      (point_gmlat _ pole _)
 
 -- ---- the pole enters `gmlat` only
-row_same : (t : Track) (p q : Place) (d : Float) (b : Bool) (u : Use) → SamePlace (control_point_if t p d b u) (control_point_if t q d b u)
+row_same : (t : Track) (p q : Place) (d : Float) (b : Bool) → SamePlace (control_point_if t p d b) (control_point_if t q d b)
 unfolding control_point_if point_of
-row_same t p q d true u = record { rd = refl; lat = refl; lon = refl; used_for = refl }
-row_same t p q d false u = record { rd = refl; lat = refl; lon = refl; used_for = refl }
+row_same t p q d true = record { rd = refl; lat = refl; lon = refl }
+row_same t p q d false = record { rd = refl; lat = refl; lon = refl }
 
 rows_same : (t : Track) (p q : Place) (gcd : Float) (n i : ℕ) → SamePlace (get_or (rows_of t p gcd n) i nowhere) (get_or (rows_of t q gcd n) i nowhere)
 unfolding rows_of control_row
-rows_same t p q gcd n zero = row_same t p q _ _ _
-rows_same t p q gcd n (suc zero) = row_same t p q _ _ _
-rows_same t p q gcd n (suc (suc zero)) = row_same t p q _ _ _
-rows_same t p q gcd n (suc (suc (suc zero))) = row_same t p q _ _ _
-rows_same t p q gcd n (suc (suc (suc (suc zero)))) = row_same t p q _ _ _
-rows_same t p q gcd n (suc (suc (suc (suc (suc i))))) = record { rd = refl; lat = refl; lon = refl; used_for = refl }
+rows_same t p q gcd n zero = row_same t p q _ _
+rows_same t p q gcd n (suc zero) = row_same t p q _ _
+rows_same t p q gcd n (suc (suc zero)) = row_same t p q _ _
+rows_same t p q gcd n (suc (suc (suc zero))) = row_same t p q _ _
+rows_same t p q gcd n (suc (suc (suc (suc zero)))) = row_same t p q _ _
+rows_same t p q gcd n (suc (suc (suc (suc (suc i))))) = record { rd = refl; lat = refl; lon = refl }
 
 pub pole_only : (tlat tlong rlat rlong : Degrees) (long : Bool) (p q : MagneticPole) → SamePath (path_of tlat tlong rlat rlong long p) (path_of tlat tlong rlat rlong long q)
 unfolding path_of

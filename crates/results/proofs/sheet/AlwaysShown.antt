@@ -17,8 +17,8 @@ use Rattle.base.specs.Ranges.{is_month, is_bit, month_check, hour_check, model_c
 use Rattle.base.specs.Files.{files_check}
 use Rattle.base.proofs.verdicts.Refusals.{then_both, passed}
 use Rattle.maps.specs.declared.inputs.Inputs.{Inputs}
-use Rattle.maps.specs.declared.figures.Shown.TheVariants.{Refused as NotShown}
-use Rattle.maps.specs.Figures.{sheet_path, figures_of, points_or, points_of}
+use Rattle.maps.specs.declared.figures.Shown.TheVariants.{Points, Refused as NotShown}
+use Rattle.maps.specs.Figures.{sheet_path, figures_of, points_or}
 use Rattle.worksheet.specs.declared.inputs.Edit.{Edit}
 use Rattle.worksheet.specs.declared.inputs.Edit.TheVariants.{Sunspot, Hour, Path, Psc, Pole, Month as Monthly, Model as Modelled}
 use Rattle.worksheet.specs.declared.desks.Worksheet.{Worksheet}
@@ -141,13 +141,13 @@ module _ (f2 file : List ℕ) (good : files_check f2 file ≡ Accepted) where
       (lent : List Float) → length lent ≡ 151 →
       let w = (run (pair f2 file) cs (open_of i).sheet).sheet in
       (step (pair f2 file) (show 0 lent) w).answer
-      ≡ shown (points_of (sheet_path w.inputs).count) (figures_of f2 file w.inputs)
+      ≡ shown (Points (sheet_path w.inputs).count) (figures_of f2 file w.inputs)
   always_shown i h cs = answered_sheet (pair f2 file) _ (stay_in_range (pair f2 file) i h cs) Accepted good
 
   -- the list of no calls
   pub first_showing : (i : Inputs) → (open_of i).answer ≡ Accepted → (lent : List Float) → length lent ≡ 151 →
       (step (pair f2 file) (show 0 lent) (open_of i).sheet).answer
-      ≡ shown (points_of (sheet_path i).count) (figures_of f2 file i)
+      ≡ shown (Points (sheet_path i).count) (figures_of f2 file i)
   unfolding open_of fresh_sheet
   first_showing i h = answered_sheet (pair f2 file) (open_of i).sheet h Accepted good
 
@@ -164,7 +164,7 @@ pub year_shown : (s : List ℕ) (i : Inputs) → (open_of i).answer ≡ Accepted
     let files = yearly s w.inputs in
     year_files_check s w.inputs.month w.inputs.model ≡ Accepted →
     (step (yearly s) (show 0 lent) w).answer
-    ≡ shown (points_of (sheet_path w.inputs).count) (figures_of files.f2 files.file w.inputs)
+    ≡ shown (Points (sheet_path w.inputs).count) (figures_of files.f2 files.file w.inputs)
 unfolding year_files_check
 year_shown s i h cs lent l good =
     let w = (run (yearly s) cs (open_of i).sheet).sheet in

@@ -9,7 +9,8 @@ use lib.Ieee.{Float}
 use Rattle.base.specs.declared.refusal.Verdict.TheVariants.{Accepted}
 use Rattle.base.specs.Ranges.{month_check, model_check}
 use Rattle.maps.specs.declared.inputs.Inputs.{Inputs}
-use Rattle.maps.specs.Figures.{sheet_path, figures_of, points_of}
+use Rattle.maps.specs.declared.figures.Shown.TheVariants.{Points}
+use Rattle.maps.specs.Figures.{sheet_path, figures_of}
 use Rattle.worksheet.specs.declared.inputs.Edit.TheVariants.{Month, Model}
 use Rattle.worksheet.specs.Inputs.{edit_check, edited}
 use Rattle.worksheet.specs.Desks.{draft_at, with_draft, inputs_of, stale_of, moved_to, outcome, desk_check, closed_check, draft_check, fresh_check, fresh_sheet, open_of, begin_check, begin_of, change_check, edited_draft, change_of, commit_check, commit_of}
@@ -43,7 +44,7 @@ pub december : (s : List ℕ) → year_files_check s 12 1 ≡ Accepted → (i : 
     answers_of (run (yearly s) (to_december lent) (open_of i).sheet).entries
     ≡
     four_and
-    (shown (points_of (sheet_path (in_december i)).count) (figures_of (record_at s 12 1) (part_at s 11) (in_december i)))
+    (shown (Points (sheet_path (in_december i)).count) (figures_of (record_at s 12 1) (part_at s 11) (in_december i)))
 unfolding answered
 december s good i h lent l =
     answered (yearly s) i lent ∙ ap four_and (year_always_shown s i h changes lent l good)

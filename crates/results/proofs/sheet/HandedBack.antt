@@ -8,9 +8,6 @@ use lib.Ieee.{Float}
 use Rattle.base.specs.declared.refusal.Verdict.{Verdict}
 use Rattle.base.specs.declared.refusal.Verdict.TheVariants.{Accepted, Refused}
 use Rattle.base.proofs.verdicts.Refusals.{accepted_by_number}
-use Rattle.maps.specs.declared.geometry.Use.{Use}
-use Rattle.maps.specs.declared.geometry.Use.TheVariants.{NoLayer, ELayer, FLayer, AllLayers}
-use Rattle.maps.specs.declared.geometry.Uses.{Uses}
 use Rattle.maps.specs.declared.figures.Shown.{Shown}
 use Rattle.maps.specs.declared.figures.Shown.TheVariants.{Points, Refused as NotShown}
 use Rattle.worksheet.specs.Desks.{opened_of}
@@ -18,7 +15,7 @@ use Rattle.worksheet.specs.Showing.{Source, show_of, show_buffer}
 use Rattle.worksheet.specs.Journal.{Call, show, shown, Entry, step, entry_of}
 use Rattle.worksheet.specs.InForce.{Insured}
 use Rattle.jutetrowel.specs.declared.answers.Showing.{Showing}
-use Rattle.jutetrowel.specs.Answers.{answer_of, use_code, use_codes, use_coded, uses_coded, showing_of}
+use Rattle.jutetrowel.specs.Answers.{answer_of, showing_of}
 use Rattle.jutetrowel.specs.Words.{worksheet_of, words_after}
 use Rattle.jutetrowel.specs.Calls.{CallSingles, CallsSingles, Shows, words_left, entries_over, words_over}
 use Rattle.results.proofs.force.InsuredOver.{insurers_sentence_opened}
@@ -27,28 +24,9 @@ pub accepted_number : (v : Verdict) → (answer_of v).number ≡ 0 → v ≡ Acc
 unfolding answer_of
 accepted_number v e = accepted_by_number v e
 
--- a use is read back from its code
-use_coded_law : (u : Use) → u ≡ use_coded (use_code u)
-unfolding use_code use_coded
-use_coded_law NoLayer = refl
-use_coded_law ELayer = refl
-use_coded_law FLayer = refl
-use_coded_law AllLayers = refl
-
-uses_coded_law : (u : Uses) → u ≡ uses_coded (use_codes u)
-unfolding use_codes uses_coded
-uses_coded_law u =
-    λ t. record {
-      p1 = use_coded_law u.p1 t;
-      p2 = use_coded_law u.p2 t;
-      p3 = use_coded_law u.p3 t;
-      p4 = use_coded_law u.p4 t;
-      p5 = use_coded_law u.p5 t;
-    }
-
-pub shown_number : (x : Shown) → (showing_of x).number ≡ 0 → x ≡ Points (showing_of x).points (uses_coded (showing_of x).uses)
+pub shown_number : (x : Shown) → (showing_of x).number ≡ 0 → x ≡ Points (showing_of x).points
 unfolding showing_of
-shown_number (Points count uses) e = ap (Points count) (uses_coded_law uses)
+shown_number (Points count) e = refl
 shown_number (NotShown why) e =
     let p : Refused why ≡ Accepted = accepted_by_number (Refused why) e in
     let z : ◌≡◌ {A = ℕ} 0 1 = cc in
@@ -75,20 +53,19 @@ pub insurers_sentence_handed :
     (lent figures : List Float) (r : Showing) → let l = words_after (opened_of s) words in
     Shows (step source (show 0 lent) (worksheet_of (words_over source cs l))).answer r figures →
     r.number ≡ 0 →
-    Insured source (opened_of s).sheet.inputs (entries_over source cs l) r.points (uses_coded r.uses) figures
+    Insured source (opened_of s).sheet.inputs (entries_over source cs l) r.points figures
 unfolding step
 insurers_sentence_handed source s words h cs k lent figures r given zero =
     let l = words_after (opened_of s) words in
     let w = worksheet_of (words_over source cs l) in
     let number : (showing_of (show_of source 0 lent w)).number ≡ 0 =
     ap (λ (x : Showing). x.number) (sym given.0) ∙ zero in
-    let points : show_of source 0 lent w ≡ Points r.points (uses_coded r.uses) =
-    shown_number (show_of source 0 lent w) number
-    ∙ ap (λ (x : Showing). Points x.points (uses_coded x.uses)) (sym given.0) in
+    let points : show_of source 0 lent w ≡ Points r.points =
+    shown_number (show_of source 0 lent w) number ∙ ap (λ (x : Showing). Points x.points) (sym given.0) in
     let whole : show_buffer source 0 lent w ≡ figures = sym given.1 in
-    let x : Entry = record { call = show 0 lent; answer = shown (Points r.points (uses_coded r.uses)) figures } in
+    let x : Entry = record { call = show 0 lent; answer = shown (Points r.points) figures } in
     let last : entry_of source (show 0 lent) w ≡ x =
     λ t. record { call = show 0 lent; answer = shown (points t) (whole t) } in
     insurers_sentence_opened source s words h (cs ++ (show 0 lent ∷ [])) (singles_after cs (show 0 lent) k tt)
-    (entries_over source cs l) [] lent figures r.points (uses_coded r.uses)
+    (entries_over source cs l) [] lent figures r.points
     (entries_after source cs (show 0 lent) l ∙ ap (λ (y : Entry). entries_over source cs l ++ (y ∷ [])) last)

@@ -23,10 +23,9 @@ use Rattle.base.proofs.layout.Readers.{files_record_finite, files_file}
 use Rattle.base.proofs.verdicts.Refusals.{then_both}
 use Rattle.base.proofs.layout.Records.{month_known as record-known, month_part_law}
 use Rattle.base.proofs.layout.Directories.{month_known, bit_known, month_part_is, model_part_is, no_model}
-use Rattle.maps.specs.declared.geometry.Uses.{Uses}
 use Rattle.maps.specs.declared.inputs.Inputs.{Inputs}
 use Rattle.maps.specs.declared.figures.Shown.TheVariants.{Points}
-use Rattle.maps.specs.Figures.{sheet_path, figures_of, points_of}
+use Rattle.maps.specs.Figures.{sheet_path, figures_of}
 use Rattle.worksheet.specs.declared.desks.Worksheet.{Worksheet}
 use Rattle.worksheet.specs.Desks.{open_of}
 use Rattle.worksheet.specs.Showing.{year_files, year_files_check, yearly, inputs_shown}
@@ -68,8 +67,8 @@ is_model m e = elim (dec_lt m 1) [
 
 -- ---- figures over a year
 
-module _ (s : List ℕ) (i : Inputs) (count : ℕ) (uses : Uses) (figures : List Float) where
-  pub figures_own_parts : FiguresOf (yearly s) i count uses figures → OwnParts s i count uses figures
+module _ (s : List ℕ) (i : Inputs) (count : ℕ) (figures : List Float) where
+  pub figures_own_parts : FiguresOf (yearly s) i count figures → OwnParts s i count figures
   unfolding year_files
   figures_own_parts f =
       let daw = part_bytes s (year_model s i.model) in
@@ -94,7 +93,6 @@ module _ (s : List ℕ) (i : Inputs) (count : ℕ) (uses : Uses) (figures : List
             (files_record_finite _ _ f.checked);
         file = sym (ap file_check file_is) ∙ files_file _ _ f.checked;
         points = f.points;
-        used = f.used;
         whole =
             f.whole
             ∙ (λ t. figures_of (record_is t) (file_is t) i)
@@ -107,10 +105,10 @@ module _ (s : List ℕ) (i : Inputs) (count : ℕ) (uses : Uses) (figures : List
       is_bit_law (inr e) l r = e
 
 pub one_month_one_model :
-    (s : List ℕ) (w : Worksheet) (n : ℕ) (lent figures : List Float) (count : ℕ) (uses : Uses) →
-    (step (yearly s) (show n lent) w).answer ≡ shown (Points count uses) figures → OwnParts s (inputs_shown n w) count uses figures
-one_month_one_model s w n lent figures count uses h =
-    figures_own_parts s (inputs_shown n w) count uses figures (shown_figures (yearly s) n w lent figures count uses (sym h))
+    (s : List ℕ) (w : Worksheet) (n : ℕ) (lent figures : List Float) (count : ℕ) →
+    (step (yearly s) (show n lent) w).answer ≡ shown (Points count) figures → OwnParts s (inputs_shown n w) count figures
+one_month_one_model s w n lent figures count h =
+    figures_own_parts s (inputs_shown n w) count figures (shown_figures (yearly s) n w lent figures count (sym h))
 
 -- ---- and after every list of calls there is such a showing, where the year file refuses nothing
 
@@ -120,10 +118,10 @@ pub year_always_shown : (s : List ℕ) (opened : Inputs) → (open_of opened).an
     let i = w.inputs in
     year_files_check s i.month i.model ≡ Accepted →
     (step (yearly s) (show 0 lent) w).answer
-    ≡ shown (points_of (sheet_path i).count) (figures_of (record_at s i.month i.model) (part_at s (i.month - 1)) i)
+    ≡ shown (Points (sheet_path i).count) (figures_of (record_at s i.month i.model) (part_at s (i.month - 1)) i)
 unfolding inputs_shown
 year_always_shown s opened h cs lent l good =
     let w = (run (yearly s) cs (open_of opened).sheet).sheet in
     let e = year_shown s opened h cs lent l good in
-    let own = one_month_one_model s w 0 lent _ _ _ e in
-    e ∙ ap (shown (points_of (sheet_path w.inputs).count)) own.whole
+    let own = one_month_one_model s w 0 lent _ _ e in
+    e ∙ ap (shown (Points (sheet_path w.inputs).count)) own.whole

@@ -17,7 +17,6 @@ use Rattle.base.specs.Refusal.{◌then◌, written_over}
 use Rattle.base.specs.Single.{decimal, minus_decimal}
 use Rattle.base.specs.Ranges.{is_to, month_check, hour_check, latitude_check, longitude_check, model_check}
 use Rattle.base.proofs.order.Order.{Between}
-use Rattle.maps.specs.declared.geometry.Uses.{Uses}
 use Rattle.maps.specs.declared.inputs.Inputs.{Inputs}
 use Rattle.maps.specs.declared.inputs.Route.{Route}
 use Rattle.maps.specs.declared.figures.Shown.TheVariants.{Points}
@@ -78,15 +77,15 @@ pub clock_in_range : (f2 file : List ℕ) (i : Inputs) → inputs_check i ≡ Ac
 clock_in_range f2 file i h p l c = let r = in_range_law i h in clock_at f2 file i r.0 r.1 r.2 p l c
 
 -- and in the buffer after every accepted showing, of the worksheet or of a desk
-pub shown_clock : (source : Source) (n : ℕ) (lent : List Float) (w : Worksheet) (count : ℕ) (uses : Uses) → show_of source n lent w ≡ Points count uses
+pub shown_clock : (source : Source) (n : ℕ) (lent : List Float) (w : Worksheet) (count : ℕ) → show_of source n lent w ≡ Points count
     → (p : ℕ) → 1 ≤ p → p ≤ count → OnClock (get_or (show_buffer source n lent w) (6 + 29 * (p - 1) + 20) nan)
 unfolding show_of show_buffer show_check judged_check
-shown_clock source n lent w count uses h p l c = go (show_check source n (length lent) w) refl h
+shown_clock source n lent w count h p l c = go (show_check source n (length lent) w) refl h
   where
     i : Inputs
     i = inputs_shown n w
 
-    go : (v : Verdict) → show_check source n (length lent) w ≡ v → points_or v (sheet_path i).count ≡ Points count uses
+    go : (v : Verdict) → show_check source n (length lent) w ≡ v → points_or v (sheet_path i).count ≡ Points count
         → OnClock (get_or (written_over v (figures_of (source i).f2 (source i).file i) lent) (6 + 29 * (p - 1) + 20) nan)
     go Accepted e q =
         let a = then_both (judged_check n w) (drawn_check (source i) (length lent)) e in

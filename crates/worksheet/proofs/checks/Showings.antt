@@ -16,7 +16,6 @@ use Rattle.base.specs.declared.refusal.Verdict.TheVariants.{Accepted, Refused}
 use Rattle.base.specs.Refusal.{refuse_unless, ◌then◌, written_over}
 use Rattle.base.specs.Ranges.{month_check, model_check}
 use Rattle.maps.specs.declared.inputs.Inputs.{Inputs}
-use Rattle.maps.specs.declared.geometry.Uses.{Uses}
 use Rattle.maps.specs.declared.figures.Shown.{Shown}
 use Rattle.maps.specs.declared.figures.Shown.TheVariants.{Points, Refused as NotShown}
 use Rattle.base.specs.Files.{files_check}
@@ -73,14 +72,14 @@ module _ (f2 file : List ℕ) (i : Inputs) (lent : List Float) where
       let m : length all ≡ 151 = ap length q ∙ figures_length f2 file i in
       fill_all (elements all) lent 151 n ∙ ap (tabulate (elements all)) (sym m) ∙ all_elements all ∙ q
 
-  pub drawn_points : {all after : List Float} (blank : List Float) (count : ℕ) (uses : Uses) → length lent ≡ 151 → Points count uses ≡ shown_of f2 file i → all ≡ mapsBuffer f2 file i blank
+  pub drawn_points : {all after : List Float} (blank : List Float) (count : ℕ) → length lent ≡ 151 → Points count ≡ shown_of f2 file i → all ≡ mapsBuffer f2 file i blank
       → after ≡ fill (elements all) 0 lent 151
-      → Both (Points count uses ≡ drawn_of (pair f2 file i) i lent) (after ≡ drawn_buffer (pair f2 file i) i lent)
+      → Both (Points count ≡ drawn_of (pair f2 file i) i lent) (after ≡ drawn_buffer (pair f2 file i) i lent)
   unfolding shown_of mapsBuffer
-  drawn_points {all} {after} blank count uses n p q r = go (files_check f2 file) refl p q
+  drawn_points {all} {after} blank count n p q r = go (files_check f2 file) refl p q
     where
-      go : (v : Verdict) → files_check f2 file ≡ v → Points count uses ≡ points_or v (sheet_path i).count → all ≡ written_over v (figures_of f2 file i) blank
-          → Both (Points count uses ≡ drawn_of (pair f2 file i) i lent) (after ≡ drawn_buffer (pair f2 file i) i lent)
+      go : (v : Verdict) → files_check f2 file ≡ v → Points count ≡ points_or v (sheet_path i).count → all ≡ written_over v (figures_of f2 file i) blank
+          → Both (Points count ≡ drawn_of (pair f2 file i) i lent) (after ≡ drawn_buffer (pair f2 file i) i lent)
       go Accepted e x y = let d = drawn_as (pair f2 file i) i lent (fit n ∙ e) in record { answer = x ∙ d.answer; buffer = r ∙ filled_all all n y ∙ d.buffer }
       go (Refused why) e x y = let z : ◌≡◌ {A = ℕ} 0 1 = cc in absurd (omega arith)
 

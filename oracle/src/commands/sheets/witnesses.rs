@@ -11,6 +11,7 @@ use crate::reference::voacap::ionosphere::{noisy, DELZ};
 struct Point<'a> {
     sheet: &'a Sheet,
     set: &'a CoefficientSet,
+    points: u32,
     row: &'a [f32],
 }
 
@@ -77,7 +78,10 @@ impl Point<'_> {
 
 type Witness = (&'static str, fn(&Point) -> bool);
 
-const WITNESSES: [Witness; 47] = [
+const WITNESSES: [Witness; 50] = [
+    ("one point", |p| p.points == 1),
+    ("three points", |p| p.points == 3),
+    ("five points", |p| p.points == 5),
     ("the long way", |p| p.sheet.route.long),
     ("hour 0", |p| p.sheet.gmt == 0.0),
     ("hour 24", |p| p.sheet.gmt == 24.0),
@@ -171,7 +175,12 @@ impl Witnesses {
 
     pub fn note(&mut self, sheet: &Sheet, set: &CoefficientSet, figures: &Figures) {
         for row in figures.rows() {
-            let point = Point { sheet, set, row };
+            let point = Point {
+                sheet,
+                set,
+                points: figures.points,
+                row,
+            };
             for (count, (_, shows)) in self.counts.iter_mut().zip(WITNESSES) {
                 *count += u64::from(shows(&point));
             }

@@ -3,7 +3,6 @@
 
 use super::fields::{self, sheet, Inputs, CCIR};
 use super::{at_no_place, Refusal};
-use crate::model::uses::{uses, Uses};
 use crate::model::year::{of_model, of_month, places, PARTS};
 use crate::reference::files::{put, put_year, read_of};
 use crate::reference::sheets::{files_check, plain, FIGURES};
@@ -16,12 +15,10 @@ use std::rc::Rc;
 const NO_BUFFER: Refusal = at_no_place(12);
 const NO_RECORD: Refusal = at_no_place(8);
 
-/// The number of points, what each of the five is used for, and the figures, every
-/// NaN as one word.
+/// The number of points and the figures, every NaN as one word.
 #[derive(Debug, Clone, Copy, PartialEq, Eq)]
 pub struct Shown {
     pub points: u32,
-    pub uses: Uses,
     pub words: [u32; FIGURES],
 }
 
@@ -134,7 +131,6 @@ impl Lent {
         let figures = plain(&sheet, &set);
         Shown {
             points: figures.points,
-            uses: uses(figures.points),
             words: figures.words(),
         }
     }

@@ -4,46 +4,41 @@ use super::lent::Lent;
 use super::words::Words;
 use super::{Answer, Call, Refusal};
 use crate::draw::data_files::Pair;
-use crate::model::uses::{codes, POINTS};
 
 /// What a library's call gives back beside worksheet and buffer: 0 and 0, or
-/// number and place of the refusal, and a showing's number of points with the five
-/// uses.
+/// number and place of the refusal, and a showing's number of points.
 #[derive(Debug, Clone, Copy, PartialEq, Eq)]
 pub struct Told {
     pub points: u32,
     pub number: u32,
     pub place: u32,
-    pub uses: [u32; POINTS],
 }
 
 impl Told {
-    pub const ACCEPTED: Self = Self::without_points(0, 0);
+    pub const ACCEPTED: Self = Self::points(0);
 
-    /// A call that is refused, or that shows nothing.
-    pub const fn without_points(number: u32, place: u32) -> Self {
+    pub const fn points(points: u32) -> Self {
         Self {
-            points: 0,
-            number,
-            place,
-            uses: [0; POINTS],
+            points,
+            number: 0,
+            place: 0,
         }
     }
 
     pub fn refused(refusal: Refusal) -> Self {
         let Refusal { number, place, .. } = refusal;
-        Self::without_points(number, place)
+        Self {
+            points: 0,
+            number,
+            place,
+        }
     }
 
     pub fn wanted(answer: &Answer) -> Self {
         match answer {
             Answer::Accepted => Self::ACCEPTED,
             Answer::Refused(refusal) => Self::refused(*refusal),
-            Answer::Points(shown) => Self {
-                points: shown.points,
-                uses: codes(&shown.uses),
-                ..Self::ACCEPTED
-            },
+            Answer::Points(shown) => Self::points(shown.points),
         }
     }
 }

@@ -1,6 +1,5 @@
 //! What the program `sheet page` prints: a line for each field and each figure,
-//! with its name, its decimals, its bits and its unit, and one for each point with
-//! what it is used for.
+//! with its name, its decimals, its bits and its unit.
 
 use super::fields::{Inputs, SHEET_FIELDS};
 use super::lent::Shown;
@@ -105,10 +104,8 @@ fn page(inputs: &Inputs, shown: &Shown) -> String {
     rows(&mut text, &AFTER_FLAG, after);
     let (path, points) = shown.words.split_at(FIGURES - 5 * ROW);
     rows(&mut text, &PATH, path);
-    let numbered = (1..=shown.points).zip(shown.uses);
-    for ((number, used), point) in numbered.zip(points.chunks(ROW)) {
-        let used = used.words();
-        writeln!(text, "point {number}, used for: {used}").expect("a string takes everything");
+    for (number, point) in (1..=shown.points).zip(points.chunks(ROW)) {
+        writeln!(text, "point {number}").expect("a string takes everything");
         rows(&mut text, &POINT, point);
     }
     text
@@ -230,25 +227,6 @@ mod tests {
         assert!(all.iter().all(|(name, _)| name.len() < 12));
     }
 
-    /// The line above the figures of each point.
-    fn headings_of(points: usize) -> &'static [&'static str] {
-        match points {
-            1 => &["point 1, used for: all layers"],
-            3 => &[
-                "point 1, used for: E layer",
-                "point 2, used for: all layers",
-                "point 3, used for: E layer",
-            ],
-            _ => &[
-                "point 1, used for: E layer",
-                "point 2, used for: F layer",
-                "point 3, used for: all layers",
-                "point 4, used for: F layer",
-                "point 5, used for: E layer",
-            ],
-        }
-    }
-
     #[test]
     fn a_page_has_all_lines_of_its_points() {
         let [(_, pair), ..] = named();
@@ -261,9 +239,7 @@ mod tests {
             input.extend(&pair.daw[..7904]);
             input.extend(&pair.month);
             let text = page_text(&input);
-            let headings: Vec<&str> = text.lines().filter(|l| l.starts_with("point ")).collect();
-            let points = headings.len();
-            assert_eq!(headings, headings_of(points));
+            let points = text.lines().filter(|l| l.starts_with("point ")).count();
             let long = text.lines().filter(|l| *l == "the long way round").count();
             assert_eq!(long, usize::from(sheet.route.long));
             assert_eq!(text.lines().count(), 13 + long + 6 + 30 * points);

@@ -4,7 +4,6 @@
 use super::fields::{Inputs, FIELDS, SHEET_FIELDS};
 use super::lent::{Lent, Shown};
 use super::{Answer, Call, Edit, Refusal, Worksheet};
-use crate::model::uses::Use;
 use crate::month_file;
 use crate::reference::sheets::FIGURES;
 use crate::reference::voacap::coefficients::F2_RECORD_BYTES;
@@ -204,12 +203,6 @@ pub fn words(call: &Call) -> Vec<u32> {
     }
 }
 
-/// `points 3 E all E none none`: the uses of all five, absent ones too.
-fn points(shown: &Shown) -> String {
-    let uses = shown.uses.map(Use::word).join(" ");
-    format!("points {} {uses}\n", shown.points)
-}
-
 fn figures(shown: &Shown) -> String {
     let mut text = String::with_capacity(9 * FIGURES);
     for word in shown.words {
@@ -241,7 +234,7 @@ pub fn replay_text(replayed: &Replayed) -> String {
             Answer::Accepted => text += "accepted\n",
             Answer::Refused(refusal) => text += &refused(*refusal),
             Answer::Points(shown) => {
-                text += &points(shown);
+                text += &format!("points {}\n", shown.points);
                 text += &figures(shown);
             }
         }

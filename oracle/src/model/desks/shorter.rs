@@ -95,11 +95,9 @@ mod tests {
     use crate::draw::journal_kinds::{any_buffers, list, year_list};
     use crate::draw::sheet_kinds::{inputs, year_inputs};
     use crate::draw::year_files::{any_year, calm_year, packed, NO_GAPS};
-    use crate::model::desks::lent::{Lent, Shown};
-    use crate::model::desks::{run, Answer, Call, Edit, Worksheet};
-    use crate::model::uses::{Use, POINTS};
+    use crate::model::desks::lent::Lent;
+    use crate::model::desks::{run, Call, Edit, Worksheet};
     use crate::reference::sheets::FIGURES;
-    use std::rc::Rc;
     use Call::{Begin, Cancel, Commit, TakeBack};
 
     fn opened() -> Worksheet {
@@ -268,27 +266,6 @@ mod tests {
         assert!(!alike(&[3, 4, 5, 7, 8]));
         assert!(!alike(&[3, 4, 5, 6, 7]));
         assert!(!alike(&[3, 4, 5, 8, 6, 7]));
-    }
-
-    /// A showing that differs in its uses alone is found out.
-    #[test]
-    fn other_uses_are_not_alike() {
-        let (lent, calls) = (lent(), [show(0)]);
-        let (mut answers, last) = run(&opened(), &calls, &lent);
-        let alike = |answers: &[Answer]| {
-            let full = Answered {
-                calls: &calls,
-                answers,
-            };
-            compare(&opened(), full, &last, &[0], &lent).is_ok()
-        };
-        assert!(alike(&answers));
-        let Answer::Points(shown) = &answers[0] else {
-            panic!("{answers:?}");
-        };
-        let uses = [Use::None; POINTS];
-        answers[0] = Answer::Points(Rc::new(Shown { uses, ..**shown }));
-        assert!(!alike(&answers));
     }
 
     #[test]

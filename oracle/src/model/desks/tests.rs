@@ -1,5 +1,5 @@
 //! One test or more for each paragraph of document 01's 'At the desks', with the
-//! fields and changes of document 02's request 01 and the uses of its request 11.
+//! fields and changes of document 02's request 01.
 
 mod over_a_year;
 
@@ -7,7 +7,6 @@ use super::fields::{self, Inputs, SHEET_FIELDS, URSI};
 use super::lent::{Lent, Shown};
 use super::{Call, Draft, Edit, Refusal, Worksheet};
 use crate::draw::data_files::named;
-use crate::model::uses::Use;
 use crate::month_file::BYTES;
 use crate::reference::sheets::{put_all_months, showing, FIGURES};
 use std::rc::Rc;
@@ -327,34 +326,6 @@ fn show_gives_the_figures_of_the_desk_asked_for() {
         assert_ne!(show(desk), show(0));
     }
     assert_eq!(sheet.after(&Call::Show(1, FIGURES)), sheet);
-}
-
-/// Of a worksheet and of a draft whose path alone is another.
-#[test]
-fn show_gives_what_each_point_is_used_for() {
-    use Use::{All, None, E, F};
-    let lent = lent();
-    let receivers = [
-        (62.0, -7.0, 1, [All, None, None, None, None]),
-        (64.0, -52.0, 3, [E, All, E, None, None]),
-        (-30.0, 15.0, 5, [E, F, All, F, E]),
-    ];
-    for (lat, lon, points, uses) in receivers {
-        let path = Edit::Path {
-            ends: [52.0, 4.0, lat, lon].map(number),
-            flag: 0,
-        };
-        let drafted = opened().begin(2).and_then(|sheet| sheet.change(2, &path));
-        let drafted = drafted.expect("in range");
-        let committed = drafted.commit(2).expect("a fresh draft");
-        for shown in [
-            drafted.show(2, FIGURES, &lent),
-            committed.show(0, FIGURES, &lent),
-        ] {
-            let shown = shown.expect("good files");
-            assert_eq!((shown.points, shown.uses), (points, uses));
-        }
-    }
 }
 
 #[test]

@@ -1,4 +1,5 @@
 -- `put_columns` puts `columns_text`: fields, path, head and points, joined, which fit.
+use borrow.Author.Rules.{rules}
 use mathlib.Core.Path.{ap}
 use Prim.Native.Nat.{ℕ}
 use native.Mathlib.Omega.{arith}
@@ -44,7 +45,7 @@ put_side_rows-requires c =
     let few = n.points_abreast-n.ensures.bound in
     let short = length_fields s.args.i in
     let path = length_sides 12 s.args.figures.now 0 1 6 (omega arith) (omega arith) in
-    let head = length_head s.args.uses n.points_abreast-n.result few in record { m_bound = omega arith; n_bound = few; m_bound_2 = omega arith; m_in_bounds = omega (arith, s.requires, f.place, l.place, p.place, q.place, h.place, f.size, l.size, p.size, q.size, h.size) }
+    let head = length_head n.points_abreast-n.result few in record { m_bound = omega arith; n_bound = few; m_bound_2 = omega arith; m_in_bounds = omega (arith, s.requires, f.place, l.place, p.place, q.place, h.place, f.size, l.size, p.size, q.size, h.size) }
 
 pub returns : goal.returns
 unfolding columns_text
@@ -61,4 +62,4 @@ returns c =
     joined f.put_fields_words-next.ensures
     (joined l.put-next.ensures
     (joined p.put_side_rows-next.ensures
-    (joined q.put-next-2.ensures (joined (put_as h.put_points_head-next.ensures (ap (points_head n.args.uses) e)) points))))
+    (joined q.put-next-2.ensures (joined (put_as h.put_points_head-next.ensures (ap points_head e)) points))))

@@ -1,11 +1,12 @@
 -- `put_name` puts the name of a word: the letters of its row of the table.
+use borrow.Author.Rules.{rules}
 use mathlib.Core.Path.{ap, ◌∙◌}
 use native.Mathlib.Omega.{arith}
 use Prim.Native.Nat.{ℕ}
 use lib.ListN.{length, get_or}
 use Rattle.wording.specs.Token.{ascii}
 use Rattle.listing.proofs.pieces.Puts.{put_as}
-use Rattle.listing.proofs.pieces.Faults.{text_at, letters_at, letters_fit, text_most, name_rows, same_names, name_at_law}
+use Rattle.listing.proofs.pieces.Faults.{text_at, letters_at, letters_fit, text_most, name_rows, same_names, name_at}
 use Rattle.listing.proofs.fault.put_name.Goals as goal
 
 pub slice_bounds-row-end : goal.slice_bounds-row-end
@@ -28,4 +29,4 @@ returns c =
     let u = t in
     let k = t.name_row-k.result in
     let h = t.name_row-k.ensures.bound in
-    let e = text_at 7 name_rows same_names k h in record { text = put_as s.put.ensures (e ∙ ap (λ (j : ℕ). ascii (get_or name_rows j "")) t.name_row-k.ensures.answer ∙ ap ascii (name_at_law u.args.k)); bound = omega (arith, ap length e, text_most 7 name_rows same_names k h) }
+    let e = text_at 7 name_rows same_names k h in record { text = put_as s.put.ensures (e ∙ ap (λ (j : ℕ). ascii (get_or name_rows j "")) t.name_row-k.ensures.answer ∙ ap ascii (name_at u.args.k)); bound = omega (arith, ap length e, text_most 7 name_rows same_names k h) }

@@ -1,4 +1,5 @@
 -- `page_text` puts `page_text`: fields, path and points, joined, which fit.
+use borrow.Author.Rules.{rules}
 use native.Mathlib.Omega.{arith}
 use Rattle.listing.specs.Page.{page_text}
 use Rattle.listing.proofs.pieces.Puts.{joined, counts}
@@ -19,4 +20,4 @@ returns c =
     let f = c in
     let a = f.args in
     let whole = joined f.put_fields-next.ensures (joined c.put_rows-next.ensures c.put_points.ensures) in
-    record { text = whole.text; count = counts whole (omega (arith, length_fields a.i, length_rows 12 a.figures.now 0 6 (omega arith), length_points a.count a.uses a.figures.now 5)) }
+    record { text = whole.text; count = counts whole (omega (arith, length_fields a.i, length_rows 12 a.figures.now 0 6 (omega arith), length_points a.count a.figures.now 5)) }

@@ -1,4 +1,5 @@
 -- `put_points_words` puts `points_words`: word, number, noun, page and line feed, joined, which fit.
+use borrow.Author.Rules.{rules}
 use native.Mathlib.Omega.{arith}
 use Rattle.listing.specs.Spoken.{points_words}
 use Rattle.listing.proofs.digits.Places.{at_most_10}
@@ -27,7 +28,7 @@ put-requires c =
     let s = c in
     let a = s.args in
     let digits = at_most_10 a.count (omega (arith, s.ranges.count)) in
-    omega (arith, s.requires, w.place, d.place, n.place, p.place, w.size, d.size, n.size, p.size, digits, length_noun a.count, length_columns a.i a.count a.uses a.figures.now)
+    omega (arith, s.requires, w.place, d.place, n.place, p.place, w.size, d.size, n.size, p.size, digits, length_noun a.count, length_columns a.i a.count a.figures.now)
 
 pub returns : goal.returns
 unfolding points_words

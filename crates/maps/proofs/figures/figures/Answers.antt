@@ -1,19 +1,19 @@
 -- `figures` answers `shown_of` and leaves `figures_buffer`, by the verdict: accepted, the tables are
 -- those of the files and give every figure, and a refusal leaves the buffer.
-use Rattle.std.proofs.Common.{ℕ, sym, ap, ◌∙◌, rules}
+use Rattle.std.proofs.Common.{◌≡◌, ℕ, sym, ap, ◌∙◌, rules}
 use Rattle.base.specs.declared.refusal.Verdict.{Verdict}
 use Rattle.base.specs.Refusal.{written_over}
 use Rattle.base.specs.Index.{index_of}
 use Rattle.base.specs.Blend.{cofion_of, hmym_of, fakmap_of}
 use Rattle.base.proofs.layout.Readers.{files_index, files_finite}
+use Rattle.maps.specs.declared.figures.Shown.{Shown}
 use Rattle.maps.specs.declared.figures.Shown.TheVariants.{Points}
-use Rattle.maps.specs.Geometry.{uses_of}
 use Rattle.maps.specs.Figures.{hour_from, hour_of, figures_to, sheet_path, figures_of, points_or, shown_of, figures_buffer}
 use Rattle.maps.proofs.sheet.Checks.{written_is, good_same}
 use Rattle.maps.proofs.figures.figures.Goals as goal
 
-pub fill_in-count-requires : goal.fill_in-count-requires
-fill_in-count-requires c =
+pub fill_in-requires : goal.fill_in-requires
+fill_in-requires c =
     let d = c in
     let b = d in
     let a = b.args in
@@ -38,8 +38,8 @@ returns-in-Accepted c =
     let cofion = written_is (cofion_of f2 file i.ssn) _ e b.redmap-verdict.ensures.cofion in
     let hmym = written_is (hmym_of file i.ssn) _ e b.redmap-verdict.ensures.hmym in
     let fakmap = written_is (fakmap_of file) _ e b.redmap-verdict.ensures.fakmap in record {
-      answer = ap (Points c.fill_in-count.result) c.uses_of.ensures ∙ ap (λ (n : ℕ). Points n (uses_of n)) c.fill_in-count.ensures.answer ∙ sym (ap (λ (v : Verdict). points_or v (sheet_path i).count) e);
-      buffer = c.fill_in-count.ensures.buffer
+      answer = ap Points c.fill_in.ensures.answer ∙ sym (ap (λ (v : Verdict). points_or v (sheet_path i).count) e);
+      buffer = c.fill_in.ensures.buffer
           ∙ (λ t. figures_to (hour_from file (index t) (cofion t) (hmym t) (fakmap t) i) i (sheet_path i) 5)
           ∙ sym (ap (λ (v : Verdict). written_over v (figures_of f2 file i) a.out.now) e);
     }

@@ -1,4 +1,5 @@
 -- `rows` is the list of its five rows.
+use Rattle.std.proofs.Common.{rules}
 use Rattle.maps.specs.Geometry.{control_row, rows_of}
 use Rattle.maps.proofs.geometry.rows.Goals as goal
 
@@ -7,15 +8,9 @@ unfolding control_row rows_of
 returns c =
     rw (
       c.row-p5.ensures,
-      c.use_at-5.ensures,
       c.row-p4.ensures,
-      c.use_at-4.ensures,
       c.row-p3.ensures,
-      c.use_at-3.ensures,
       c.row-p2.ensures,
-      c.use_at-2.ensures,
       c.row-p1.ensures,
-      c.use_at.ensures,
-      c.uses_of-uses.ensures,
       c.distances-rd.ensures,
     )

@@ -1,5 +1,6 @@
 -- `drawn` answers `drawn_of` and leaves `drawn_buffer`, by the buffer's length, and then by what the
 -- figures answered.
+use borrow.Author.Rules.{rules}
 use mathlib.Core.Path.{sym, ◌∙◌}
 use Rattle.worksheet.proofs.checks.Showings.{drawn_unfit, drawn_points, drawn_refused}
 use Rattle.worksheet.proofs.showing.drawn.Goals as goal
@@ -12,7 +13,7 @@ returns-in-Points c =
     let f = c.figures-shown in
     let is = c.in-Points.is in
     let fits = c.if-out-ne-FIGURES.false in
-    drawn_points _ _ _ _ _ _ _ fits (sym is ∙ f.ensures.answer) f.ensures.buffer c.put.ensures
+    drawn_points _ _ _ _ _ _ fits (sym is ∙ f.ensures.answer) f.ensures.buffer c.put.ensures
 
 pub returns-in-Refused : goal.returns-in-Refused
 returns-in-Refused c =

@@ -8,11 +8,10 @@ use crate::draw::journal_kinds::with_a_nan;
 use crate::draw::sheet_kinds::{in_range, inputs as inputs_of_a_sheet};
 use crate::draw::year_files::{first_months, packed, NO_GAPS};
 use crate::model::desks::fields::{moved_to, FIELDS, URSI};
-use crate::model::desks::lent::{Lent, Shown};
+use crate::model::desks::lent::Lent;
 use crate::model::desks::{Call, Edit, Worksheet};
 use crate::month_file::push_words;
-use crate::reference::sheets::{Sheet, FIGURES};
-use std::rc::Rc;
+use crate::reference::sheets::FIGURES;
 
 fn pair() -> Pair {
     let [(_, pair), ..] = named();
@@ -21,12 +20,8 @@ fn pair() -> Pair {
 
 /// Inputs in range and both files.
 fn start(pair: &Pair) -> Vec<u8> {
-    start_with(&in_range(&mut Generator::new(4)), pair)
-}
-
-fn start_with(sheet: &Sheet, pair: &Pair) -> Vec<u8> {
     let mut input = Vec::new();
-    push_words(&mut input, &sheet.words());
+    push_words(&mut input, &in_range(&mut Generator::new(4)).words());
     input.extend(&pair.daw[..7904]);
     input.extend(&pair.month);
     input
@@ -108,36 +103,10 @@ fn every_nan_is_printed_alike() {
         .all(|line| line == "7fc00000"));
 }
 
-/// What `replay` prints of a showing.
-fn showing(shown: Rc<Shown>) -> String {
-    let points = match shown.points {
-        1 => "points 1 all none none none none",
-        3 => "points 3 E all E none none",
-        5 => "points 5 E F all F E",
-        other => panic!("{other} points"),
-    };
-    format!("{points}\n{}", sheet_text(&Ok(shown)))
-}
-
-/// The uses of all five points are in the first line.
-#[test]
-fn replay_prints_what_points_are_used_for() {
-    let pair = pair();
-    let mut random = Generator::new(5);
-    let mut seen = [0; 6];
-    for _ in 0..40 {
-        let mut input = start_with(&in_range(&mut random), &pair);
-        let shown = sheet(&input).expect("a good sheet");
-        seen[shown.points as usize] += 1;
-        push_words(&mut input, &[10, 0]);
-        assert_eq!(replayed(&input), showing(shown));
-    }
-    assert!([1, 3, 5].iter().all(|points| seen[*points] > 0));
-}
-
 #[test]
 fn replay_prints_a_line_for_each_call() {
-    let figures = showing(sheet(&start(&pair())).expect("a good sheet"));
+    let shown = sheet(&start(&pair())).expect("a good sheet");
+    let figures = format!("points {}\n{}", shown.points, printed(&start(&pair())));
     let good = 30f32.to_bits();
     let bad = 301f32.to_bits();
     let input = with_calls(&[1, 1, 2, 1, good, 2, 1, bad, 7, 1, 9, 9, 10, 0, 10, 9, 8, 2]);
@@ -276,7 +245,9 @@ fn replay_year_shows_the_month_and_model_asked_for() {
     let figures = |month: u32, model: u32| {
         let inputs = moved_to(year_inputs(), month, model);
         let sheet = Worksheet::open(inputs).expect("in range");
-        showing(sheet.show(0, FIGURES, &lent).expect("a good year"))
+        let shown = sheet.show(0, FIGURES, &lent).expect("a good year");
+        let text = sheet_text(&Ok(shown.clone()));
+        format!("points {}\n{text}", shown.points)
     };
     let calls = [
         10, 0, 1, 1, 11, 1, 2, 10, 1, 12, 1, 0, 10, 1, 11, 1, 13, 12, 1, 2, 11, 1, 3, 10, 1, 13,

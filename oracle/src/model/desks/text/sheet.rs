@@ -38,21 +38,19 @@ fn path(shown: &Shown) -> Vec<String> {
     figures.map(line).collect()
 }
 
-/// Under a line with the points' numbers, and one with what they are used for.
+/// Under a line with the points' numbers.
 fn points(shown: &Shown) -> Vec<String> {
-    let line = |named: Named, value: &dyn Fn(usize) -> String| {
-        let values: Vec<String> = (0..shown.points as usize).map(value).collect();
-        figures_row(unsaid::POINT_NAME, named, &values)
-    };
-    let number = |point: usize| (point + 1).to_string();
-    let used = |point: usize| String::from(shown.uses[point].words());
-    let mut lines = vec![
-        line((unsaid::POINTS, ""), &number),
-        line((unsaid::USES, ""), &used),
-    ];
+    let points = 1..=shown.points as usize;
+    let numbers: Vec<String> = points.clone().map(|number| number.to_string()).collect();
+    let mut lines = vec![figures_row(
+        unsaid::POINT_NAME,
+        (unsaid::POINTS, ""),
+        &numbers,
+    )];
     for (k, named) in POINT.iter().enumerate() {
-        let figure = |point: usize| decimals(shown.words[PATH.len() + ROW * point + k]);
-        lines.push(line(*named, &figure));
+        let figure = |point: usize| decimals(shown.words[PATH.len() + ROW * (point - 1) + k]);
+        let figures: Vec<String> = points.clone().map(figure).collect();
+        lines.push(figures_row(unsaid::POINT_NAME, *named, &figures));
     }
     lines
 }

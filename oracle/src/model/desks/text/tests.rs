@@ -12,7 +12,6 @@ use crate::model::desks::fields::inputs;
 use crate::model::desks::lent::{Lent, Shown};
 use crate::model::desks::text::line::Said;
 use crate::model::desks::{Answer, Call};
-use crate::model::uses::uses;
 use crate::reference::sheets::FIGURES;
 
 mod audits;
@@ -151,11 +150,11 @@ fn a_showing_has_its_sheet_and_an_empty_line() {
         .expect("one point");
     assert_eq!(start, "line 1: accepted\nline 2: accepted\n");
     let lines: Vec<&str> = sheet.lines().collect();
-    assert_eq!(lines.len(), 15 + 1 + 6 + 1 + 2 + 29 + 1);
+    assert_eq!(lines.len(), 15 + 1 + 6 + 1 + 1 + 29 + 1);
     assert!(lines
         .iter()
         .enumerate()
-        .all(|(i, line)| line.is_empty() == [15, 22, 54].contains(&i)));
+        .all(|(i, line)| line.is_empty() == [15, 22, 53].contains(&i)));
     assert_eq!(lines[0], "month                                  6");
     assert_eq!(lines[1], "sunspot number                 80.000000");
     assert_eq!(
@@ -166,10 +165,8 @@ fn a_showing_has_its_sheet_and_an_empty_line() {
         (16, "gcd "),
         (17, "gcd_km "),
         (21, "alatd "),
-        (23, "point                       1"),
-        (24, "used for           all layers"),
-        (25, "rd "),
-        (53, "epsilon "),
+        (24, "rd "),
+        (52, "epsilon "),
     ];
     for (line, start) in starts {
         assert!(lines[line].starts_with(start), "{}", lines[line]);
@@ -192,34 +189,22 @@ fn points_stand_side_by_side() {
     words[7] = (-f32::MAX).to_bits();
     words[7 + 29] = 16_777_216f32.to_bits();
     let inputs = inputs(6, [1.0; 12], true);
-    let shown = Shown {
-        points: 3,
-        uses: uses(3),
-        words,
-    };
-    let text = sheet(&inputs, &shown);
+    let text = sheet(&inputs, &Shown { points: 3, words });
     let lines: Vec<&str> = text.lines().collect();
     let columns = |line: &str| -> Vec<String> {
         let columns = (0..3).map(|i| &line[12 + 17 * i..][..17]);
         assert!(columns.clone().all(|column| column.starts_with(' ')));
         columns.map(|column| column.trim_start().into()).collect()
     };
-    assert_eq!(
-        lines[23..25],
-        [
-            "point                       1                2                3",
-            "used for              E layer       all layers          E layer",
-        ]
-    );
     assert_eq!(columns(lines[23]), ["1", "2", "3"]);
-    assert_eq!(columns(lines[25]), ["6.000000", "nan", "-inf"]);
+    assert_eq!(columns(lines[24]), ["6.000000", "nan", "-inf"]);
     assert_eq!(
-        columns(lines[26]),
+        columns(lines[25]),
         ["-16777215*2^104", "8388608*2^1", "65.000000"]
     );
-    assert_eq!(columns(lines[53]), ["34.000000", "63.000000", "92.000000"]);
-    assert_eq!(lines[25].len(), 12 + 51 + "  radians".len());
-    assert_eq!(lines[53].len(), 12 + 51);
+    assert_eq!(columns(lines[52]), ["34.000000", "63.000000", "92.000000"]);
+    assert_eq!(lines[24].len(), 12 + 51 + "  radians".len());
+    assert_eq!(lines[52].len(), 12 + 51);
     assert_eq!(lines[7].split_whitespace().last(), Some("yes"));
 }
 

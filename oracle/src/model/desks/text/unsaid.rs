@@ -36,9 +36,8 @@ pub const POINT_NAME: usize = 12;
 /// page` leaves it as short as it is.
 pub const NUMBER: usize = 16;
 
-/// Before the numbers of the points, and before what they are used for.
+/// Before the numbers of the points.
 pub const POINTS: &str = "point";
-pub const USES: &str = "used for";
 
 /// Why a line of 65,536 bytes or more, its newline not counted, is no call.
 pub const TOO_LONG: &str = "a line has fewer than 65536 bytes";

@@ -4,12 +4,8 @@ use Rattle.std.proofs.Common.{refl}
 use lib.Ieee.{round, of_bits, neg}
 use Rattle.base.specs.Single.{decimal, minus_decimal}
 use Rattle.maps.specs.Inputs.{pole_lat, pole_lon}
-use Rattle.maps.proofs.inputs.MagneticPole.built_in.Statement.{statement}
-use Rattle.maps.proofs.inputs.MagneticPole.built_in.Tie as tie
+use Rattle.maps.proofs.inputs.MagneticPole.built_in.Goals as goal
 
-returns : tie.Need-returns
+pub returns : goal.returns
 unfolding pole_lat pole_lon decimal minus_decimal round of_bits neg
-returns c = (refl, refl)
-
-pub built_in_spec : {M : Type 1} → statement M
-built_in_spec = tie.close (tie.spec returns)
+returns c = record { latitude = refl; longitude = refl }
