@@ -138,9 +138,9 @@ pub extern "C" fn jt_take_back(sheet: &mut [u32; SHEET_WORDS]) -> Answer
     desks::jt_take_back(sheet)
 }
 
-// The number of points and their uses, with the figures of a desk's draft, of the worksheet for desk
-// 0, in the buffer. Refuses as `show`; the buffer stays. The files are taken as lent, whatever month
-// and model the inputs shown have.
+// The number of points, with the figures of a desk's draft, of the worksheet for desk 0, in the
+// buffer. Refuses as `show`; the buffer stays. The files are taken as lent, whatever month and model
+// the inputs shown have.
 #[unsafe(no_mangle)]
 pub extern "C" fn jt_show(
     sheet: &[u32; SHEET_WORDS],

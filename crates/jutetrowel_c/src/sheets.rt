@@ -10,9 +10,9 @@ ghost use Rattle.jutetrowel.specs.Calls.{Shows};
 use jutetrowel::answers::Showing;
 use jutetrowel::sheets;
 
-// The number of points of a sheet by its fields, which nothing judges, and their uses, with its
-// figures in the buffer; a flag that is not 0 is the long way round. Refuses 12, 8, 9, 10, 23, 11;
-// the buffer stays.
+// The number of points of a sheet by its fields, which nothing judges, with its figures in the
+// buffer; a flag that is not 0 is the long way round. Refuses 12, 8, 9, 10, 23, 11; the buffer
+// stays.
 #[unsafe(no_mangle)]
 pub extern "C" fn jt_figures(
     month: u32,
@@ -48,9 +48,9 @@ pub extern "C" fn jt_figures(
     )
 }
 
-// A whole sheet of 14 little-endian words, an F2 record and a month file: the number of points and
-// their uses, with the figures in the buffer. A 15th word is not read: the model is 0. Refuses the
-// fields, 12, 8, 9, 10, 23, 11; the buffer stays.
+// A whole sheet of 14 little-endian words, an F2 record and a month file: the number of points,
+// with the figures in the buffer. A 15th word is not read: the model is 0. Refuses the fields, 12,
+// 8, 9, 10, 23, 11; the buffer stays.
 #[unsafe(no_mangle)]
 pub extern "C" fn jt_sheet(words: &[u8], f2: &[u8], file: &[u8], out: &mut [f32]) -> Showing
     ensures { Shows (step (pair f2.now file.now)
