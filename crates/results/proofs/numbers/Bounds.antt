@@ -17,7 +17,7 @@ use Rattle.base.specs.Number.{negative, abs_of, with_sign, narrow_of, sqrt_of}
 use Rattle.base.specs.Elementary.{turns_of, reduced_of, quarter_of, sin_terms, cos_terms, sin_series, cos_series, sin_at, cos_at, sin_of, cos_of, sin32_of, cos32_of, factorial, horner, atan_terms, half_angle, atan_series, atan_within, atan_from, atan_of, acos_of, atan32_of, acos32_of, half_pi, alternating, up_from}
 use Rattle.base.proofs.verdicts.Picks.{cond_true}
 use Rattle.base.proofs.order.Order.{nought, Between, wider, finite_between, between_finite, trans_le, refl_le, total_le, lt→le, not-lt→le, no_nan_finite, abs_no_nan, le_right, abs_not_below, abs→le, abs→ge, le→abs, abs_neg, neg_le, neg_neg, neg_not_above, neg_not_below}
-use Rattle.base.proofs.order.Monotone.{div_mono, div_not_below, div_above, div_plus, add_negative, mul_mono, mul_not_below, narrow_mono, narrow_size, mul_size, square_not_below, abs_finite}
+use Rattle.base.proofs.order.Monotone.{div_mono, div_not_below, div_above, div_plus, add_negative, mul_mono, mul_not_below, narrow_size, mul_size, square_not_below}
 use Rattle.base.proofs.steps.Reduction.{thousand, seven, reduced_in_law}
 use Rattle.base.proofs.roots.RootsOrder.{sqrt_not_below}
 use Rattle.base.proofs.order.Intervals.{every, all, exactly, mul_about, between_positive, add_in, sub_in, mul_in, sqrt_in, narrow_in, low_of, high_of, calm, horner_in_law}
