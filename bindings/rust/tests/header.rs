@@ -1,6 +1,7 @@
 //! The C header, `raw` and the library's source say the same: every function with its arguments and
 //! its answer, every struct with its fields, every length and every refusal's number. What points are
-//! used for has the same numbers in the header and in the wrapper.
+//! used for has the same numbers in the header and in the wrapper. An export has the clauses of the
+//! function that it calls.
 
 use jutetrowel::Use;
 use std::collections::BTreeMap;
@@ -33,7 +34,16 @@ fn raw() -> String {
 
 /// All modules of the library.
 fn source() -> String {
-    let folder = fs::read_dir(at("../../crates/jutetrowel/src")).expect("the library's source");
+    modules("../../crates/jutetrowel/src")
+}
+
+/// All modules of the crate that exports its functions.
+fn exports() -> String {
+    modules("../../crates/jutetrowel_c/src")
+}
+
+fn modules(folder: &str) -> String {
+    let folder = fs::read_dir(at(folder)).expect(folder);
     let files = folder.map(|file| file.expect("a file").path());
     let modules = files.filter(|path| path.extension().is_some_and(|kind| kind == "rt"));
     without(&modules.map(read).collect::<String>(), "//", "\n")
@@ -170,10 +180,10 @@ fn raw_functions() -> Functions {
     collected(between(block, " fn jt_", ";\n").map(rust_function))
 }
 
-/// The library's functions as C has them: a slice is two arguments. Its arguments have names of
-/// their own, and its arrays are named by what they hold.
-fn source_types() -> BTreeMap<String, (Vec<String>, String)> {
-    let text = source();
+/// The exports as C has them: a slice is two arguments. Their arguments have names of their own, and
+/// their arrays are named by what they hold.
+fn exported_types() -> BTreeMap<String, (Vec<String>, String)> {
+    let text = exports();
     let functions = between(&text, "pub extern \"C\" fn jt_", "\n    ensures").map(|text| {
         let (name, (arguments, answer)) = rust_function(text);
         let arguments = arguments.iter().flat_map(|(_, kind)| as_in_c(kind));
@@ -196,6 +206,16 @@ fn as_in_c(kind: &str) -> Vec<String> {
     }
 }
 
+/// What each function answers, and its clauses.
+fn promises(text: &str) -> BTreeMap<String, String> {
+    let functions = between(text, "fn jt_", "\n{").map(|text| {
+        let (name, _) = text.split_once('(').expect("arguments");
+        let (_, promise) = text.split_once("-> ").expect("an answer");
+        (name.to_owned(), promise.to_owned())
+    });
+    collected(functions)
+}
+
 /// Nothing was overlooked: as many functions as the text has their beginning.
 fn assert_all(functions: usize, text: &str, beginning: &str) {
     assert_eq!(functions, text.matches(beginning).count(), "{beginning}");
@@ -216,14 +236,21 @@ fn functions_are_the_headers() {
 
 #[test]
 fn functions_are_the_librarys() {
-    let exported = source_types();
-    assert_all(exported.len(), &source(), "fn jt_");
+    let exported = exported_types();
+    assert_all(exported.len(), &exports(), "fn jt_");
     let declared = raw_functions().into_iter();
     let declared = declared.map(|(name, (arguments, answer))| {
         let kinds = arguments.into_iter().map(|(_, kind)| kind).collect();
         (name, (kinds, answer))
     });
     assert_eq!(exported, collected(declared));
+}
+
+#[test]
+fn clauses_are_the_librarys() {
+    let exported = promises(&exports());
+    assert_all(exported.len(), &source(), "fn jt_");
+    assert_eq!(exported, promises(&source()));
 }
 
 #[test]

@@ -98,8 +98,7 @@ fn local_of(local: LocalTime) -> LocalAnswer
 
 // A universal time in hours made local at a longitude in degrees, with the change of day. Refuses
 // as `cngtim`, with zeros for the time and the day.
-#[unsafe(no_mangle)]
-pub extern "C" fn jt_cngtim_to_local(time: f32, lon: f32) -> ClockAnswer
+pub fn jt_cngtim_to_local(time: f32, lon: f32) -> ClockAnswer
     ensures { result ≡ clock_answer (moved_of time (degrees lon) ToLocal) }
 {
     clock_of(clocks::cngtim(time, Degrees(lon), Direction::ToLocal))
@@ -107,8 +106,7 @@ pub extern "C" fn jt_cngtim_to_local(time: f32, lon: f32) -> ClockAnswer
 
 // A local time in hours at a longitude in degrees made universal, with the change of day. Refuses
 // as `cngtim`, with zeros for the time and the day.
-#[unsafe(no_mangle)]
-pub extern "C" fn jt_cngtim_to_universal(time: f32, lon: f32) -> ClockAnswer
+pub fn jt_cngtim_to_universal(time: f32, lon: f32) -> ClockAnswer
     ensures { result ≡ clock_answer (moved_of time (degrees lon) ToUniversal) }
 {
     clock_of(clocks::cngtim(time, Degrees(lon), Direction::ToUniversal))
@@ -116,8 +114,7 @@ pub extern "C" fn jt_cngtim_to_universal(time: f32, lon: f32) -> ClockAnswer
 
 // A whole hour at both ends of a path; it is the transmitter's local time where `local` is not 0.
 // Refuses as `geotim`, with zeros for the times.
-#[unsafe(no_mangle)]
-pub extern "C" fn jt_geotim(hour: u32, local: u32, tlong: f32, rlong: f32) -> HoursAnswer
+pub fn jt_geotim(hour: u32, local: u32, tlong: f32, rlong: f32) -> HoursAnswer
     ensures { result ≡ hours_answer (times_of hour (not (eqb local 0)) (degrees tlong) (degrees rlong)) }
 {
     hours_of(clocks::geotim(hour, local != 0, Degrees(tlong), Degrees(rlong)))
@@ -125,8 +122,7 @@ pub extern "C" fn jt_geotim(hour: u32, local: u32, tlong: f32, rlong: f32) -> Ho
 
 // The local time in hours at one place, its longitude in degrees, for a universal time. Refuses as
 // `geotim_clck`, with zero for the time.
-#[unsafe(no_mangle)]
-pub extern "C" fn jt_geotim_clck(gmt: f32, lon: f32) -> LocalAnswer
+pub fn jt_geotim_clck(gmt: f32, lon: f32) -> LocalAnswer
     ensures { result ≡ local_answer (local_time_of gmt (degrees lon)) }
 {
     local_of(clocks::geotim_clck(gmt, Degrees(lon)))

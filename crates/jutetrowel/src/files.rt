@@ -18,8 +18,7 @@ use base::{files, month_file, tables, year};
 
 // The month file's walk in fours: 9 where four bytes are not there, 10 at a wrong marker, with that
 // byte's place.
-#[unsafe(no_mangle)]
-pub extern "C" fn jt_month_file_check(s: &[u8]) -> Answer
+pub fn jt_month_file_check(s: &[u8]) -> Answer
     ensures { result ≡ answer_of (month_file_check s.now) }
 {
     answered(month_file::month_file_check(s))
@@ -27,8 +26,7 @@ pub extern "C" fn jt_month_file_check(s: &[u8]) -> Answer
 
 // Whether a month file can be used: 9 or 10 by its walk, then 23 by the words of its tables, then 11
 // by its index table.
-#[unsafe(no_mangle)]
-pub extern "C" fn jt_file_check(month: &[u8]) -> Answer
+pub fn jt_file_check(month: &[u8]) -> Answer
     ensures { result ≡ answer_of (file_check month.now) }
 {
     answered(files::file_check(month))
@@ -36,8 +34,7 @@ pub extern "C" fn jt_file_check(month: &[u8]) -> Answer
 
 // Where a month's record lies in the `.daw` file: start and size in bytes. Refuses 1, 8, with zeros
 // for both.
-#[unsafe(no_mangle)]
-pub extern "C" fn jt_month_record(daw: &[u8], month: u32) -> Span
+pub fn jt_month_record(daw: &[u8], month: u32) -> Span
     ensures { let s = daw.now in
         result ≡ span_of (month_record_check s month) (month_part s month) }
 {
@@ -55,8 +52,7 @@ pub extern "C" fn jt_month_record(daw: &[u8], month: u32) -> Span
 
 // Where a table lies, number 0 in the F2 record, 1 to 20 in the month file: start and size in
 // bytes. Refuses 13, 8, 9, 10, with zeros for both.
-#[unsafe(no_mangle)]
-pub extern "C" fn jt_table(number: u32, f2: &[u8], month: &[u8]) -> Span
+pub fn jt_table(number: u32, f2: &[u8], month: &[u8]) -> Span
     ensures { let f = f2.now in
         let m = month.now in
         result ≡ span_of (table_check number f m) (table_part number f m) }
@@ -78,8 +74,7 @@ pub extern "C" fn jt_table(number: u32, f2: &[u8], month: &[u8]) -> Span
 
 // The verdict on a year file's directory: 19 with the lowest pair, 1 to 14, that is not wholly there
 // or breaks a rule.
-#[unsafe(no_mangle)]
-pub extern "C" fn jt_year_check(year: &[u8]) -> Answer
+pub fn jt_year_check(year: &[u8]) -> Answer
     ensures { result ≡ answer_of (year_check year.now) }
 {
     answered(year::year_check(year))
@@ -87,8 +82,7 @@ pub extern "C" fn jt_year_check(year: &[u8]) -> Answer
 
 // Where the month file of a month lies in a year file: start and size in bytes. Refuses 1, 19, with
 // zeros for both.
-#[unsafe(no_mangle)]
-pub extern "C" fn jt_year_month(year: &[u8], month: u32) -> Span
+pub fn jt_year_month(year: &[u8], month: u32) -> Span
     ensures { let s = year.now in
         result ≡ span_unless (year_month_check s month) (year_month s month) }
 {
@@ -99,8 +93,7 @@ pub extern "C" fn jt_year_month(year: &[u8], month: u32) -> Span
 
 // Where the `.daw` file of a model, 0 CCIR and 1 URSI, lies in a year file: start and size in bytes.
 // Refuses 7, 19, with zeros for both.
-#[unsafe(no_mangle)]
-pub extern "C" fn jt_year_model(year: &[u8], model: u32) -> Span
+pub fn jt_year_model(year: &[u8], model: u32) -> Span
     ensures { let s = year.now in
         result ≡ span_unless (year_model_check s model) (year_model s model) }
 {
@@ -111,8 +104,7 @@ pub extern "C" fn jt_year_model(year: &[u8], model: u32) -> Span
 
 // The blended coefficients of the six maps at a sunspot number. Refuses 8, 9, 10, 23, 11; the
 // array stays as it is.
-#[unsafe(no_mangle)]
-pub extern "C" fn jt_cofion(f2: &[u8], month: &[u8], ssn: f32, out: &mut SixMaps) -> Answer
+pub fn jt_cofion(f2: &[u8], month: &[u8], ssn: f32, out: &mut SixMaps) -> Answer
     ensures answer { result ≡ answer_of (files_check f2.now month.now) }
     ensures buffer { let f = f2.now in
         let m = month.now in
@@ -123,8 +115,7 @@ pub extern "C" fn jt_cofion(f2: &[u8], month: &[u8], ssn: f32, out: &mut SixMaps
 
 // The blended coefficients of the height map at a sunspot number. Refuses 9, 10, 23, 11; the
 // array stays as it is.
-#[unsafe(no_mangle)]
-pub extern "C" fn jt_hmym(month: &[u8], ssn: f32, out: &mut HeightMap) -> Answer
+pub fn jt_hmym(month: &[u8], ssn: f32, out: &mut HeightMap) -> Answer
     ensures answer { result ≡ answer_of (file_check month.now) }
     ensures buffer { let m = month.now in
         out.new ≡ written_over (file_check m) (hmym_of m ssn) out.old }

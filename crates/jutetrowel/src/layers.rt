@@ -72,8 +72,7 @@ fn path_as(g: geometry::PathGeometry) -> Measured
 
 // The path between two ends in degrees, its six figures, both bearings in degrees and its number of
 // points; a flag that is not 0 is the long way round. Nothing is refused.
-#[unsafe(no_mangle)]
-pub extern "C" fn jt_path(
+pub fn jt_path(
     tlat: f32,
     tlong: f32,
     rlat: f32,
@@ -98,14 +97,7 @@ pub extern "C" fn jt_path(
 
 // The coefficients of the six maps at a sunspot number and an hour. Refuses 8, 9, 10, 23, 11; the
 // array stays as it is.
-#[unsafe(no_mangle)]
-pub extern "C" fn jt_hour_maps(
-    f2: &[u8],
-    file: &[u8],
-    ssn: f32,
-    gmt: f32,
-    ab: &mut TimeMaps,
-) -> Answer
+pub fn jt_hour_maps(f2: &[u8], file: &[u8], ssn: f32, gmt: f32, ab: &mut TimeMaps) -> Answer
     ensures answer { result ≡ answer_of (files_check f2.now file.now) }
     ensures buffer { let f = f2.now in
         let m = file.now in
@@ -142,8 +134,7 @@ fn layers_as(l: LayersAt) -> Layers
 
 // The layers at a place in radians, from the maps at the hour and a month file. Refuses 1, then 9,
 // 10, 23, 11, with +0.0 for every parameter.
-#[unsafe(no_mangle)]
-pub extern "C" fn jt_layers_at(
+pub fn jt_layers_at(
     month: u32,
     ssn: f32,
     gmt: f32,

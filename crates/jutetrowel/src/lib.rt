@@ -1,5 +1,5 @@
-// The library for programs in other languages: each function is one of the crates below it, over
-// numbers and slices. A worksheet is 96 words that the caller lends.
+// The library for programs in other languages, which `jutetrowel_c` exports: each function is one of
+// the crates below it, over numbers and slices. A worksheet is 96 words that the caller lends.
 #![tactic(auto)]
 
 pub mod answers;
@@ -11,3 +11,5 @@ pub mod layers;
 pub mod numbers;
 pub mod sheets;
 mod words;
+
+pub use words::SHEET_WORDS;

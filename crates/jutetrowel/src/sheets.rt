@@ -16,8 +16,7 @@ use worksheet::showing::{drawn, show};
 // The number of points of a sheet by its fields, which nothing judges, and their uses, with its
 // figures in the buffer; a flag that is not 0 is the long way round. Refuses 12, 8, 9, 10, 23, 11;
 // the buffer stays.
-#[unsafe(no_mangle)]
-pub extern "C" fn jt_figures(
+pub fn jt_figures(
     month: u32,
     ssn: f32,
     gmt: f32,
@@ -60,8 +59,7 @@ pub extern "C" fn jt_figures(
 // A whole sheet of 14 little-endian words, an F2 record and a month file: the number of points and
 // their uses, with the figures in the buffer. A 15th word is not read: the model is 0. Refuses the
 // fields, 12, 8, 9, 10, 23, 11; the buffer stays.
-#[unsafe(no_mangle)]
-pub extern "C" fn jt_sheet(words: &[u8], f2: &[u8], file: &[u8], out: &mut [f32]) -> Showing
+pub fn jt_sheet(words: &[u8], f2: &[u8], file: &[u8], out: &mut [f32]) -> Showing
     ensures { Shows (step (pair f2.now file.now)
         (showCall 0 out.old) (sheet_opened_of words.now).sheet).answer
         result out.new }

@@ -26,7 +26,7 @@ const DRAFT_3: usize = DRAFT_2 + SET;
 const DRAFT_4: usize = DRAFT_3 + SET;
 
 // The words of a worksheet.
-pub(crate) const SHEET_WORDS: usize = DRAFT_4 + SET;
+pub const SHEET_WORDS: usize = DRAFT_4 + SET;
 
 // `n` words, from the place `at` of some to the place `to` of others.
 fn copy(from: &[u32], at: usize, out: &mut [u32], to: usize, n: usize)
