@@ -1,0 +1,19 @@
+// What fails with a file is said on standard error, with the system's words.
+use std::io::Error;
+use system::fail;
+
+// What came of it, unless it failed: then that is said of the file of this name.
+pub(crate) fn got<T>(name: &[u8], done: Result<T, Error>) -> Option<T> {
+    match done {
+        Ok(value) => Some(value),
+        Err(error) => {
+            fail(name, &error);
+            None
+        }
+    }
+}
+
+// Whether it is done; else what failed is said.
+pub(crate) fn is_done(name: &[u8], done: Result<(), Error>) -> bool {
+    got(name, done).is_some()
+}
