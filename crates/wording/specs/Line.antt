@@ -126,9 +126,9 @@ decimal_in token.End = nought
 abbrev pub fit_unless : Bool → ℕ → Wanted → Fit
 fit_unless good k wanted = cond good Good (Wrong (record { word = suc k; wanted = wanted }))
 
-infixr 20 ◌andThen◌
+infixr 20 ◌and_then◌
 -- the first that does not fit
-abbrev pub ◌andThen◌ : Fit → Fit → Fit
+abbrev pub ◌and_then◌ : Fit → Fit → Fit
 Good and_then f = f
 (Wrong x) and_then f = Wrong x
 

@@ -3,7 +3,7 @@
 ghost use Rattle.std.specs.Prelude.{◌≡◌, cond, ◌+◌, ◌≤◌, ◌<◌};
 ghost use Rattle.wording.specs.Token.{token_at};
 ghost use Rattle.wording.specs.declared.line.Line.TheVariants.{Open, Wrong};
-ghost use Rattle.wording.specs.Line.{is_named, is_number, is_whole_decimal, is_whole, is_end, decimal_in, fit_unless, ◌andThen◌, usual_factors, usual_pole, line_if, call_if, word_fit, number_fit, whole_fit, model_fit, end_fit, decimal_at, whole_at, model_at, pair_fit, four_fit, route_fit, is_long_at, route_at, route_end, factors_at, pole_at, head_fit, brings, factors_start, pole_start, model_start, open_end, factors_fit, pole_fit, models_fit, open_fit, opening_factors, opening_pole, opening_model, opening_at, deed_line, number_line, word_line, start_line, line_in, change_fit, change_edit, deed_fit, deed_call, word_number, bare_fit, bare_call};
+ghost use Rattle.wording.specs.Line.{is_named, is_number, is_whole_decimal, is_whole, is_end, decimal_in, fit_unless, ◌and_then◌, usual_factors, usual_pole, line_if, call_if, word_fit, number_fit, whole_fit, model_fit, end_fit, decimal_at, whole_at, model_at, pair_fit, four_fit, route_fit, is_long_at, route_at, route_end, factors_at, pole_at, head_fit, brings, factors_start, pole_start, model_start, open_end, factors_fit, pole_fit, models_fit, open_fit, opening_factors, opening_pole, opening_model, opening_at, deed_line, number_line, word_line, start_line, line_in, change_fit, change_edit, deed_fit, deed_call, word_number, bare_fit, bare_call};
 
 use crate::number::Decimal;
 use crate::token::{

@@ -18,6 +18,10 @@ use Rattle.jutetrowel.specs.Answers.{answer_of, shown_numbers}
 use Rattle.jutetrowel.specs.Words.{worksheet_of, sheet_words}
 use Rattle.jutetrowel.specs.Calls.{answer_numbers, words_by, words_left, Made}
 
+-- an answer and the words, as the contracts of the calls name them
+abbrev pub Both : Type 0 → Type 0 → Type 0
+Both a b = record { answer : a; sheet : b }
+
 told_same : {v u : Verdict} → Told v ≡ Told u → v ≡ u
 told_same e = cc
 
@@ -36,33 +40,31 @@ module _ (s : Step) (l : List ℕ) {next : Next} (e : next ≡ next_of s) where
   -- a verdict was told, and settled
   pub told_crosses : {v : Verdict} {r : Numbers} {after : List ℕ} → next.answer ≡ Told v → r ≡ answer_of v →
       after ≡ written_over v (sheet_words next.sheet) l →
-      (r ≡ answer_numbers s.answer) × (after ≡ words_by s.answer s.sheet l)
+      Both (r ≡ answer_numbers s.answer) (after ≡ words_by s.answer s.sheet l)
   unfolding next_of
   told_crosses {v} {r} {after} t p q = go s.answer (sym (ap (λ (n : Next). n.answer) e) ∙ t)
     where
-      go : (a : Answer) → handed a ≡ Told v → (r ≡ answer_numbers a) × (after ≡ words_by a s.sheet l)
+      go : (a : Answer) → handed a ≡ Told v → Both (r ≡ answer_numbers a) (after ≡ words_by a s.sheet l)
       go (told u) h =
-          let same = sym (told_same h) in (
-            p ∙ ap answer_of same,
-            q ∙ (λ i. written_over (same i) (sheet_words (left i)) l),
-          )
+          let same = sym (told_same h) in
+          record { answer = p ∙ ap answer_of same; sheet = q ∙ (λ i. written_over (same i) (sheet_words (left i)) l) }
       go (shown x after) h = shown_not_told h
 
   -- a showing was handed back: the words stay
   pub shown_crosses : {x : Shown} {r : Numbers} → next.answer ≡ IsShown x → r ≡ shown_numbers x →
-      (r ≡ answer_numbers s.answer) × (l ≡ words_by s.answer s.sheet l)
+      Both (r ≡ answer_numbers s.answer) (l ≡ words_by s.answer s.sheet l)
   unfolding next_of
   shown_crosses {x} {r} t p = go s.answer (sym (ap (λ (n : Next). n.answer) e) ∙ t)
     where
-      go : (a : Answer) → handed a ≡ IsShown x → (r ≡ answer_numbers a) × (l ≡ words_by a s.sheet l)
+      go : (a : Answer) → handed a ≡ IsShown x → Both (r ≡ answer_numbers a) (l ≡ words_by a s.sheet l)
       go (told u) h = shown_not_told (sym h)
-      go (shown y after) h = (p ∙ ap shown_numbers (sym (shown_same h)), refl)
+      go (shown y after) h = record { answer = p ∙ ap shown_numbers (sym (shown_same h)); sheet = refl }
 
 -- a change reads no files
 pub changed : {n : ℕ} {l after : List ℕ} {r : Numbers} {e e' : Edit} → e ≡ e' →
-    (r ≡ answer_numbers (step (pair [] []) (change n e) (worksheet_of l)).answer)
-    × (after ≡ words_left (pair [] []) (change n e) l) →
+    Both (r ≡ answer_numbers (step (pair [] []) (change n e) (worksheet_of l)).answer)
+    (after ≡ words_left (pair [] []) (change n e) l) →
     Made (change n e') l r after
 unfolding step words_left
 changed {n} {l} {after} {r} p m =
-    subst (λ (e : Edit). Made (change n e) l r after) p (record { answer = λ source. m.0; words = λ source. m.1 })
+    subst (λ (e : Edit). Made (change n e) l r after) p (record { answer = λ source. m.answer; words = λ source. m.sheet })

@@ -9,10 +9,6 @@ use native.Mathlib.Decide.{dec_lt}
 use borrow.Author.Tests.{lt-ltb, le-ltb}
 use lib.ListN.{length, get_or, take, replicate, length-take, length-map, get_or-map, get_or-append, get_or-eq_default}
 use Rattle.base.proofs.verdicts.Picks.{cond_true, cond_false}
-use mathlib.Core.Logic.{inl, inr}
-use denote.Enum.Declared.{tag_of}
-use types.Run.{OneOf}
-use Rattle.wording.specs.contracts.line.Wanted.{the_type}
 use Rattle.wording.specs.declared.line.Wanted.{Wanted}
 use Rattle.wording.specs.declared.line.Wanted.TheVariants.{Start, Deed, Word, Number, Whole, Model, Nothing}
 use Rattle.wording.specs.Token.{ascii, names}
@@ -65,24 +61,12 @@ module _ (width : ℕ) (rows : List String) (whole : map (cut width) rows ≡ ma
 pub same_sayings : map (cut 89) sayings ≡ map ascii sayings
 same_sayings = refl
 
--- the variants but `Word`, by their places
-abbrev others : List ℕ
-others = 0 ∷ 1 ∷ 3 ∷ 4 ∷ 5 ∷ 6 ∷ []
-
-no_other : OneOf others 2 → ⊥
-no_other (inl e) = omega arith
-no_other (inr (inl e)) = omega arith
-no_other (inr (inr (inl e))) = omega arith
-no_other (inr (inr (inr (inl e)))) = omega arith
-no_other (inr (inr (inr (inr (inl e))))) = omega arith
-no_other (inr (inr (inr (inr (inr e))))) = omega arith
-
 -- it is all, unless a word is wanted
-pub said : (w : Wanted) → OneOf others (tag_of the_type w) → ascii (saying_of w) ≡ wanted_text w
+pub said : (w : Wanted) → ((k : ℕ) → w ≡ Word k → ⊥) → ascii (saying_of w) ≡ wanted_text w
 unfolding wanted_text
 said Start o = refl
 said Deed o = refl
-said (Word k) o = absurd (no_other o)
+said (Word k) o = absurd (o k refl)
 said Number o = refl
 said Whole o = refl
 said Model o = refl

@@ -17,7 +17,7 @@ pub wide : (z : ℤ) → SFits w32 z → SFits w64 (to_z w32 (of_z w32 z))
 wide z p = subst (SFits w64) (sym (to_z-of_z p)) (sfits_widen tt p)
 
 back : (z : ℤ) → SFits w32 z → to_z w64 (of_z w64 (to_z w32 (of_z w32 z))) ≡ z
-back z p = ap (λ (n : ℤ). to_z w64 (of_z w64 n)) (to_z-of_z p) ∙ to_z-of_z (sfits_widen tt p)
+back z p = ap (λ (n : ℤ). to_z w64 (of_z w64 n)) (to_z-of_z p) ∙ to_z-of_z {w = w64} (sfits_widen {w = w32} {w' = w64} (tt {0}) p)
 
 mag_sum : (a b : ℤ) → mag (a +ℤ b) ≤ mag a + mag b + 1
 mag_sum (pos a) (pos b) = omega arith

@@ -17,7 +17,7 @@ pub loop-k-preserved : goal.loop-k-preserved
 loop-k-preserved c =
     let a = c.args in
     let l = c.loop-k in
-    let b = c.four_bytes_law-bytes.ensures in
+    let b = c.four_bytes-bytes.ensures in
     let f = byte_of a.w in (
       search rules,
       (λ i. set (l.invariant.1 i) (a.at + l.k) (get_or (b i) l.k 0)) ∙ sym (fill_next f a.at a.out.now l.k),

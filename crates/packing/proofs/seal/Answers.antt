@@ -61,4 +61,4 @@ returns c =
     let y : l.year ≡ begun a.sizes.now a.year.now 14 =
     l.invariant.2 ∙ ap (begun a.sizes.now a.year.now) e in
     let f = sealed_file_law a.sizes.now a.year.now (omega arith) (omega arith) (omega arith) in
-    let l = a.year.now in record { file = y ∙ f.0 ∙ ap (λ (n : ℕ). sealed_file a.sizes.now l ++ drop n l) (sym z); count = (z ∙ f.1, omega arith); bound =  }
+    let l = a.year.now in record { file = y ∙ f.0 ∙ ap (λ (n : ℕ). sealed_file a.sizes.now l ++ drop n l) (sym z); count = z ∙ f.1; bound = omega arith }

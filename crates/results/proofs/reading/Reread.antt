@@ -21,7 +21,7 @@ use Rattle.wording.specs.declared.written.WrittenEdit.TheVariants.{Path, Month, 
 use Rattle.wording.specs.declared.written.WrittenCall.{WrittenCall}
 use Rattle.wording.specs.declared.written.WrittenCall.TheVariants.{Change, Show}
 use Rattle.wording.specs.Token.{tokens_of, token_at}
-use Rattle.wording.specs.Line.{fit_unless, ◌andThen◌, call_if, line_if, word_fit, number_fit, whole_fit, model_fit, end_fit, decimal_at, whole_at, model_at, pair_fit, four_fit, route_fit, route_at, route_end, factors_at, pole_at, head_fit, factors_start, pole_start, model_start, open_end, factors_fit, pole_fit, models_fit, open_fit, opening_factors, opening_pole, opening_model, opening_at, change_line, deed_line, desk_line, word_line, number_line, start_line, line_in}
+use Rattle.wording.specs.Line.{fit_unless, ◌and_then◌, call_if, line_if, word_fit, number_fit, whole_fit, model_fit, end_fit, decimal_at, whole_at, model_at, pair_fit, four_fit, route_fit, route_at, route_end, factors_at, pole_at, head_fit, factors_start, pole_start, model_start, open_end, factors_fit, pole_fit, models_fit, open_fit, opening_factors, opening_pole, opening_model, opening_at, change_line, deed_line, desk_line, word_line, number_line, start_line, line_in}
 use Rattle.wording.specs.Line.{SUNSPOT, HOUR, PATH, MONTH, BEGIN, COMMIT, CANCEL, SHOW}
 use Rattle.listing.specs.Written.{call_text, open_text}
 use Rattle.results.specs.ReadBack.{Fits, Flag, off, on, GoodEdit, sunspot, hour, path, psc, pole, month, model, GoodInputs, GoodCall, begin, change, commit, cancel, take_back, show}

@@ -13,6 +13,7 @@ use Rattle.worksheet.specs.declared.journal.Next.{Next}
 use Rattle.worksheet.specs.Showing.{Source, show_of, show_buffer}
 use Rattle.worksheet.specs.Journal.{Step, step_of, step}
 use Rattle.worksheet.specs.Calls.{called, buffer_after, next_of}
+use Rattle.worksheet.proofs.checks.Showings.{Both}
 
 module _ (source : Source) (lent : List Float) (w : Worksheet) where
   abbrev stepped : Made → Step
@@ -20,16 +21,17 @@ module _ (source : Source) (lent : List Float) (w : Worksheet) where
 
   -- a call that shows nothing, of the case c, whose rule gives o
   pub told_as : {k c : Made} {o : Outcome} {r : Next} → k ≡ c → stepped c ≡ step_of o → r ≡ next_of (step_of o)
-      → (r ≡ next_of (stepped k)) × (lent ≡ buffer_after (stepped k).answer lent)
+      → Both (r ≡ next_of (stepped k)) (lent ≡ buffer_after (stepped k).answer lent)
   told_as e s q =
       let h = ap stepped e ∙ s in
-      (q ∙ sym (ap next_of h), sym (ap (λ (t : Step). buffer_after t.answer lent) h))
+      record { answer = q ∙ sym (ap next_of h); buffer = sym (ap (λ (t : Step). buffer_after t.answer lent) h) }
 
   pub shown_as : {k : Made} {n : ℕ} {shown : Shown} {after : List Float} → k ≡ Show n
       → shown ≡ show_of source n lent w → after ≡ show_buffer source n lent w
-      → (record { answer = IsShown shown; sheet = w } ≡ next_of (stepped k)) × (after ≡ buffer_after (stepped k).answer lent)
+      → Both (record { answer = IsShown shown; sheet = w } ≡ next_of (stepped k)) (after ≡ buffer_after (stepped k).answer lent)
   unfolding step next_of
-  shown_as e p q = (
-    ap (λ (s : Shown). record { answer = IsShown s; sheet = w }) p ∙ sym (ap (λ (k : Made). next_of (stepped k)) e),
-    q ∙ sym (ap (λ (k : Made). buffer_after (stepped k).answer lent) e),
-  )
+  shown_as e p q =
+      record {
+        answer = ap (λ (s : Shown). record { answer = IsShown s; sheet = w }) p ∙ sym (ap (λ (k : Made). next_of (stepped k)) e);
+        buffer = q ∙ sym (ap (λ (k : Made). buffer_after (stepped k).answer lent) e);
+      }

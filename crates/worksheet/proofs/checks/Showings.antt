@@ -32,17 +32,22 @@ use Rattle.worksheet.specs.Showing.{Files, Source, pair, year_files, year_files_
 
 -- ---- the figures' part, by its check
 
+-- an answer and a buffer, as the contracts of showings name them
+abbrev pub Both : Type 0 → Type 0 → Type 0
+Both a b = record { answer : a; buffer : b }
+
 module _ (s : Files) (i : Inputs) (lent : List Float) {v : Verdict} (check : drawn_check s (length lent) ≡ v) where
-  drawn_as : (points_or v (sheet_path i).count ≡ drawn_of s i lent) × (written_over v (figures_of s.f2 s.file i) lent ≡ drawn_buffer s i lent)
+  drawn_as : Both (points_or v (sheet_path i).count ≡ drawn_of s i lent) (written_over v (figures_of s.f2 s.file i) lent ≡ drawn_buffer s i lent)
   unfolding drawn_of drawn_buffer
-  drawn_as = (
-    sym (ap (λ (z : Verdict). points_or z (sheet_path i).count) check),
-    sym (ap (λ (z : Verdict). written_over z (figures_of s.f2 s.file i) lent) check),
-  )
+  drawn_as =
+      record {
+        answer = sym (ap (λ (z : Verdict). points_or z (sheet_path i).count) check);
+        buffer = sym (ap (λ (z : Verdict). written_over z (figures_of s.f2 s.file i) lent) check);
+      }
 
 module _ (s : Files) (i : Inputs) (lent : List Float) where
   -- the buffer has not 151 numbers
-  pub drawn_unfit : (length lent ≡ 151 → ⊥) → (NotShown Figures ≡ drawn_of s i lent) × (lent ≡ drawn_buffer s i lent)
+  pub drawn_unfit : (length lent ≡ 151 → ⊥) → Both (NotShown Figures ≡ drawn_of s i lent) (lent ≡ drawn_buffer s i lent)
   unfolding drawn_check buffer_check
   drawn_unfit h =
       drawn_as s i lent {v = Refused Figures}
@@ -50,7 +55,7 @@ module _ (s : Files) (i : Inputs) (lent : List Float) where
 
   -- it has: the source refuses the files before they are looked into
   pub drawn_withheld : (why : Refusal) → length lent ≡ 151 → s.verdict ≡ Refused why
-      → (NotShown why ≡ drawn_of s i lent) × (lent ≡ drawn_buffer s i lent)
+      → Both (NotShown why ≡ drawn_of s i lent) (lent ≡ drawn_buffer s i lent)
   unfolding drawn_check buffer_check
   drawn_withheld why n e =
       drawn_as s i lent {v = Refused why}
@@ -70,24 +75,24 @@ module _ (f2 file : List ℕ) (i : Inputs) (lent : List Float) where
 
   pub drawn_points : {all after : List Float} (blank : List Float) (count : ℕ) (uses : Uses) → length lent ≡ 151 → Points count uses ≡ shown_of f2 file i → all ≡ mapsBuffer f2 file i blank
       → after ≡ fill (elements all) 0 lent 151
-      → (Points count uses ≡ drawn_of (pair f2 file i) i lent) × (after ≡ drawn_buffer (pair f2 file i) i lent)
+      → Both (Points count uses ≡ drawn_of (pair f2 file i) i lent) (after ≡ drawn_buffer (pair f2 file i) i lent)
   unfolding shown_of mapsBuffer
   drawn_points {all} {after} blank count uses n p q r = go (files_check f2 file) refl p q
     where
       go : (v : Verdict) → files_check f2 file ≡ v → Points count uses ≡ points_or v (sheet_path i).count → all ≡ written_over v (figures_of f2 file i) blank
-          → (Points count uses ≡ drawn_of (pair f2 file i) i lent) × (after ≡ drawn_buffer (pair f2 file i) i lent)
-      go Accepted e x y = let d = drawn_as (pair f2 file i) i lent (fit n ∙ e) in (x ∙ d.0, r ∙ filled_all all n y ∙ d.1)
+          → Both (Points count uses ≡ drawn_of (pair f2 file i) i lent) (after ≡ drawn_buffer (pair f2 file i) i lent)
+      go Accepted e x y = let d = drawn_as (pair f2 file i) i lent (fit n ∙ e) in record { answer = x ∙ d.answer; buffer = r ∙ filled_all all n y ∙ d.buffer }
       go (Refused why) e x y = let z : ◌≡◌ {A = ℕ} 0 1 = cc in absurd (omega arith)
 
   pub drawn_refused : (why : Refusal) → length lent ≡ 151 → NotShown why ≡ shown_of f2 file i
-      → (NotShown why ≡ drawn_of (pair f2 file i) i lent) × (lent ≡ drawn_buffer (pair f2 file i) i lent)
+      → Both (NotShown why ≡ drawn_of (pair f2 file i) i lent) (lent ≡ drawn_buffer (pair f2 file i) i lent)
   unfolding shown_of
   drawn_refused why n p = go (files_check f2 file) refl p
     where
       go : (v : Verdict) → files_check f2 file ≡ v → NotShown why ≡ points_or v (sheet_path i).count
-          → (NotShown why ≡ drawn_of (pair f2 file i) i lent) × (lent ≡ drawn_buffer (pair f2 file i) i lent)
+          → Both (NotShown why ≡ drawn_of (pair f2 file i) i lent) (lent ≡ drawn_buffer (pair f2 file i) i lent)
       go Accepted e x = let z : ◌≡◌ {A = ℕ} 0 1 = cc in absurd (omega arith)
-      go (Refused other) e x = let d = drawn_as (pair f2 file i) i lent (fit n ∙ e) in (x ∙ d.0, d.1)
+      go (Refused other) e x = let d = drawn_as (pair f2 file i) i lent (fit n ∙ e) in record { answer = x ∙ d.answer; buffer = d.buffer }
 
 -- ---- over a year file
 
@@ -115,15 +120,15 @@ module _ (s : List ℕ) (i : Inputs) {daw : List ℕ} (part : daw ≡ part_bytes
       → (year_check s then month_record_check daw i.month) ≡ Accepted
       → f2 ≡ part_bytes daw (month_part daw i.month) → file ≡ part_bytes s (year_month s i.month)
       → shown ≡ drawn_of (pair f2 file i) i lent → after ≡ drawn_buffer (pair f2 file i) i lent
-      → (shown ≡ drawn_of (yearly s i) i lent) × (after ≡ drawn_buffer (yearly s i) i lent)
+      → Both (shown ≡ drawn_of (yearly s i) i lent) (after ≡ drawn_buffer (yearly s i) i lent)
   year_drawn {f2} {file} lent e p q x y =
       let same : pair f2 file i ≡ yearly s i =
       (λ t. record { verdict = sym e t; f2 = f2; file = file }) ∙ taken s i.month i.model part p q in
-      (x ∙ ap (λ (z : Files). drawn_of z i lent) same, y ∙ ap (λ (z : Files). drawn_buffer z i lent) same)
+      record { answer = x ∙ ap (λ (z : Files). drawn_of z i lent) same; buffer = y ∙ ap (λ (z : Files). drawn_buffer z i lent) same }
 
   pub year_withheld : (lent : List Float) (why : Refusal) → length lent ≡ 151
       → (year_check s then month_record_check daw i.month) ≡ Refused why
-      → (NotShown why ≡ drawn_of (yearly s i) i lent) × (lent ≡ drawn_buffer (yearly s i) i lent)
+      → Both (NotShown why ≡ drawn_of (yearly s i) i lent) (lent ≡ drawn_buffer (yearly s i) i lent)
   year_withheld lent why n e =
       drawn_withheld (yearly s i) i lent why n
       (ap (λ (z : Files). z.verdict) (sym (taken s i.month i.model part refl refl)) ∙ e)
@@ -131,25 +136,27 @@ module _ (s : List ℕ) (i : Inputs) {daw : List ℕ} (part : daw ≡ part_bytes
 -- ---- the whole showing, by what is judged before
 
 module _ (source : Source) (n : ℕ) (lent : List Float) (w : Worksheet) {v : Verdict} (check : v ≡ judged_check n w) where
-  pub show_refused : (why : Refusal) → v ≡ Refused why → (NotShown why ≡ show_of source n lent w) × (lent ≡ show_buffer source n lent w)
+  pub show_refused : (why : Refusal) → v ≡ Refused why → Both (NotShown why ≡ show_of source n lent w) (lent ≡ show_buffer source n lent w)
   unfolding show_of show_buffer show_check
   show_refused why e =
       let h = sym e ∙ check in
       let i = inputs_shown n w in
-      let s = source i in (
-        ap (λ (z : Verdict). points_or (z then drawn_check s (length lent)) (sheet_path i).count) h,
-        ap (λ (z : Verdict). written_over (z then drawn_check s (length lent)) (figures_of s.f2 s.file i) lent) h,
-      )
+      let s = source i in
+      record {
+        answer = ap (λ (z : Verdict). points_or (z then drawn_check s (length lent)) (sheet_path i).count) h;
+        buffer = ap (λ (z : Verdict). written_over (z then drawn_check s (length lent)) (figures_of s.f2 s.file i) lent) h;
+      }
 
   pub show_accepted : {i : Inputs} {shown : Shown} {after : List Float} → v ≡ Accepted → i ≡ inputs_shown n w
       → shown ≡ drawn_of (source i) i lent → after ≡ drawn_buffer (source i) i lent
-      → (shown ≡ show_of source n lent w) × (after ≡ show_buffer source n lent w)
+      → Both (shown ≡ show_of source n lent w) (after ≡ show_buffer source n lent w)
   unfolding show_of show_buffer show_check drawn_of drawn_buffer
   show_accepted e p q r =
-      let h = sym e ∙ check in (
-        q ∙ ap₂ (λ (z : Verdict) (j : Inputs). points_or (z then drawn_check (source j) (length lent)) (sheet_path j).count) h p,
-        r ∙ ap₂ (λ (z : Verdict) (j : Inputs). written_over (z then drawn_check (source j) (length lent)) (figures_of (source j).f2 (source j).file j) lent) h p,
-      )
+      let h = sym e ∙ check in
+      record {
+        answer = q ∙ ap₂ (λ (z : Verdict) (j : Inputs). points_or (z then drawn_check (source j) (length lent)) (sheet_path j).count) h p;
+        buffer = r ∙ ap₂ (λ (z : Verdict) (j : Inputs). written_over (z then drawn_check (source j) (length lent)) (figures_of (source j).f2 (source j).file j) lent) h p;
+      }
 
 -- by whether the worksheet is asked for
 pub asked_sheet : {A : Type 0} (n : ℕ) (x y : A) → n ≡ 0 → x ≡ cond (eqb n 0) x y

@@ -38,19 +38,16 @@ returns-in-Accepted c =
     let index = written_is (index_of file) _ e b.redmap-verdict.ensures.index in
     let cofion = written_is (cofion_of f2 file i.ssn) _ e b.redmap-verdict.ensures.cofion in
     let hmym = written_is (hmym_of file i.ssn) _ e b.redmap-verdict.ensures.hmym in
-    let fakmap = written_is (fakmap_of file) _ e b.redmap-verdict.ensures.fakmap in (
-      ap (Points c.fill_in-count.result) c.uses_of.ensures ∙ ap (λ (n : ℕ). Points n (uses_of n)) c.fill_in-count.ensures.answer ∙ sym (ap (λ (v : Verdict). points_or v (sheet_path i).count) e),
-      c.fill_in-count.ensures.buffer
+    let fakmap = written_is (fakmap_of file) _ e b.redmap-verdict.ensures.fakmap in record {
+      answer = ap (Points c.fill_in-count.result) c.uses_of.ensures ∙ ap (λ (n : ℕ). Points n (uses_of n)) c.fill_in-count.ensures.answer ∙ sym (ap (λ (v : Verdict). points_or v (sheet_path i).count) e);
+      buffer = c.fill_in-count.ensures.buffer
           ∙ (λ t. figures_to (hour_from file (index t) (cofion t) (hmym t) (fakmap t) i) i (sheet_path i) 5)
-          ∙ sym (ap (λ (v : Verdict). written_over v (figures_of f2 file i) a.out.now) e),
-    )
+          ∙ sym (ap (λ (v : Verdict). written_over v (figures_of f2 file i) a.out.now) e);
+    }
 
 pub returns-in-Refused : goal.returns-in-Refused
 unfolding shown_of figures_buffer
 returns-in-Refused c =
     let b = c in
     let a = b.args in
-    let e = sym b.redmap-verdict.ensures.answer ∙ c.in-Refused.is in (
-      sym (ap (λ (v : Verdict). points_or v (sheet_path a.i).count) e),
-      sym (ap (λ (v : Verdict). written_over v (figures_of a.f2.now a.file.now a.i) a.out.now) e),
-    )
+    let e = sym b.redmap-verdict.ensures.answer ∙ c.in-Refused.is in record { answer = sym (ap (λ (v : Verdict). points_or v (sheet_path a.i).count) e); buffer = sym (ap (λ (v : Verdict). written_over v (figures_of a.f2.now a.file.now a.i) a.out.now) e) }

@@ -9,7 +9,4 @@ pub returns : goal.returns
 unfolding hour_from
 returns c =
     let b = c in
-    let d = b in (
-      ap (λ (g : PathGeometry). g.count) d.path-g.ensures,
-      rw (b.put_figures.ensures, d.path-g.ensures, d.monthly_of-m.ensures, d.virtim-ab.ensures) refl,
-    )
+    let d = b in record { answer = ap (λ (g : PathGeometry). g.count) d.path-g.ensures; buffer = rw (b.put_figures.ensures, d.path-g.ensures, d.monthly_of-m.ensures, d.virtim-ab.ensures) refl }

@@ -29,19 +29,16 @@ returns-in-Accepted c =
     let file = a.file.now in
     let e = sym b.cofion-verdict.ensures.answer ∙ c.in-Accepted.is in
     let index = written_is (index_of file) _ (file_indexed file (files_file f2 file e)) b.index.ensures.buffer in
-    let cofion = written_is (cofion_of f2 file a.ssn) _ e b.cofion-verdict.ensures.buffer in (
-      sym e,
-      c.virtim.ensures
+    let cofion = written_is (cofion_of f2 file a.ssn) _ e b.cofion-verdict.ensures.buffer in record {
+      answer = sym e;
+      buffer = c.virtim.ensures
           ∙ (λ t. virtim_of (cofion t) (index t) a.gmt)
-          ∙ sym (ap (λ (v : Verdict). written_over v (hour_maps_of f2 file a.ssn a.gmt) a.ab.now) e),
-    )
+          ∙ sym (ap (λ (v : Verdict). written_over v (hour_maps_of f2 file a.ssn a.gmt) a.ab.now) e);
+    }
 
 pub returns-in-Refused : goal.returns-in-Refused
 returns-in-Refused c =
     let b = c in
     let a = b.args in
     let e = b.cofion-verdict.ensures.answer in
-    let told = c.in-Refused.is in (
-      sym told ∙ e,
-      ap (λ (v : Verdict). written_over v (hour_maps_of a.f2.now a.file.now a.ssn a.gmt) a.ab.now) (sym told ∙ e),
-    )
+    let told = c.in-Refused.is in record { answer = sym told ∙ e; buffer = ap (λ (v : Verdict). written_over v (hour_maps_of a.f2.now a.file.now a.ssn a.gmt) a.ab.now) (sym told ∙ e) }

@@ -18,10 +18,7 @@ returns-in-Accepted c =
     let told = sym b.month_check-verdict.ensures ∙ c.in-Accepted.is in
     let e = sym (ap (λ (v : Verdict). v then file_check file) told) in
     let index = c.month_tables.ensures.index in
-    let hmym = c.month_tables.ensures.hmym in record { answer = c.month_tables.ensures.answer ∙ e; index = (
-        index ∙ ap (λ (v : Verdict). written_over v (index_of file) a.index.now) e,
-        hmym ∙ ap (λ (v : Verdict). written_over v (hmym_of file a.ssn) a.hmym.now) e,
-      ); hmym =  }
+    let hmym = c.month_tables.ensures.hmym in record { answer = c.month_tables.ensures.answer ∙ e; index = index ∙ ap (λ (v : Verdict). written_over v (index_of file) a.index.now) e; hmym = hmym ∙ ap (λ (v : Verdict). written_over v (hmym_of file a.ssn) a.hmym.now) e }
 
 pub returns-in-Refused : goal.returns-in-Refused
 unfolding layers_check
@@ -30,7 +27,4 @@ returns-in-Refused c =
     let a = b.args in
     let file = a.file.now in
     let told = sym b.month_check-verdict.ensures ∙ c.in-Refused.is in
-    let e = sym (ap (λ (v : Verdict). v then file_check file) told) in record { answer = e; index = (
-        ap (λ (v : Verdict). written_over v (index_of file) a.index.now) e,
-        ap (λ (v : Verdict). written_over v (hmym_of file a.ssn) a.hmym.now) e,
-      ); hmym =  }
+    let e = sym (ap (λ (v : Verdict). v then file_check file) told) in record { answer = e; index = ap (λ (v : Verdict). written_over v (index_of file) a.index.now) e; hmym = ap (λ (v : Verdict). written_over v (hmym_of file a.ssn) a.hmym.now) e }

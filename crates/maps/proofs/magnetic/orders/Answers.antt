@@ -20,7 +20,7 @@ loop-m-preserved c =
     let q = w in
     let k = q in
     let a = k.args in
-    (search rules, loop_turn 0 (order_of a.t1 a.n) _ k.loop-m.m (omega arith) k.loop-m.invariant.1 (rw (w.whole-fm.ensures, q.element_of-e.ensures, k.row_of-t.ensures)))
+    (search rules, loop_turn 0 (order_of a.x a.n) _ k.loop-m.m (omega arith) k.loop-m.invariant.1 (rw (w.whole-fm.ensures, q.element_of-e.ensures, k.row_of-t.ensures)))
 
 -- the test at the loop's head is never false: the loop ends at the test after its body
 pub returns : goal.returns
@@ -35,5 +35,5 @@ returns-2 c =
     let a = k.args in
     let e : k.loop-m.m ≡ a.n = omega arith in
     let start : State Sums = state a.p.now a.dp.now (record { sumr = o; sumt = o; sump = o }) in
-    loop_turn 0 (order_of a.t1 a.n) start k.loop-m.m (omega arith) k.loop-m.invariant.1 (rw (w.whole-fm.ensures, q.element_of-e.ensures, k.row_of-t.ensures))
-    ∙ ap (λ (i : ℕ). loop 0 (i + 1) (order_of a.t1 a.n) start) e
+    loop_turn 0 (order_of a.x a.n) start k.loop-m.m (omega arith) k.loop-m.invariant.1 (rw (w.whole-fm.ensures, q.element_of-e.ensures, k.row_of-t.ensures))
+    ∙ ap (λ (i : ℕ). loop 0 (i + 1) (order_of a.x a.n) start) e

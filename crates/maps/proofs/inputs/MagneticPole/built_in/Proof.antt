@@ -1,11 +1,11 @@
--- `built_in_law` is the pole at `pole_lat` and `pole_lon`: its literals are the floats nearest to the
+-- `built_in` is the pole at `pole_lat` and `pole_lon`: its literals are the floats nearest to the
 -- Rust's digits.
 use Rattle.std.proofs.Common.{refl}
 use lib.Ieee.{round, of_bits, neg}
 use Rattle.base.specs.Single.{decimal, minus_decimal}
 use Rattle.maps.specs.Inputs.{pole_lat, pole_lon}
-use Rattle.maps.proofs.inputs.MagneticPole.built_in_law.Statement.{statement}
-use Rattle.maps.proofs.inputs.MagneticPole.built_in_law.Tie as tie
+use Rattle.maps.proofs.inputs.MagneticPole.built_in.Statement.{statement}
+use Rattle.maps.proofs.inputs.MagneticPole.built_in.Tie as tie
 
 returns : tie.Need-returns
 unfolding pole_lat pole_lon decimal minus_decimal round of_bits neg

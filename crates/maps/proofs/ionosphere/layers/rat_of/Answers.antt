@@ -1,16 +1,16 @@
 -- `rat_of` turns the zenith angle round before noon, where the arms of its first branch meet, and
 -- picks by the map's value against 2.
-use Rattle.std.proofs.Common.{◌≡◌, cond, sym, ⊎_elim, rules}
+use Rattle.std.proofs.Common.{◌≡◌, cond, sym, rules}
 use lib.Ieee.{neg, lt, round, of_bits}
 use Rattle.base.specs.Single.{◌⊖◌, decimal}
 use Rattle.maps.specs.Layers.{rat_of}
 use Rattle.base.proofs.verdicts.Picks.{cond_true, cond_false}
-use Rattle.maps.proofs.ionosphere.layers.rat_of.Goals.{Joined-clock}
+use Rattle.maps.proofs.ionosphere.layers.rat_of.Goals.{Joined-clock, then-clock, else-clock}
 use Rattle.maps.proofs.ionosphere.layers.rat_of.Goals as goal
 
 angle : (c : Joined-clock) → let zdeg = c.args.zdeg.0 in c.if-clock.zn ≡ cond (lt (c.args.clock ⊖ decimal 120 1) (decimal 0 1)) (neg zdeg) zdeg
 unfolding decimal round of_bits
-angle c = ⊎_elim (λ w. rw w.1 (sym (cond_true _ _ w.0.taken))) (λ w. rw w.1 (sym (cond_false _ _ w.0.left))) c.if-clock.branch
+angle c = elim c.if-clock.branch [ then-clock w ↦ rw w.zn-is (sym (cond_true _ _ w.if-clock.true)) | else-clock w ↦ rw w.zn-is (sym (cond_false _ _ w.if-clock.false)) ]
 
 pub returns-then-rat : goal.returns-then-rat
 unfolding rat_of decimal round of_bits

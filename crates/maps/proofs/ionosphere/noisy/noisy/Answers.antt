@@ -12,7 +12,7 @@ returns-then-ratio_map c =
     let k = c in
     let e = k.wave_of-angle.ensures in
     let f = k.wave_of-half.ensures in
-    rw (c.noisy_sum.ensures, e.0, e.1, f.0, f.1) (sym (cond_true _ _ c.if-ratio_map.true))
+    rw (c.noisy_sum.ensures, e.sine, e.cosine, f.sine, f.cosine) (sym (cond_true _ _ c.if-ratio_map.true))
 
 pub returns-else-ratio_map : goal.returns-else-ratio_map
 unfolding noisy_of noisy_sum decimal round of_bits
@@ -20,4 +20,4 @@ returns-else-ratio_map c =
     let k = c in
     let e = k.wave_of-angle.ensures in
     let f = k.wave_of-half.ensures in
-    rw (c.noisy_sum-else-ratio_map.ensures, e.0, e.1, f.0, f.1) (sym (cond_false _ _ c.if-ratio_map.false))
+    rw (c.noisy_sum-else-ratio_map.ensures, e.sine, e.cosine, f.sine, f.cosine) (sym (cond_false _ _ c.if-ratio_map.false))

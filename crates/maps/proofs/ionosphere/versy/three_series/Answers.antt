@@ -39,9 +39,9 @@ together-sums-requires c =
     let n = c.least-n.result in
     let l = c.least-n.ensures in
     let m = c.least-m.ensures in
-    let u = inside a.index.now a.k n s.first_row-i.result b.word-la.result pre.0 (omega arith) s.first_row-i.ensures b.word-la.ensures (le_trans l.0 m.0) in
-    let v = inside a.index.now (a.k + 1) n s.first_row-j.result b.word-lb.result pre.0 (omega arith) s.first_row-j.ensures b.word-lb.ensures (le_trans l.0 m.1) in
-    let w = inside a.index.now (a.k + 2) n s.first_row-l.result b.word-lc.result pre.0 (omega arith) s.first_row-l.ensures b.word-lc.ensures l.1 in
+    let u = inside a.index.now a.k n s.first_row-i.result b.word-la.result pre.0 (omega arith) s.first_row-i.ensures b.word-la.ensures (le_trans l.first m.first) in
+    let v = inside a.index.now (a.k + 1) n s.first_row-j.result b.word-lb.result pre.0 (omega arith) s.first_row-j.ensures b.word-lb.ensures (le_trans l.first m.second) in
+    let w = inside a.index.now (a.k + 2) n s.first_row-l.result b.word-lc.result pre.0 (omega arith) s.first_row-l.ensures b.word-lc.ensures l.second in
     (u.most, u.place, v.place, w.place)
 
 pub two_further-pair-requires : goal.two_further-pair-requires
@@ -52,8 +52,8 @@ two_further-pair-requires c =
     let pre = s.requires in
     let n = c.least-m.result in
     let m = c.least-m.ensures in
-    let u = inside a.index.now a.k n s.first_row-i.result b.word-la.result pre.0 (omega arith) s.first_row-i.ensures b.word-la.ensures m.0 in
-    let v = inside a.index.now (a.k + 1) n s.first_row-j.result b.word-lb.result pre.0 (omega arith) s.first_row-j.ensures b.word-lb.ensures m.1 in
+    let u = inside a.index.now a.k n s.first_row-i.result b.word-la.result pre.0 (omega arith) s.first_row-i.ensures b.word-la.ensures m.first in
+    let v = inside a.index.now (a.k + 1) n s.first_row-j.result b.word-lb.result pre.0 (omega arith) s.first_row-j.ensures b.word-lb.ensures m.second in
     (ap (λ (x : Sums). x.a) c.together-sums.ensures, ap (λ (x : Sums). x.b) c.together-sums.ensures, c.least-n.ensures.first, u.most, u.place, v.place)
 
 pub finished-requires : goal.finished-requires

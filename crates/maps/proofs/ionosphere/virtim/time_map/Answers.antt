@@ -52,11 +52,11 @@ row_known index starts k row n good rule h e a b =
 
 known :
     (c : After-word-n) (row : ℕ) →
-    let s = c in
+    let s = c.before.before.before in
     lowest s.args.k ≤ row → row ≤ c.first_row-row.result + c.word.result →
     RowKnown s.args.starts.now s.args.k row c.word-n.result
 known c row a b =
-    let s = c in
+    let s = c.before.before.before in
     let p = c.word.ensures in
     let q = c.first_row-row.ensures in
     row_known s.args.index.now s.args.starts.now s.args.k row _ s.requires.0 s.requires.1 s.requires.2 c.word-n.ensures a (omega arith)
@@ -64,24 +64,24 @@ known c row a b =
 -- the row that a turn begins with, and the one after it
 this :
     (c : In-loop-row) →
-    let s = c in
+    let s = c.before.before.before.before.before in
     RowKnown s.args.starts.now s.args.k c.loop-row.row c.word-n.result
-this c = let l = c.loop-row in known c l.row l.invariant.0 (omega (arith, c.loop-row-test.true))
+this c = let l = c.loop-row in known c.before.before l.row l.invariant.0 (omega (arith, c.loop-row-test.true))
 
 next :
     (c : In-loop-row) →
-    let s = c in
+    let s = c.before.before.before.before.before in
     RowKnown s.args.starts.now s.args.k (c.loop-row.row + 1) c.word-n.result
 next c =
     let l = c.loop-row in
-    known c (l.row + 1) (omega (arith, l.invariant.0)) (omega (arith, c.loop-row-test.true))
+    known c.before.before (l.row + 1) (omega (arith, l.invariant.0)) (omega (arith, c.loop-row-test.true))
 
 -- the row that is left over
 over :
     (c : Then-row-last) →
-    let s = c in
+    let s = c.before.before.before.before.before.before in
     RowKnown s.args.starts.now s.args.k c.loop-row.row c.word-n.result
-over c = let l = c.loop-row in known c l.row l.invariant.0 (omega (arith, c.if-row-last.true))
+over c = let l = c.loop-row in known c.before.before.before l.row l.invariant.0 (omega (arith, c.if-row-last.true))
 
 -- one more row, at the code's row + 1
 row_next :

@@ -43,7 +43,7 @@ map_same cof index gmt w k ab good h e =
     (λ i q. wave_in_law gmt i (omega arith)) t)
 
 pub loop-k-init : goal.loop-k-init
-loop-k-init c = (search rules, loop_start 0 _ _, carried _ tt)
+loop-k-init c = (search rules, loop_start 0 _ _)
 
 pub loop-k-preserved : goal.loop-k-preserved
 loop-k-preserved c =
@@ -56,7 +56,6 @@ loop-k-preserved c =
           (c.time_map.ensures
           ∙ map_same s.args.cof.now s.args.index.now s.args.gmt w.hour_waves-w.result k.loop-k.k _ s.requires
           c.loop-k-test.true w.hour_waves-w.ensures),
-      k.loop-k.invariant.2,
     )
 
 pub returns : goal.returns
@@ -65,4 +64,4 @@ returns c = let e : c.loop-k.k ≡ 6 = omega arith in rw e at c.loop-k.invariant
 
 pub time_map-requires : goal.time_map-requires
 time_map-requires c = let k = c in
-    (k.requires, k.loop-k.invariant.2, k.loop-k-test.true)
+    (k.requires, carried _ tt, k.loop-k-test.true)

@@ -17,7 +17,7 @@ use Rattle.maps.proofs.lists.SeriesStarts.{carried}
 use Rattle.maps.proofs.ionosphere.virtim.virtim.Given as goal
 
 abbrev pub invariant-loop-k : goal.invariant-loop-k
-invariant-loop-k l = (k ≤ 6) × (l.k ≡ loop 0 k (time_map_of (hour_wave l.gmt) l.cof l.index) l.initial.ab) × StartsRule l.ab
+invariant-loop-k l = (l.k ≤ 6) × (l.ab ≡ loop 0 l.k (time_map_of (hour_wave l.gmt) l.cof l.index) l.initial.ab)
 
 abbrev pub decreases-loop-k : goal.decreases-loop-k
-decreases-loop-k l = 6 - k
+decreases-loop-k l = 6 - l.k

@@ -1,0 +1,8 @@
+-- `layers_as` is `layers_as`: number and place of the verdict, and the fields as they are.
+use borrow.Author.Rules.{rules}
+use Rattle.jutetrowel.specs.Layers.{layers_as}
+use Rattle.jutetrowel.proofs.layers.layers_as.Goals as goal
+
+pub returns : goal.returns
+unfolding layers_as
+returns c = cc

@@ -1,0 +1,15 @@
+-- `pair_operation` is `pair_operation`, by its test.
+use borrow.Author.Rules.{rules}
+use borrow.Author.Tests.{lt-ltb, le-ltb}
+use mathlib.Core.Path.{sym}
+use Rattle.base.proofs.verdicts.Picks.{cond_true, cond_false}
+use Rattle.listing.specs.Calls.{pair_operation}
+use Rattle.listing.proofs.call.pair_operation.Goals as goal
+
+pub returns-then-operation-gt10 : goal.returns-then-operation-gt10
+unfolding pair_operation
+returns-then-operation-gt10 c = sym (cond_true _ _ (lt-ltb _ _ c.if-operation-gt10.true))
+
+pub returns-else-operation-gt10 : goal.returns-else-operation-gt10
+unfolding pair_operation
+returns-else-operation-gt10 c = sym (cond_false _ _ (le-ltb _ _ c.if-operation-gt10.false))

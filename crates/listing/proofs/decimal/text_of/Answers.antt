@@ -1,0 +1,8 @@
+-- `text_of` is `text_of`, place by place.
+use borrow.Author.Rules.{rules}
+use Rattle.listing.specs.Decimal.{text_of}
+use Rattle.listing.proofs.decimal.text_of.Goals as goal
+
+pub returns : goal.returns
+unfolding text_of
+returns c = cc

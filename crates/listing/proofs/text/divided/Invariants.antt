@@ -1,0 +1,14 @@
+-- `divided` is n over b^k. The loop's invariant: n over b to the power of the turns left is n over
+-- the whole power from the start.
+use borrow.Author.Rules.{rules}
+use mathlib.Core.Path.{◌≡◌, refl, sym, ap, ◌∙◌}
+use Prim.Native.Nat.{ℕ, ◌/◌, ◌^◌, ◌≤◌}
+use native.Mathlib.Omega.{arith}
+use Rattle.listing.proofs.digits.Quotients.{by_none, by_one_more}
+use Rattle.listing.proofs.text.divided.Given as goal
+
+abbrev pub invariant-loop-left : goal.invariant-loop-left
+invariant-loop-left l = (l.left ≤ l.k) × (l.n / l.b ^ l.left ≡ l.n-2 / l.b ^ l.k)
+
+abbrev pub decreases-loop-left : goal.decreases-loop-left
+decreases-loop-left l = l.left

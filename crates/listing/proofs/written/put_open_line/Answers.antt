@@ -1,0 +1,11 @@
+-- `put_open_line` puts the text and a line feed, joined.
+use borrow.Author.Rules.{rules}
+use native.Mathlib.Omega.{arith}
+use Rattle.listing.proofs.pieces.Puts.{joined, counts}
+use Rattle.listing.proofs.written.put_open_line.Goals as goal
+
+pub returns : goal.returns
+returns c =
+    let p = c.put_open-next.ensures in
+    let whole = joined p.text c.put.ensures in
+    record { text = whole.text; count = counts whole (omega (arith, p.bound, c.put.ensures.place)) }

@@ -1,0 +1,8 @@
+-- `factors_fit` is `factors_fit`, part by part.
+use borrow.Author.Rules.{rules}
+use Rattle.wording.specs.Line.{factors_fit}
+use Rattle.wording.proofs.line.factors_fit.Goals as goal
+
+pub returns : goal.returns
+unfolding factors_fit
+returns c = cc

@@ -1,0 +1,24 @@
+-- `magnitude` is the pattern of n / d rounded, by the invariants of the two loops (`Widened`,
+-- `Divided`): n / d stays the same number of units, whichever of the two is doubled.
+use mathlib.Core.Path.{◌≡◌, sym, ap, ◌∙◌, subst}
+use mathlib.Core.Logic.{⊎_elim}
+use mathlib.Core.Bool.{cond}
+use Prim.Native.Nat.{ℕ, ◌+◌, ◌-◌, ◌*◌, ◌^◌, ◌<◌}
+use native.Mathlib.Nat.{add-zero}
+use native.Mathlib.Omega.{arith}
+use lib.Dec.{lit≤}
+use lib.Ieee.{binary32, of_bits, round}
+use Rattle.wording.proofs.decimals.Dividing.{same_first, Widened, few, early, wider, Divided, divided, more, turn_zero, turn_one, last, fits, pattern, zero_pattern}
+use Rattle.wording.proofs.number.magnitude.Given as goal
+
+abbrev pub invariant-loop-by : goal.invariant-loop-by
+invariant-loop-by l = Widened l.n l.d l.by l.k
+
+abbrev pub decreases-loop-by : goal.decreases-loop-by
+decreases-loop-by l = 186 - l.k
+
+abbrev pub invariant-loop-q : goal.invariant-loop-q
+invariant-loop-q l = Divided l.n l.d l.by l.k l.q l.rest
+
+abbrev pub decreases-loop-q : goal.decreases-loop-q
+decreases-loop-q l = l.k

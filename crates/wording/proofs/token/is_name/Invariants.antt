@@ -1,0 +1,15 @@
+-- `is_name` compares letter by letter. The loop's invariant: what is left to compare decides the
+-- whole.
+use mathlib.Core.Path.{◌≡◌, refl, sym, ap, ◌∙◌}
+use Prim.Native.Nat.{◌≤◌, ◌-◌}
+use borrow.Author.Rules.{rules}
+use lib.Dec.{eqb}
+use lib.ListN.{length}
+use Rattle.wording.proofs.words.Names.{left, name_ends, letter_differs, letter_next, word_ends}
+use Rattle.wording.proofs.token.is_name.Given as goal
+
+abbrev pub invariant-loop-i : goal.invariant-loop-i
+invariant-loop-i l = (l.i ≤ length l.word) × (left l.name l.word 0 ≡ left l.name l.word l.i)
+
+abbrev pub decreases-loop-i : goal.decreases-loop-i
+decreases-loop-i l = length l.word - l.i

@@ -1,0 +1,12 @@
+-- `letter` is `get_or`: past the end that is the blank.
+use mathlib.Core.Path.{sym}
+use borrow.Author.Rules.{rules}
+use lib.ListN.{get_or-eq_default}
+use Rattle.wording.proofs.words.Names.{any_default}
+use Rattle.wording.proofs.token.letter.Goals as goal
+
+pub returns-then-i-name : goal.returns-then-i-name
+returns-then-i-name c = any_default c.args.name.now c.args.i 0 32 c.if-i-name.true
+
+pub returns-else-i-name : goal.returns-else-i-name
+returns-else-i-name c = sym (get_or-eq_default c.args.name.now 32 c.if-i-name.false)

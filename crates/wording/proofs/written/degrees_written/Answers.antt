@@ -1,0 +1,6 @@
+-- `degrees_written` is `degrees_written`.
+use borrow.Author.Rules.{rules}
+use Rattle.wording.proofs.written.degrees_written.Goals as goal
+
+pub returns : goal.returns
+returns c = λ t. record { 0 = c.float_of.ensures t }
