@@ -1,5 +1,5 @@
 // The files that showings are made from: a year file, or an F2 record and a month file.
-ghost use Rattle.std.specs.Prelude.{◌+◌, ◌≤◌, length};
+ghost use Rattle.std.specs.Prelude.{◌≡◌, ◌+◌, ◌≤◌, length};
 
 use crate::failure::got;
 use crate::name::{NAME, argument};

@@ -11,14 +11,12 @@ use system::{is_invalid, open_read};
 fn folder_size(name: &[u8]) -> usize
     ensures { IsPrefixLen result name.now }
 {
-    let mut i = name.len();
-    while i > 0 {
-        if name[i - 1] == b'/' {
-            return i;
+    for i in (0..name.len()).rev() {
+        if name[i] == b'/' {
+            return i + 1;
         }
-        i -= 1;
     }
-    i
+    0
 }
 
 // Puts a folder on its device. A system that has no such thing (EINVAL) has done all it can.
