@@ -64,13 +64,20 @@ line_longer text k h e =
 -- where its end is found
 pub line_found :
     (text : List ℕ) (from r : ℕ) → r ≡ from + length (line_at text from) →
-    (r ≡ from + length (line_at text from))
-    × ((take (r - from) (drop from text) ≡ line_at text from) × (from ≤ length text → r ≤ length text))
+    record {
+      place : r ≡ from + length (line_at text from);
+      line : take (r - from) (drop from text) ≡ line_at text from;
+      within : from ≤ length text → r ≤ length text;
+    }
 line_found text from r e =
     let size : r - from ≡ length (line_at text from) = omega arith in
     let most = first_no_longer (drop from text) in
     let rest = length-drop from text in
-    (e, (ap (λ (i : ℕ). take i (drop from text)) size ∙ first_taken (drop from text), λ h. omega arith))
+    record {
+      place = e;
+      line = ap (λ (i : ℕ). take i (drop from text)) size ∙ first_taken (drop from text);
+      within = λ h. omega arith;
+    }
 
 -- ---- the others
 

@@ -34,18 +34,20 @@ pub made_as :
     (source : Source) (c : ProgramCall) (w : Worksheet) {call : ProgramCall} {next : Next} {good : Bool} {mark : ℕ} →
     call ≡ c → next ≡ next_of (step source (called call blank) w) → good ≡ handed_good next.answer →
     mark ≡ mark_with (sort_of (called call blank)) good (desk_of (called call blank)) →
-    (next.sheet ≡ (step source (called c blank) w).sheet) × (mark ≡ mark_of (entry_of source (called c blank) w))
+    record { sheet : next.sheet ≡ (step source (called c blank) w).sheet; mark : mark ≡ mark_of (entry_of source (called c blank) w) }
 unfolding next_of mark_of
 made_as source c w {call} {next} {good} {mark} p q g m =
     let e : next ≡ next_of (step source (called c blank) w) =
     q ∙ ap (λ (x : ProgramCall). next_of (step source (called x blank) w)) p in
     let a = (step source (called c blank) w).answer in
-    let f : good ≡ accepted a = g ∙ ap (λ (x : Next). handed_good x.answer) e ∙ handed_good_law a in (
-      ap (λ (x : Next). x.sheet) e,
-      m
+    let f : good ≡ accepted a = g ∙ ap (λ (x : Next). handed_good x.answer) e ∙ handed_good_law a in
+    record {
+      sheet = ap (λ (x : Next). x.sheet) e;
+      mark =
+          m
           ∙ ap (λ (x : ProgramCall). mark_with (sort_of (called x blank)) good (desk_of (called x blank))) p
-          ∙ ap (λ (b : Bool). mark_with (sort_of (called c blank)) b (desk_of (called c blank))) f,
-    )
+          ∙ ap (λ (b : Bool). mark_with (sort_of (called c blank)) b (desk_of (called c blank))) f;
+    }
 
 -- ---- one more, in each list
 

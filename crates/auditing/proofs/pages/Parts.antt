@@ -56,9 +56,10 @@ leb_same a b c d to from = go (leb a b) refl
 pub part_as :
     (l : List ℕ) {r : Part} {n : ℕ} {last want : Bool} {piece part : List ℕ} → r ≡ record { size = n; last = last } →
     take n l ≡ piece → piece ≡ part → last ≡ want → IsPrefixLen n l →
-    (take r.size l ≡ part) × ((r.last ≡ want) × IsPrefixLen r.size l)
+    record { text : take r.size l ≡ part; last : r.last ≡ want; count : IsPrefixLen r.size l }
 part_as l {want} {part} e t p w count =
-    subst (λ (x : Part). (take x.size l ≡ part) × ((x.last ≡ want) × IsPrefixLen x.size l)) (sym e) (t ∙ p, (w, count))
+    subst (λ (x : Part). record { text : take x.size l ≡ part; last : x.last ≡ want; count : IsPrefixLen x.size l }) (sym e)
+    (record { text = t ∙ p; last = w; count = count })
 
 -- ---- no line of a draft
 

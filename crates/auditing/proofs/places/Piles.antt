@@ -116,10 +116,19 @@ module _ (l before after : List ℕ) (size : ℕ) (e : pile size after ≡ all_g
       ∙ holds.placed i (omega arith) (omega arith)
       ∙ sym (get_or-take n l i 0 (omega arith)))
 
+  abbrev many : ℕ
+  many = size
+
+  abbrev n_given : ℕ
+  n_given = min size (length before)
+
   pub all_kept :
-      (size ≡ min (length l) (suc (length before)))
-      × ((take (min size (length before)) after ≡ take (min size (length before)) l) × (length after ≡ length before))
-  all_kept = (all_counted, (all_placed, same_room))
+      record {
+        size : many ≡ min (length l) (suc (length before));
+        places : take n_given after ≡ take n_given l;
+        room : length after ≡ length before;
+      }
+  all_kept = record { size = all_counted; places = all_placed; room = same_room }
 
 -- ---- a draft's places and the shorter list's, a call at a time
 

@@ -1,0 +1,14 @@
+-- `sheet_account` writes `sheet_account`: the page of what `make` hands back of a showing.
+use borrow.Author.Rules.{rules}
+use lib.Ieee.{of_bits, round}
+use Rattle.base.specs.Single.{decimal}
+use Rattle.auditing.proofs.pages.Answers.{sheet_as}
+use Rattle.auditing.proofs.accounts.sheet_account.Goals as goal
+
+pub returns : goal.returns
+unfolding decimal of_bits round
+returns c =
+    let m = c in
+    let a = m.args in
+    let e = c.handed_page.ensures in
+    record { text = sheet_as _ a.w m.make-next.ensures.answer m.make-next.ensures.buffer e.text; count = e.count }

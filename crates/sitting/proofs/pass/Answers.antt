@@ -1,0 +1,43 @@
+-- `pass` is the sitting of `hearing` over every source and at every line, by what the line reads as.
+use borrow.Author.Rules.{rules}
+use Prim.Native.Nat.{ℕ}
+use mathlib.Core.Path.{◌≡◌, refl, sym, ap, ◌∙◌}
+use Rattle.wording.specs.declared.line.Fault.{Fault}
+use Rattle.wording.specs.declared.line.Line.{Line}
+use Rattle.sitting.specs.declared.Sitting.{Sitting}
+use Rattle.sitting.specs.declared.Stage.{Stage}
+use Rattle.sitting.specs.declared.Stage.TheVariants as stage
+use Rattle.sitting.specs.Sitting.{ended_by, hear_wrong, hear_line, hearing}
+use Rattle.sitting.proofs.pass.Goals as goal
+
+wrong_ends : (n : ℕ) (f : Fault) (x : Stage) (s : Sitting) → ended_by s ≡ (hear_wrong n f x s).sitting
+wrong_ends n f stage.Waiting s = refl
+wrong_ends n f stage.Open s = refl
+wrong_ends n f stage.Ended s = refl
+
+pub returns-in-Blank : goal.returns-in-Blank
+unfolding hearing
+returns-in-Blank c source n =
+    let s = c.args.s in
+    ap (λ (x : Line). (hear_line source n s x).sitting) (sym c.in-Blank.is ∙ c.line_in-read.ensures)
+
+pub returns-in-Open : goal.returns-in-Open
+unfolding hearing
+returns-in-Open c source n =
+    let s = c.args.s in
+    let read = sym c.in-Open.is ∙ c.line_in-read.ensures in
+    c.pass_open.ensures n ∙ ap (λ (x : Line). (hear_line source n s x).sitting) read
+
+pub returns-in-Call : goal.returns-in-Call
+unfolding hearing
+returns-in-Call c source n =
+    let s = c.args.s in
+    let read = sym c.in-Call.is ∙ c.line_in-read.ensures in
+    c.pass_call.ensures source n ∙ ap (λ (x : Line). (hear_line source n s x).sitting) read
+
+pub returns-in-Wrong : goal.returns-in-Wrong
+unfolding hearing
+returns-in-Wrong c source n =
+    let s = c.args.s in
+    let read = sym c.in-Wrong.is ∙ c.line_in-read.ensures in
+    c.ended.ensures ∙ wrong_ends n _ s.stage s ∙ ap (λ (x : Line). (hear_line source n s x).sitting) read
