@@ -218,8 +218,7 @@ fn walk_lines(text: &[u8], k: usize) -> Walk
 {
     let mut s = waiting();
     let mut at = 0;
-    let mut n = 0;
-    while n < k {
+    for n in 0..k {
         let end = line_end(text, at);
         if end - at >= CHUNK {
             return walked(Reach::Long, s, n, at, at);
@@ -233,9 +232,8 @@ fn walk_lines(text: &[u8], k: usize) -> Walk
         }
         s = after;
         at = end + 1;
-        n += 1;
     }
-    walked(Reach::Whole, s, n, at, at)
+    walked(Reach::Whole, s, k, at, at)
 }
 
 fn walked(reach: Reach, s: Sitting, lines: usize, from: usize, to: usize) -> Walk

@@ -1,9 +1,14 @@
 // What fails with a file is said on standard error, with the system's words.
+ghost use Rattle.std.specs.Prelude.{◌≡◌, IfOk, IfSome};
+
 use std::io::Error;
 use system::fail;
 
 // What came of it, unless it failed: then that is said of the file of this name.
-pub(crate) fn got<T>(name: &[u8], done: Result<T, Error>) -> Option<T> {
+pub(crate) fn got<T>(name: &[u8], done: Result<T, Error>) -> Option<T>
+    ensures none_made { IfSome result (λ value. done ≡ Ok value) }
+    ensures none_lost { IfOk done (λ value. result ≡ Some value) }
+{
     match done {
         Ok(value) => Some(value),
         Err(error) => {

@@ -14,6 +14,9 @@ use worksheet::showing::Lent;
 // A line of a journal has fewer bytes than this.
 pub(crate) const CHUNK: usize = 65536;
 
+// More turns of reading or answering than any run takes.
+const TURNS: u64 = 0x100_0000_0000;
+
 #[derive(Clone, Copy)]
 pub(crate) enum State {
     // There may be more lines.
@@ -64,24 +67,20 @@ fn line_end(buffer: &[u8], from: usize, to: usize) -> usize
     requires { (from ≤ to) × (to ≤ length buffer.now) }
     ensures { (from ≤ result) × (result ≤ to) }
 {
-    let mut i = from;
-    while i < to {
+    for i in from..to {
         if buffer[i] == b'\n' {
             return i;
         }
-        i += 1;
     }
-    i
+    to
 }
 
 // Moves the bytes of a line that is not whole yet to the start of the buffer.
 fn shift(buffer: &mut [u8], from: usize, to: usize)
     requires { (from ≤ to) × (to ≤ length buffer.old) }
 {
-    let mut i = from;
-    while i < to {
+    for i in from..to {
         buffer[i - from] = buffer[i];
-        i += 1;
     }
 }
 
@@ -297,8 +296,7 @@ fn begun() -> Ran
 }
 
 // Line by line, up to one that ends the journal, each answered on standard output or, without
-// `speak`, in silence. Nothing says that the input ends, so the turns are counted down from a
-// number that no run uses up.
+// `speak`, in silence. Nothing says that the input ends, so the turns are counted.
 pub(crate) fn hear_all(
     input: &mut impl Read,
     out: &impl Print,
@@ -313,9 +311,7 @@ pub(crate) fn hear_all(
     ensures lines_bound { (result.lines ≤ 1099511627776) × (result.bytes ≤ 72057594037927936) }
 {
     let mut v = begun();
-    let mut turns: u64 = 0x100_0000_0000;
-    while turns > 0 {
-        turns -= 1;
+    for _turn in 0..TURNS {
         v = turn(input, out, v, name, speak, lent, a, b, buffer);
         let state = v.state;
         if !is_going(state) {
