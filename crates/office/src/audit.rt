@@ -4,7 +4,7 @@
 ghost use Rattle.std.specs.Prelude.{◌≡◌, ◌≤◌, length};
 ghost use Rattle.io.specs.Counts.{IsPrefixLen};
 
-use crate::failure::got;
+use crate::failure::{got, say_unread};
 use crate::files::{Loaded, load};
 use crate::journal::{CHUNK, is_ended, long_text, say_cut};
 use crate::name::{NAME, argument, is_dash};
@@ -19,7 +19,7 @@ use packing::YEAR_MOST;
 use sitting::{Sitting, Stage, hear, pass, waiting};
 use std::io::{Input, Print, Read};
 use std::rt::{Env, Files};
-use system::{STDERR, arg, open_read, print, read_full};
+use system::{arg, open_read, print, read_full};
 use wording::number::{Number, number_in};
 use worksheet::showing::Lent;
 
@@ -346,12 +346,11 @@ fn audit_text(out: &impl Print, whole: &[u8], n: usize, line: usize, lent: Lent,
 // Says that there is more of a journal: it does not fit, or, where the buffer is not full, a read
 // before this one has failed.
 fn say_left(out: &impl Print, name: &[u8], full: bool) {
-    if full {
-        say_long_text(out);
+    if !full {
+        say_unread(name);
         return;
     }
-    io::write_all(STDERR, name);
-    io::write_all(STDERR, b": it could not be read to its end: try again\n");
+    say_long_text(out);
 }
 
 // Whether a journal has been read to its end; else what is left, or what failed, is said.

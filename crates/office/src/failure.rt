@@ -2,7 +2,7 @@
 ghost use Rattle.std.specs.Prelude.{◌≡◌, IfOk, IfSome};
 
 use std::io::Error;
-use system::fail;
+use system::{STDERR, fail};
 
 // What came of it, unless it failed: then that is said of the file of this name.
 pub(crate) fn got<T>(name: &[u8], done: Result<T, Error>) -> Option<T>
@@ -16,6 +16,12 @@ pub(crate) fn got<T>(name: &[u8], done: Result<T, Error>) -> Option<T>
             None
         }
     }
+}
+
+// Says that a file was not read to its end: a read of it has failed, and the next one has not.
+pub(crate) fn say_unread(name: &[u8]) {
+    io::write_all(STDERR, name);
+    io::write_all(STDERR, b": it could not be read to its end: try again\n");
 }
 
 // Whether it is done; else what failed is said.

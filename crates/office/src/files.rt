@@ -1,7 +1,7 @@
 // The files that showings are made from: a year file, or an F2 record and a month file.
 ghost use Rattle.std.specs.Prelude.{◌≡◌, ◌+◌, ◌≤◌, length};
 
-use crate::failure::got;
+use crate::failure::{got, say_unread};
 use crate::name::{NAME, argument};
 use packing::YEAR_MOST;
 use std::io::Read;
@@ -35,15 +35,15 @@ fn is_whole(file: &mut impl Read, name: &[u8], full: bool) -> bool {
 // Says that there is more of a file: it does not fit, or, where the buffer is not full, a read
 // before this one has failed.
 fn say_more(name: &[u8], full: bool) {
-    io::write_all(STDERR, name);
-    if full {
-        io::write_all(
-            STDERR,
-            b": too long: desk takes files of at most 1048576 bytes, a pair's together\n",
-        );
-    } else {
-        io::write_all(STDERR, b": it could not be read to its end: try again\n");
+    if !full {
+        say_unread(name);
+        return;
     }
+    io::write_all(STDERR, name);
+    io::write_all(
+        STDERR,
+        b": too long: desk takes files of at most 1048576 bytes, a pair's together\n",
+    );
 }
 
 // Where a file that is read into the buffer ends, and whether it was read whole.

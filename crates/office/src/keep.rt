@@ -10,7 +10,7 @@ use listing::written::{WRITTEN, line_text};
 use std::fs::OpenFile;
 use std::io::{Error, Seek, SeekFrom, Write};
 use std::rt::Files;
-use system::{STDERR, create, is_missing, open_append, open_update};
+use system::{STDERR, create, fail, is_missing, open_append, open_update};
 use wording::line::line_in;
 
 // The journal open for reading and writing, made where it is missing; none where it cannot be,
@@ -45,13 +45,14 @@ fn put_new(files: &impl Files, name: &[u8], bytes: &[u8]) -> Result<(), Error> {
 // is made, and its name put on its device too.
 fn put_aside(files: &impl Files, name: &[u8], bytes: &[u8]) -> bool {
     match open_append(files, name) {
+        Ok(mut file) => is_done(name, put(&mut file, bytes)),
         Err(error) if is_missing(&error) => {
             is_done(name, put_new(files, name, bytes)) && sync_folder(files, name)
         }
-        open => match got(name, open) {
-            Some(mut file) => is_done(name, put(&mut file, bytes)),
-            None => false,
-        },
+        Err(error) => {
+            fail(name, &error);
+            false
+        }
     }
 }
 

@@ -133,14 +133,12 @@ pub(crate) fn take(rt: &(impl Files + Clock), lock: &[u8], own: &[u8]) -> bool {
     for _ in 0..TRIES {
         match create(rt, lock) {
             Ok(made) => return signed(rt, made, lock, own),
+            Err(error) if is_taken(&error) => rest(rt),
             Err(error) => {
-                if !is_taken(&error) {
-                    fail(lock, &error);
-                    return false;
-                }
+                fail(lock, &error);
+                return false;
             }
         }
-        rest(rt);
     }
     say_held(rt, lock);
     false

@@ -47,9 +47,9 @@ fn words_from(env: &impl Env, i: usize, line: &mut [u8]) -> usize
     n
 }
 
-// What is told once the lock is given back, since a reader of standard error that is gone ends the
-// process: so many bytes of a text, what came of the call, the number of its line or of the one
-// that ends the journal, and whether one of that number was put aside.
+// What is told once the lock is given back, so that a reader who is slow holds up no other desk: so
+// many bytes of a text, what came of the call, the number of its line or of the one that ends the
+// journal, and whether one of that number was put aside.
 #[derive(Clone, Copy)]
 struct Told {
     size: usize,
@@ -258,7 +258,7 @@ fn tell(out: &impl Print, name: &[u8], t: Told, text: &[u8]) {
 }
 
 // With the journal's lock, which is given back before the answer. What fails under it is said at
-// once, since the system's words for it are at hand only then.
+// once, and the last words come after it.
 fn say_locked(
     rt: &(impl Files + Clock + Print),
     process: Process,
