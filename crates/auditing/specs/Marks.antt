@@ -1,7 +1,6 @@
 -- The same by marks: of each call of a run one number, which says what it is, whose and whether it
 -- was accepted; the calls by their places. Assumes nothing.
 use Rattle.std.specs.Prelude.{ℕ, zero, suc, ◌+◌, ◌*◌, ◌/◌, ◌%◌, min, Bool, true, false, cond, not, ◌&&◌, ◌||◌, List, [], ◌∷◌, ◌++◌, eqb, ltb, length, get_or, set}
-use Rattle.worksheet.specs.declared.inputs.Edit.{Edit}
 use Rattle.worksheet.specs.Journal.{Call, begin, commit, cancel, change, take_back, show, Entry, good}
 use Rattle.auditing.specs.declared.marks.Origin.{Origin}
 use Rattle.auditing.specs.declared.marks.Origin.TheVariants.{Opened, Set}

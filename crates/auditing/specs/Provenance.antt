@@ -1,7 +1,7 @@
 -- Where each part of the inputs in force comes from: the last standing change of it, or the open.
 -- And what became of each draft. Over a run's entries; a call's place is how many calls stand before
 -- it. Assumes nothing.
-use Rattle.std.specs.Prelude.{ℕ, zero, suc, Bool, true, false, cond, not, ◌&&◌, List, [], ◌∷◌, ◌++◌, eqb, length}
+use Rattle.std.specs.Prelude.{ℕ, suc, Bool, false, cond, not, ◌&&◌, List, [], ◌∷◌, ◌++◌, eqb, length}
 use Rattle.worksheet.specs.declared.inputs.Edit.{Edit}
 use Rattle.worksheet.specs.declared.inputs.Edit.TheVariants.{Sunspot, Hour, Path, Psc, Pole, Month, Model}
 use Rattle.worksheet.specs.declared.desks.Worksheet.{Worksheet}

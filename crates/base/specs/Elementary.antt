@@ -1,6 +1,6 @@
 -- Document 01, Elementary steps: worked in f64, every operation rounded once, in the order written.
 -- Assumes nothing.
-use Rattle.std.specs.Prelude.{ℕ, zero, suc, ◌+◌, ◌-◌, ◌*◌, ◌%◌, ◌^◌, true, false, cond, List, [], ◌∷◌, map, ℤ, pos, ◌+ℤ◌, ◌==◌, Float}
+use Rattle.std.specs.Prelude.{ℕ, zero, suc, ◌+◌, ◌-◌, ◌*◌, ◌%◌, ◌^◌, true, false, cond, List, [], ◌∷◌, map, pos, ◌+ℤ◌, ◌==◌, Float}
 use Rattle.std.specs.Float.{nan, inf, fin, binary32, binary64}
 use Rattle.std.specs.Float.Ieee.{round, size, neg, lt, le, of_int, to_unsigned}
 use Rattle.base.specs.Double.{◌⊕◌, ◌⊖◌, ◌⊗◌, ◌⊘◌, fraction}

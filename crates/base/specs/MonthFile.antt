@@ -1,6 +1,6 @@
 -- Document 01, Files: the month record of the `.daw` file, and the month file's walk. Assumes
 -- nothing.
-use Rattle.std.specs.Prelude.{◌≡◌, ℕ, ◌+◌, ◌-◌, ◌*◌, ◌/◌, ◌%◌, ◌≤◌, Bool, true, false, cond, List, [], ◌∷◌, ◌++◌, length, take, drop, replicate, ◌==◌, nat_le, slice_index}
+use Rattle.std.specs.Prelude.{◌≡◌, ℕ, ◌+◌, ◌-◌, ◌*◌, ◌/◌, ◌%◌, ◌≤◌, Bool, true, cond, List, [], ◌∷◌, ◌++◌, length, take, drop, replicate, ◌==◌, nat_le, slice_index}
 use Rattle.std.specs.Borrow.{Bor}
 use Rattle.base.specs.declared.refusal.Refusal.TheVariants.{Record, Ended, Marker}
 use Rattle.base.specs.declared.refusal.Verdict.{Verdict}

@@ -55,7 +55,7 @@ head_of g = g.gcd.0 ∷ g.gcd_km ∷ g.btr.0 ∷ g.brt.0 ∷ g.rlatd.0 ∷ (alat
 -- '`ControlPoint` (4), `MagneticVars` (3), `LayerParams` (16), `EsParams` (4), ground pair (2),
 -- fields in the Rust's order'
 unfoldable pub numbers_of : ControlPoint → MagneticVars → LayerParams → EsParams → Ground → List Float
-numbers_of pt mag l es ground =
+numbers_of pt mag l es g =
     pt.rd.0
     ∷ pt.lat.0
     ∷ pt.lon.0
@@ -83,8 +83,8 @@ numbers_of pt mag l es ground =
     ∷ slice_index_or es.fs 1 nan
     ∷ slice_index_or es.fs 2 nan
     ∷ es.hs
-    ∷ ground.0
-    ∷ ground.1
+    ∷ g.0
+    ∷ g.1
     ∷ []
 
 -- the 29 numbers of a point

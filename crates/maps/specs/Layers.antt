@@ -1,7 +1,7 @@
 -- The parts of `layer_parameters` of ionosphere.rs, TIMVAR, EF1VAR and F2VAR, expression by
 -- expression in binary32 and in its names, with `esind`, `ground_constants` and `timvar_clck`. What
 -- it has for a month, 'set', is `Monthly`, worked out once. Assumes nothing.
-use Rattle.std.specs.Prelude.{ℕ, ◌+◌, ◌-◌, ◌*◌, Bool, true, false, cond, List, [], ◌∷◌, ◌==◌, slice_index_or, Float}
+use Rattle.std.specs.Prelude.{ℕ, ◌+◌, ◌-◌, ◌*◌, true, false, cond, List, [], ◌∷◌, ◌==◌, slice_index_or, Float}
 use Rattle.std.specs.Float.{nan, binary32}
 use Rattle.std.specs.Float.Ieee.{neg, lt, le}
 use Rattle.base.specs.declared.angle.Degrees.{Degrees}

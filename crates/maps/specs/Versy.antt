@@ -1,7 +1,7 @@
 -- `versy` of ionosphere.rs: a map's value is the sum of its time coefficients D_j, each times a
 -- geographic function G_j of the place, and the geographic functions are given in closed form from
 -- the map's ladder of words. Series.antt has the whole formula. Assumes nothing.
-use Rattle.std.specs.Prelude.{ℕ, zero, suc, ◌+◌, ◌-◌, ◌*◌, ◌/◌, ◌%◌, cond, List, get_or, replicate, pos, ◌==◌, nat_le, slice_index, slice_index_or, Float}
+use Rattle.std.specs.Prelude.{ℕ, zero, suc, ◌+◌, ◌-◌, ◌/◌, ◌%◌, cond, List, get_or, replicate, pos, ◌==◌, nat_le, slice_index, slice_index_or, Float}
 use Rattle.std.specs.Float.{nan, binary32}
 use Rattle.std.specs.Float.Ieee.{of_int, mul}
 use Rattle.base.specs.Double.{◌⊕◌, ◌⊗◌, fraction}

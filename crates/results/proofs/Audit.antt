@@ -4,7 +4,7 @@ use lib.ListN.{length}
 use Rattle.auditing.specs.Marks.{marks_of}
 use Rattle.auditing.specs.Provenance.{standing}
 use Rattle.results.specs.Audit.{NamedMake, NamedMakeLent, NamedStands, OpenedStands, StandingChanges, OriginByMarks, KeptByMarks, KeptPlacesBelow, FateByMarks, FateStands, FateCancelled, FateTakenBack, FateNever, RefusedLast, RefusedNever}
-use Rattle.results.proofs.sheet.ClosedDesks.{at_rest}
+use Rattle.results.proofs.sheet.ClosedDesks.{at_rest_law}
 use Rattle.results.proofs.provenance.Changes as Changes
 use Rattle.results.proofs.provenance.Named as Named
 use Rattle.results.proofs.provenance.Origins as Origins
@@ -17,10 +17,10 @@ pub named_make : NamedMake
 named_make = Changes.named_make
 
 pub named_make_lent : NamedMakeLent
-named_make_lent source w h = Changes.named_make_lent source w (at_rest w h)
+named_make_lent source w h = Changes.named_make_lent source w (at_rest_law w h)
 
 pub named_stands : NamedStands
-named_stands source w h = Named.named_stands source w (at_rest w h)
+named_stands source w h = Named.named_stands source w (at_rest_law w h)
 
 pub opened_stands : OpenedStands
 opened_stands w entries part = Named.none_named part (standing w entries)
@@ -29,7 +29,7 @@ pub standing_changes : StandingChanges
 standing_changes = Changes.standing_changes
 
 pub origin_by_marks : OriginByMarks
-origin_by_marks source w h = Origins.origin_by_marks source w (at_rest w h)
+origin_by_marks source w h = Origins.origin_by_marks source w (at_rest_law w h)
 
 pub kept_by_marks : KeptByMarks
 kept_by_marks = Places.kept_by_marks
@@ -41,7 +41,7 @@ pub fate_by_marks : FateByMarks
 fate_by_marks = Fates.fate_by_marks
 
 pub fate_stands : FateStands
-fate_stands source w h = Standing.fate_stands source w (at_rest w h)
+fate_stands source w h = Standing.fate_stands source w (at_rest_law w h)
 
 pub fate_cancelled : FateCancelled
 fate_cancelled = FatesTold.fate_cancelled

@@ -18,7 +18,7 @@ use Rattle.jutetrowel.specs.Calls.{words_by, words_left}
 use Rattle.jutetrowel.proofs.lists.Carried as Carried
 use Rattle.jutetrowel.proofs.crossing.Unopened as Unopened
 use Rattle.results.specs.CancelledEdits.{DemandThree, DemandThreeOver, DemandThreeLent, DemandThreeOverLent, KeptInOrder, JustBefore, NothingElse, RefusedBuffer, OpenRefused, SheetRefused, RefusedSheet, RefusedWords}
-use Rattle.results.proofs.sheet.ClosedDesks.{at_rest}
+use Rattle.results.proofs.sheet.ClosedDesks.{at_rest_law}
 
 pub demand_3 : DemandThree
 demand_3 f2 file = Rules.demand_3 (pair f2 file)
@@ -27,10 +27,10 @@ pub demand_3_over : DemandThreeOver
 demand_3_over f2 file = Carried.demand_3_over (pair f2 file)
 
 pub demand_3_lent : DemandThreeLent
-demand_3_lent source w h = Rules.demand_3_lent source w (at_rest w h)
+demand_3_lent source w h = Rules.demand_3_lent source w (at_rest_law w h)
 
 pub demand_3_over_lent : DemandThreeOverLent
-demand_3_over_lent source l h = Carried.demand_3_over_lent source l (worksheet_of l) refl (at_rest (worksheet_of l) h)
+demand_3_over_lent source l h = Carried.demand_3_over_lent source l (worksheet_of l) refl (at_rest_law (worksheet_of l) h)
 
 pub kept_in_order : KeptInOrder
 kept_in_order = Kept.kept_in_order

@@ -1,7 +1,6 @@
 -- The calls that a program makes as demand 3's, and what a program is handed back of a step.
 -- Assumes nothing.
-use Rattle.std.specs.Prelude.{List, ◌≡◌, Float}
-use Rattle.worksheet.specs.declared.desks.Outcome.{Outcome}
+use Rattle.std.specs.Prelude.{List, Float}
 use Rattle.worksheet.specs.declared.journal.Call.{Call as ProgramCall}
 use Rattle.worksheet.specs.declared.journal.Call.TheVariants.{Begin, Change, Commit, Cancel, TakeBack, Show}
 use Rattle.worksheet.specs.declared.journal.Answer.{Answer as Handed}

@@ -1,16 +1,14 @@
 -- A month file that passes the index check gives, for each map, a ladder within 75, terms within
 -- the map's rows and harmonics within its own, so that every index that `virtim` and `versy` make
 -- of them is inside its array. Assumes nothing.
-use Rattle.std.proofs.Common.{◌≡◌, ℕ, zero, suc, ◌+◌, ◌-◌, ◌*◌, ◌%◌, ◌^◌, ◌<◌, ◌≤◌, Bool, true, false, cond, ◌⊎◌, List, get_or, ℤ, pos, sym, refl, ap, ◌∙◌, subst, inl, inr, add-zero, zero-add, add-one, arith}
+use Rattle.std.proofs.Common.{◌≡◌, ℕ, zero, suc, ◌+◌, ◌-◌, ◌*◌, ◌%◌, ◌<◌, ◌≤◌, Bool, true, false, cond, ◌⊎◌, List, get_or, ℤ, sym, refl, ap, ◌∙◌, subst, inl, inr, add-zero, zero-add, add-one, arith}
 use Rattle.base.specs.declared.refusal.Verdict.TheVariants.{Accepted, Refused}
 use Rattle.base.specs.declared.refusal.Refusal.TheVariants.{Index}
-use Rattle.base.specs.Number.{signed_of}
-use Rattle.base.specs.Words.{integer_at}
 use Rattle.base.specs.Index.{ikim_at, index_of, map_word, rows, harmonics, good_map, lowest_bad, index_check, Climbs, top, level, up, GoodIndex, Reaches}
 use Rattle.base.specs.Blend.{IA, IB, IC}
 use Rattle.base.proofs.lists.Fills.{run_at}
 use Rattle.base.proofs.verdicts.Refusals.{refused_not_accepted}
-use Rattle.base.proofs.ladder.Ladders.{map_words, same_words, signed_small, good_known, six, limits}
+use Rattle.base.proofs.ladder.Ladders.{map_words, same_words, good_known, six, limits}
 
 -- ---- no map is bad
 

@@ -6,7 +6,7 @@ use borrow.Author.Tests.{lt-leb}
 use Rattle.base.specs.declared.refusal.Refusal.TheVariants.{Year}
 use Rattle.base.specs.declared.refusal.Verdict.TheVariants.{Accepted, Refused}
 use Rattle.base.specs.Ranges.{is_month, is_bit}
-use Rattle.base.specs.MonthFile.{Part, empty_part}
+use Rattle.base.specs.MonthFile.{empty_part}
 use Rattle.base.specs.Year.{offset_at, length_at, end_at, is_there, floor_at, is_after, keeps_rules, pairs_check, year_check, pair_part, year_month, year_model}
 use Rattle.base.proofs.verdicts.Picks.{cond_true, cond_false, never}
 

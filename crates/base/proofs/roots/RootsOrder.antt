@@ -4,7 +4,7 @@ use Rattle.std.proofs.Common.{◌≡◌, ℕ, zero, suc, ◌+◌, ◌-◌, ◌*�
 use Prim.Native.Nat.{compare}
 use native.Mathlib.Nat.{mul-mul-mul_comm, div-div-eq-div-mul}
 use native.Mathlib.Decide.{dec_lt}
-use lib.Ieee.{Float, nan, inf, fin, Format, binary64, round, prec, emax, low, up, down, size, nearest, units, le, is_nan}
+use lib.Ieee.{Float, nan, inf, fin, Format, prec, emax, low, up, down, size, nearest, units, le, is_nan}
 use lib.Ieee.Digits.{size-lt, size-le, size_reaches}
 use lib.Ieee.Fits.{nearest-le, up_pos, down_pos, two, two-le_pos}
 use lib.Ieee.Exact.{HasValue, units_val}
@@ -12,7 +12,6 @@ use lib.Ieee.Nearest.{nearest-ge, div_mono}
 use lib.Ieee.Order.{le_of_values}
 use lib.Ieee.Scale.{finite}
 use lib.Ieee.Positive.{den, den_pos}
-use Rattle.base.specs.Double.{fraction}
 use Rattle.base.specs.Number.{root, closest_root, rounded, sqrt_of}
 use Rattle.base.proofs.rounding.Rounding.{units_inf}
 use Rattle.base.proofs.rounding.Halves.{nearest_below, nearest_at, nearest_above}

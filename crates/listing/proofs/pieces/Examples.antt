@@ -1,11 +1,10 @@
 -- Some lines in words, by computation. Assumes nothing.
-use Prim.Native.Nat.{ℕ}
 use mathlib.Core.Path.{◌≡◌, refl}
 use mathlib.Core.Bool.{false}
 use lib.IntN.{pos}
 use mathlib.Core.List.{List, [], ◌∷◌, ◌++◌}
 use lib.ListN.{replicate}
-use lib.Ieee.{Float, nan, fin, binary32, of_bits, round, size}
+use lib.Ieee.{Float, nan, fin, of_bits, round, size}
 use Rattle.base.specs.declared.angle.Degrees.{Degrees}
 use Rattle.base.specs.declared.refusal.Refusal.TheVariants.{Stale, Marker}
 use Rattle.base.specs.declared.refusal.Verdict.TheVariants.{Accepted, Refused}

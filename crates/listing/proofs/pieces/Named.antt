@@ -8,7 +8,7 @@ use native.Mathlib.Omega.{arith}
 use lib.Dec.{eqb, leb, leb→le}
 use lib.ListN.{length, get_or, take, replicate, set, length-append, get_or-map}
 use lib.Seq.{length-take-le, get_or-set_other}
-use lib.Ieee.{Float, nan}
+use lib.Ieee.{nan}
 use Rattle.base.proofs.lists.Entries.{at as entry}
 use Rattle.maps.specs.declared.inputs.Inputs.{Inputs}
 use Rattle.wording.specs.Token.{ascii}

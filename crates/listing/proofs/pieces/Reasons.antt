@@ -2,8 +2,8 @@
 -- whole table, and how long each text is at most. Assumes nothing.
 use mathlib.Core.Path.{◌≡◌, refl, sym, ap, ◌∙◌}
 use mathlib.Core.Bool.{Bool, true, false, cond}
-use mathlib.Core.List.{List, [], ◌∷◌, ◌++◌, map}
-use Prim.Native.Nat.{ℕ, ◌+◌, ◌^◌, ◌≤◌, ◌<◌}
+use mathlib.Core.List.{List, [], ◌++◌, map}
+use Prim.Native.Nat.{ℕ, ◌≤◌, ◌<◌}
 use Prim.Native.String.{String}
 use native.Mathlib.Omega.{arith}
 use lib.Dec.{eqb, leb, leb→le}
@@ -16,7 +16,6 @@ use Rattle.base.specs.declared.refusal.Verdict.{Verdict}
 use Rattle.base.specs.declared.refusal.Verdict.TheVariants.{Accepted, Refused}
 use Rattle.base.specs.Refusal.{report_of}
 use Rattle.wording.specs.Token.{ascii}
-use Rattle.listing.specs.Text.{decimal_of}
 use Rattle.listing.specs.Reason.{reason_of, reasons, reason_row, refused_words}
 use Rattle.listing.specs.Survey.{model_name, found_text}
 use Rattle.listing.proofs.digits.Places.{at_most_10, at_most_20}

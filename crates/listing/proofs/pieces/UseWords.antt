@@ -1,5 +1,5 @@
 -- The words and names of uses: how long they are at most, by case. Assumes nothing.
-use Prim.Native.Nat.{ℕ, ◌≤◌}
+use Prim.Native.Nat.{◌≤◌}
 use native.Mathlib.Omega.{arith}
 use lib.ListN.{length, length-append}
 use Rattle.maps.specs.declared.geometry.Use.{Use}

@@ -3,7 +3,7 @@
 use mathlib.Core.Path.{◌≡◌, refl, sym, ap, ◌∙◌}
 use mathlib.Core.Bool.{Bool, true, false, cond}
 use mathlib.Core.List.{List, [], ◌∷◌, ◌++◌, append-nil}
-use Prim.Native.Nat.{ℕ, ◌+◌, ◌/◌, ◌^◌, ◌≤◌, ◌<◌}
+use Prim.Native.Nat.{ℕ, ◌/◌, ◌^◌, ◌≤◌, ◌<◌}
 use native.Mathlib.Nat.{div-le_self}
 use native.Mathlib.Omega.{arith}
 use borrow.Author.Tests.{ne_eqb, eqb-true, lt-ltb, le-leb, leb-true}
@@ -18,7 +18,6 @@ use Rattle.wording.specs.Token.{ascii}
 use Rattle.listing.specs.Text.{decimal_of}
 use Rattle.listing.specs.Decimal.{minus_of}
 use Rattle.listing.specs.Written.{places_text, fraction_text, digits_text, number_text}
-use Rattle.listing.proofs.digits.Quotients.{by_none}
 use Rattle.listing.proofs.pieces.Fractions.{no_digits, few_digits, few_places, length_fraction}
 use Rattle.listing.proofs.reread.Digits.{digits_append, decimal_digits, places_digits, decimal_some, value_append, value_places, value_decimal}
 

@@ -1,6 +1,6 @@
 -- A buffer written from its start, one list after the other, starts with those lists; written to
 -- its end it is them. Assumes nothing.
-use Rattle.std.proofs.Common.{◌≡◌, ℕ, zero, suc, ◌+◌, ◌*◌, ◌≤◌, List, ◌++◌, length, get_or, sym, ap, ◌∙◌, subst, arith, ext_get_or}
+use Rattle.std.proofs.Common.{◌≡◌, ℕ, ◌+◌, List, ◌++◌, length, get_or, sym, ap, ◌∙◌, arith, ext_get_or}
 use lib.Ieee.{Float, nan}
 use Rattle.base.specs.Fill.{fill, tabulate}
 use Rattle.base.proofs.lists.Fills.{length_run, run_at}

@@ -1,8 +1,8 @@
 -- A sheet's figures come from its inputs, its record and its month file alone: whatever the buffer
 -- held, all of it is overwritten or none. And of the inputs the path, its points, the field there
 -- and the ground take route and pole only. Read off the definitions. Assumes nothing.
-use Rattle.std.proofs.Common.{◌≡◌, ℕ, zero, suc, ◌+◌, ◌*◌, Bool, true, false, cond, ltb, List, [], ◌∷◌, ◌++◌, length, get_or, take, drop, replicate, sym, refl, ap, ◌∙◌, arith, length-append}
-use lib.Ieee.{Float, nan}
+use Rattle.std.proofs.Common.{◌≡◌, ℕ, zero, suc, ◌+◌, ◌*◌, Bool, true, false, cond, ltb, List, ◌++◌, length, get_or, take, drop, replicate, sym, refl, ap, ◌∙◌, arith, length-append}
+use lib.Ieee.{Float}
 use Rattle.base.specs.declared.refusal.Refusal.{Refusal}
 use Rattle.base.specs.declared.refusal.Verdict.{Verdict}
 use Rattle.base.specs.declared.refusal.Verdict.TheVariants.{Accepted, Refused}
@@ -11,7 +11,7 @@ use Rattle.base.specs.Single.{decimal}
 use Rattle.base.specs.Files.{files_check}
 use Rattle.maps.specs.declared.inputs.Inputs.{Inputs}
 use Rattle.maps.specs.declared.inputs.Route.{Route}
-use Rattle.maps.specs.declared.figures.Shown.TheVariants.{Points, Refused as NotShown}
+use Rattle.maps.specs.declared.figures.Shown.TheVariants.{Refused as NotShown}
 use Rattle.maps.specs.declared.inputs.MagneticPole.{MagneticPole}
 use Rattle.maps.specs.declared.geometry.ControlPoint.{ControlPoint}
 use Rattle.maps.specs.declared.geometry.PathGeometry.{PathGeometry}

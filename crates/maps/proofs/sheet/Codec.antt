@@ -1,7 +1,7 @@
 -- Fields written as words and read again are the same fields, if their numbers are values of an
 -- f32, as those read off words are; and words read and written again are the same words, if no NaN
 -- is there but the one that is written. Field by field. Assumes nothing.
-use Rattle.std.proofs.Common.{◌≡◌, ℕ, ◌^◌, ◌<◌, not, T, ◌⊎◌, List, [], ◌∷◌, get_or, sym, refl, ap, ◌∙◌, inl, inr}
+use Rattle.std.proofs.Common.{◌≡◌, ℕ, ◌^◌, ◌<◌, not, T, ◌⊎◌, [], ◌∷◌, get_or, sym, ap, ◌∙◌, inl, inr}
 use lib.Ieee.{Float, binary32, is_nan, of_bits, to_bits}
 use lib.Ieee.Bits.{of_bits-to_bits, of_bits-fits, to_bits-of_bits}
 use Rattle.maps.specs.declared.inputs.Inputs.{Inputs}

@@ -1,11 +1,7 @@
 -- `put_word` fills four bytes with the word's. The loop's invariant: the first k are filled.
-use borrow.Author.Rules.{rules}
-use mathlib.Core.Path.{◌≡◌, refl, sym, ap, ◌∙◌}
-use Prim.Native.Nat.{ℕ, ◌+◌, ◌≤◌, ◌-◌}
-use native.Mathlib.Omega.{arith}
-use lib.ListN.{get_or, set}
+use mathlib.Core.Path.{◌≡◌}
+use Prim.Native.Nat.{◌≤◌, ◌-◌}
 use Rattle.base.specs.Fill.{fill}
-use Rattle.base.proofs.lists.Fills.{fill_next}
 use Rattle.packing.proofs.pairs.Written.{byte_of}
 use Rattle.packing.proofs.put_word.Given as goal
 

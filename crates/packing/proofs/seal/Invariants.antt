@@ -1,16 +1,9 @@
 -- `seal` makes the buffer the year file of the parts that lie in it. The loop's invariant: the pairs
 -- of the first k parts are written, and the part k starts at `at`; starts rise up to the file's end.
-use borrow.Author.Rules.{rules}
-use mathlib.Core.Path.{◌≡◌, refl, sym, ap, ◌∙◌}
-use mathlib.Core.List.{List, ◌++◌}
-use Prim.Native.Nat.{ℕ, ◌+◌, ◌*◌, ◌≤◌, ◌-◌}
-use native.Mathlib.Omega.{arith}
-use lib.ListN.{length, get_or, drop}
-use Rattle.base.specs.Fill.{fill}
-use Rattle.packing.specs.Pack.{start_in, pairs_of, sealed_file}
-use Rattle.packing.proofs.pairs.Starts.{start_more, start_rises}
-use Rattle.packing.proofs.pairs.Written.{begun, byte_of, begun_next}
-use Rattle.packing.proofs.pairs.Sealed.{sealed_file_law, sealed_none}
+use mathlib.Core.Path.{◌≡◌}
+use Prim.Native.Nat.{◌≤◌, ◌-◌}
+use Rattle.packing.specs.Pack.{start_in}
+use Rattle.packing.proofs.pairs.Written.{begun}
 use Rattle.packing.proofs.seal.Given as goal
 
 abbrev pub invariant-loop-k : goal.invariant-loop-k

@@ -1,12 +1,8 @@
 -- `size_of_year` is where a part behind the last would start. The loop's invariant: n is where the
 -- part k starts, with room for k sizes of 2^32 - 1.
-use borrow.Author.Rules.{rules}
-use mathlib.Core.Path.{◌≡◌, refl, ap, ◌∙◌}
-use Prim.Native.Nat.{ℕ, ◌+◌, ◌*◌, ◌≤◌, ◌-◌}
-use native.Mathlib.Omega.{arith}
-use lib.ListN.{get_or}
+use mathlib.Core.Path.{◌≡◌}
+use Prim.Native.Nat.{◌+◌, ◌*◌, ◌≤◌, ◌-◌}
 use Rattle.packing.specs.Pack.{start_in}
-use Rattle.packing.proofs.pairs.Starts.{start_more}
 use Rattle.packing.proofs.size_of_year.Given as goal
 
 abbrev pub invariant-loop-k : goal.invariant-loop-k

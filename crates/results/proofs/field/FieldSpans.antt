@@ -1,15 +1,13 @@
 -- The field's expansion over intervals (`Spans`), step by step as `expansion_of`: what holds the
 -- sines, the cosines and s of a place gives what holds its field. Assumes nothing.
-use mathlib.Core.Path.{◌≡◌}
 use mathlib.Core.Bool.{Bool, true, false, cond}
 use mathlib.Core.List.{List, [], ◌∷◌}
 use Prim.Native.Nat.{ℕ, zero, suc, ◌+◌, ◌-◌, ◌*◌}
 use lib.Dec.{eqb}
 use lib.IntN.{pos}
 use lib.ListN.{get_or, set, replicate}
-use lib.Ieee.{Float, nan, binary32, neg, of_int}
+use lib.Ieee.{Float, binary32, neg, of_int}
 use Rattle.base.specs.Single.{◌⊕◌, ◌⊖◌, ◌⊗◌, ◌⊘◌, decimal}
-use Rattle.base.specs.Number.{sqrt_of}
 use Rattle.base.specs.Elementary.{sin32_of, cos32_of}
 use Rattle.base.specs.declared.angle.Radians.{Radians}
 use Rattle.results.proofs.numbers.Spans.{Span, any, In, point, plus, minus, times, negated, rooted, Each, points, point_in, plus_in, minus_in, times_in, negated_in, rooted_in, each_at, each_set, points_in}
@@ -19,7 +17,7 @@ use Rattle.maps.specs.declared.magnetic.Place.{Place}
 use Rattle.maps.specs.declared.magnetic.Element.{Element}
 use Rattle.maps.specs.declared.magnetic.Sums.{Sums}
 use Rattle.maps.specs.declared.magnetic.Field.{Field}
-use Rattle.maps.specs.Magnetic.{o, HC, CT, G, H, entry, at, at7, clamped_place, multiple_of, multiples_of, powers_of, placed_of, element_of, State, state, order_of, orders_of, degree_of, expansion_of}
+use Rattle.maps.specs.Magnetic.{o, HC, CT, G, H, entry, at7, clamped_place, multiple_of, multiples_of, powers_of, placed_of, element_of, State, order_of, orders_of, degree_of, expansion_of}
 
 -- ---- a loop keeps what its body keeps
 module _ {A B : Type 0} (R : A → B → Type 0) (f : ℕ → A → A) (g : ℕ → B → B) (step : (m : ℕ) (x : A) (y : B) → R x y → R (f m x) (g m y)) where

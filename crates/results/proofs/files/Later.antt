@@ -1,7 +1,7 @@
 -- Files that agree in their first bytes are checked and read alike, whatever follows: every word
 -- that is asked for lies among those bytes. Assumes nothing.
 use mathlib.Core.Path.{◌≡◌, refl, sym, ap, ◌∙◌}
-use mathlib.Core.Bool.{Bool, true, false, cond, ◌&&◌}
+use mathlib.Core.Bool.{Bool, true, cond, ◌&&◌}
 use mathlib.Core.List.{List, [], ◌∷◌, ◌++◌}
 use Prim.Native.Nat.{ℕ, zero, suc, ◌+◌, ◌-◌, ◌*◌, ◌/◌, ◌≤◌, ◌<◌}
 use native.Mathlib.Omega.{arith}
@@ -14,8 +14,7 @@ use lib.Ieee.Scale.{finite}
 use borrow.Author.Tests.{le-leb}
 use Rattle.base.specs.declared.refusal.Refusal.{Refusal}
 use Rattle.base.specs.declared.refusal.Refusal.TheVariants.{Index, Marker, Ended, RecordWord, MonthWord}
-use Rattle.base.specs.declared.refusal.Verdict.{Verdict}
-use Rattle.base.specs.declared.refusal.Verdict.TheVariants.{Accepted, Refused}
+use Rattle.base.specs.declared.refusal.Verdict.TheVariants.{Refused}
 use Rattle.base.specs.declared.blend.Weights.{Weights}
 use Rattle.base.specs.Refusal.{◌then◌}
 use Rattle.base.specs.Number.{signed_of}

@@ -31,6 +31,7 @@ ended_marker p q e = let x : ◌≡◌ {A = ℕ} 9 10 = ap (λ (v : Verdict). (v
 -- ---- '10 at a wrong marker': the first one, where its four bytes are there
 
 not_before : (s : List ℕ) (at : ℕ) (ns : List ℕ) (p : ℕ) → FirstWrong s at ns p → at ≤ p
+not_before s at [] p w = elim w [ ]
 not_before s at (n ∷ ns) p (opening d) = omega arith
 not_before s at (n ∷ ns) p (closing o d) = omega arith
 not_before s at (n ∷ ns) p (beyond o c r) = let h = not_before s (at + n + 8) ns p r in omega arith
@@ -38,6 +39,7 @@ not_before s at (n ∷ ns) p (beyond o c r) = let h = not_before s (at + n + 8) 
 wrong_walk :
     (s : List ℕ) (at : ℕ) (ns : List ℕ) (p : ℕ) → Fours ns → at % 4 ≡ 0 → FirstWrong s at ns p → p + 4 ≤ length s →
     walk s at (layout ns) ≡ Refused (Marker p)
+wrong_walk s at [] p f m w l = elim w [ ]
 wrong_walk s at (n ∷ ns) p f m (opening d) l = bad_open s at n ns m f.0 (omega arith) l d
 wrong_walk s at (n ∷ ns) p f m (closing o d) l = bad_close s at n ns m f.0 (omega arith) (omega arith) o (omega arith) d
 wrong_walk s at (n ∷ ns) p f m (beyond o c r) l =

@@ -10,15 +10,15 @@ use native.Mathlib.Omega.{arith}
 use lib.Dec.{T, lit<}
 use lib.IntN.{pos, negsuc}
 use lib.Pow.{pow_pos, pow_mono}
-use lib.Ieee.{Float, nan, inf, fin, Format, binary32, binary64, up, down, round, neg, add, sub, mul, lt, le, is_nan, to_unsigned}
-use lib.Ieee.Fits.{and_l, and_r, down_pos}
+use lib.Ieee.{Float, nan, inf, fin, Format, binary64, up, down, round, neg, add, sub, mul, lt, le, is_nan, to_unsigned}
+use lib.Ieee.Fits.{down_pos}
 use lib.Ieee.Order.{round_mono}
 use lib.Ieee.Scale.{finite}
 use lib.Ieee.Positive.{den, den_pos}
 use Rattle.base.specs.Double.{◌⊕◌, ◌⊖◌, ◌⊗◌, fraction}
 use Rattle.base.specs.Number.{negative, abs_of, narrow_of}
 use Rattle.base.specs.Elementary.{near_of, power_of_two, horner, factorial, up_from, exp_terms, ln2, exp_within, exp_of, exp32_of}
-use Rattle.base.proofs.order.Order.{nought, plus, less, Between, le→cross, le_left, le_right, no_nan_finite, refl_le, finite_between, trans_le, lt→le, not-lt→le, abs_not_below, abs_no_nan, abs→le, le→abs, size_between}
+use Rattle.base.proofs.order.Order.{nought, plus, less, Between, le→cross, le_left, no_nan_finite, refl_le, finite_between, trans_le, lt→le, not-lt→le, abs_not_below, abs_no_nan, abs→le, le→abs, size_between}
 use Rattle.base.proofs.order.Monotone.{Rounds, rounds_mono, rounds_not_below, add_rounds, mul_rounds, add_size, mul_size, sub_size, abs_finite, narrow_no_nan, narrow_size}
 use Rattle.base.proofs.order.Intervals.{every, all, exactly, add_in, sub_in, mul_about}
 use Rattle.results.proofs.numbers.Sizes.{Sized}

@@ -5,7 +5,6 @@ use mathlib.Core.Bool.{not}
 use mathlib.Core.List.{List}
 use Prim.Native.Nat.{ℕ, ◌+◌, ◌*◌, ◌≤◌, ◌<◌}
 use lib.Dec.{T, lit≤, lit<}
-use lib.ListN.{get_or}
 use lib.Ieee.{Float, nan, binary32, round, units, odd, of_bits, add, sub, mul, div, neg, is_nan}
 use lib.Ieee.Scale.{finite}
 use Rattle.base.specs.Single.{decimal}

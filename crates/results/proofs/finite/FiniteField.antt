@@ -9,42 +9,41 @@ use Prim.Native.Nat.{ℕ, zero, suc, ◌+◌, ◌-◌, ◌*◌, ◌^◌, ◌≤�
 use native.Mathlib.Nat.{zero-mul, mul-pos, zero-lt-suc, pow-succ', eq-zero-or-pos}
 use native.Mathlib.Omega.{arith}
 use native.Mathlib.Decide.{dec_lt}
-use lib.Dec.{T, eqb, ltb, ltb→lt, lt→ltb}
+use lib.Dec.{T, eqb, ltb→lt, lt→ltb}
 use lib.IntN.{ℤ, pos, negsuc}
 use lib.Pow.{pow_pos}
 use borrow.Author.Tests.{lt-ltb, ne_eqb}
-use lib.Ieee.{Float, nan, inf, fin, Format, binary32, binary64, up, down, unlike, fits, round, neg, sum, add, sub, mul, div, lt, le, is_nan, of_int, to_unsigned}
+use lib.Ieee.{Float, nan, inf, fin, binary32, binary64, up, down, unlike, fits, round, neg, sum, add, sub, mul, div, lt, le, is_nan, of_int, to_unsigned}
 use lib.Ieee.Fits.{and_l, and_r, add-fits, up_pos, down_pos, eq→eqb}
 use lib.Ieee.Scale.{finite}
 use lib.Ieee.Positive.{positive, den_pos}
 use Rattle.base.specs.declared.angle.Radians.{Radians}
-use Rattle.base.specs.Single.{◌⊕◌, ◌⊖◌, ◌⊗◌, ◌⊘◌, decimal, minus_decimal}
+use Rattle.base.specs.Single.{◌⊕◌, ◌⊗◌, ◌⊘◌, decimal, minus_decimal}
 use Rattle.base.specs.Double.{fraction}
 use Rattle.base.specs.Number.{negative, abs_of, narrow_of, sqrt_of}
 use Rattle.base.specs.Constants.{D2R, PI, PI2}
 use Rattle.base.specs.Angle.{radians_of}
-use Rattle.base.specs.Elementary.{near_of, quarter_of, turns_of, half_pi, horner, factorial, up_from, alternating, sin_terms, cos_terms, sin32_of, cos32_of, atan32_of}
-use Rattle.base.proofs.verdicts.Picks.{cond_true, cond_false}
-use Rattle.base.proofs.order.Order.{gain, loss, nought, abs_fin, abs_neg, neg_finite, Between, wider, le→cross, cross→le, trans_le, le_left, le_right, not-lt→le, lt→le, le→abs, abs→le, total_le, refl_le, no_nan_finite, finite_between, between_finite, size_between}
-use Rattle.base.proofs.order.Monotone.{Rounds, rounds_mono, div_rounds, square_not_below, mul_size, div_size, positive_plus}
+use Rattle.base.specs.Elementary.{near_of, quarter_of, turns_of, half_pi, factorial, up_from, alternating, sin_terms, cos_terms, sin32_of, cos32_of, atan32_of}
+use Rattle.base.proofs.verdicts.Picks.{cond_true}
+use Rattle.base.proofs.order.Order.{gain, loss, nought, abs_fin, abs_neg, neg_finite, Between, wider, le→cross, cross→le, trans_le, not-lt→le, lt→le, le→abs, abs→le, total_le, refl_le, between_finite, size_between}
+use Rattle.base.proofs.order.Monotone.{div_rounds, square_not_below, mul_size, div_size, positive_plus}
 use Rattle.base.proofs.steps.Reduction.{factor, big}
 use Rattle.base.proofs.order.Intervals.{every, exactly, add_in, mul_about, sqrt_in}
 use Rattle.results.proofs.numbers.Bounds.{atan32_size}
 use Rattle.base.proofs.roots.NearestRoot.{sqrt_nearest}
 use Rattle.results.proofs.numbers.Sizes.{Sized, times_sized, between_sized, sized_number, sized_finite}
-use Rattle.results.proofs.numbers.Spans.{Span, any, span, In, Held, made, point, points, plus, minus, times, negated, rooted, narrowed, lesser, greater, hull, horner_in, inside, inside_between, rounds_number}
+use Rattle.results.proofs.numbers.Spans.{span, In, made, point, points, plus, minus, times, negated, rooted, narrowed, lesser, greater, hull, horner_in, inside, inside_between, rounds_number}
 use Rattle.results.proofs.numbers.SineSpans.{reduced_in, sin_series_in, cos_series_in, sin_at_in, sin32_in, sin32_held}
 use Rattle.maps.specs.declared.magnetic.Position.{Position}
-use Rattle.maps.specs.declared.magnetic.Field.{Field}
 use Rattle.maps.specs.declared.magnetic.Une.{Une}
 use Rattle.maps.specs.declared.magnetic.MagneticVars.{MagneticVars}
 use Rattle.maps.specs.Loop.{loop, times as turnsFrom}
-use Rattle.maps.specs.Magnetic.{o, RD, HC, CT, G, H, clamped_place, aor_step, powers_of, placed_of, expansion_of, magfin_of, east_of, gob_of, magvar_of}
+use Rattle.maps.specs.Magnetic.{o, RD, HC, CT, G, H, clamped_place, aor_step, powers_of, placed_of, magfin_of, east_of, gob_of, magvar_of}
 use Rattle.results.proofs.clock.Clock.{farthest, Longitude}
 use Rattle.results.proofs.field.Sines.{Turn, turns, turns_is, whole, top, right_of, left_of, held, full, above_away}
 use Rattle.results.proofs.path.Longitudes.{two, four, sixteen, angle, sines, lon_sized, quotient_number, neg_sized}
 use Rattle.maps.proofs.field.FieldSums.{magfin_arrays}
-use Rattle.results.proofs.field.FieldSpans.{PlaceIn, HasPlace, Work, HasExpansion, multiple_in, multiples_in, element_in, order_in, orders_in, degree_in, expansion_in, place_in, place_in_law, expansion_at}
+use Rattle.results.proofs.field.FieldSpans.{PlaceIn, multiple_in, multiples_in, element_in, order_in, orders_in, degree_in, expansion_in, place_in, place_in_law, expansion_at}
 
 -- ---- the sine of a latitude up to 89.9 degrees
 -- 1 - 2 ^ -20

@@ -22,7 +22,7 @@ use Rattle.base.specs.Double.{fraction}
 use Rattle.base.specs.Number.{negative, abs_of, min_of, max_of, narrow_of, sqrt_of}
 use Rattle.base.specs.Constants.{D2R, R2D, PI, PI2}
 use Rattle.base.specs.Angle.{radians_of, degrees_of}
-use Rattle.base.specs.Elementary.{near_of, turns_of, reduced_of, quarter_of, half_pi, horner, factorial, up_from, alternating, sin_terms, cos_terms, sin_series, cos_series, sin_at, cos_at, sin_of, cos_of, sin32_of, cos32_of, acos_of, acos32_of, ln_of, ln32_of, exp32_of}
+use Rattle.base.specs.Elementary.{near_of, turns_of, reduced_of, quarter_of, half_pi, horner, factorial, up_from, alternating, sin_terms, cos_terms, sin_series, cos_series, sin_at, cos_at, sin_of, cos_of, sin32_of, cos32_of, acos_of, acos32_of, exp32_of}
 use Rattle.base.specs.Words.{float_at}
 use Rattle.base.specs.Tables.{start_of, anew, bnew, achi, bchi, abmap}
 use Rattle.base.proofs.verdicts.Picks.{cond_false}

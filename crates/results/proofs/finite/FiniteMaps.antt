@@ -24,8 +24,8 @@ use Rattle.base.specs.Angle.{radians_of}
 use Rattle.base.specs.Elementary.{sin_of, sin32_of, cos32_of}
 use Rattle.base.specs.Fill.{fill}
 use Rattle.base.specs.Words.{float_at}
-use Rattle.base.specs.Tables.{start_of, words_of, plane_of, xf2cof, xfm3cf, xesmcf, xpmap, xeslcf, xesucf, xercof, fakmap}
-use Rattle.base.specs.Blend.{blend_of, blend_at, f2_weights, e_weights, height_weights, eslcof_of, esmcof_of, esucof_of, f2cof_of, fm3cof_of, ercof_of, hmym_of, fakmap_of, cofion_maps, cofion_of, IA, IB, IC}
+use Rattle.base.specs.Tables.{start_of, words_of, plane_of, xf2cof, xfm3cf, xesmcf, xpmap, xeslcf, xesucf, xercof}
+use Rattle.base.specs.Blend.{blend_of, blend_at, f2_weights, e_weights, height_weights, eslcof_of, esmcof_of, esucof_of, f2cof_of, fm3cof_of, ercof_of, hmym_of, cofion_maps, cofion_of, IA, IB, IC}
 use Rattle.base.specs.Index.{map_word, rows}
 use Rattle.base.proofs.order.Order.{nought, Between}
 use Rattle.base.proofs.order.Intervals.{every}

@@ -16,7 +16,7 @@ use Rattle.worksheet.specs.declared.desks.Worksheet.{Worksheet}
 use Rattle.worksheet.specs.Inputs.{edited}
 use Rattle.worksheet.specs.Showing.{Source}
 use Rattle.worksheet.specs.Journal.{Call, Role, beginning, ending, settling, belonging, returning, showing, role_of, Entry, accepted, role_in, good, step, entry_of, run, is_begin, is_own, begins, belongs, own, none}
-use Rattle.worksheet.specs.InForce.{edits_in, edits_of, changed, AcceptedCommit, Standing, changes_by, inputs_by, Force, standing_at, standing_before, force_in, pushed, returned_to, force_by, force_after, is_disturbing, disturbs}
+use Rattle.worksheet.specs.InForce.{edits_in, edits_of, changed, Standing, changes_by, inputs_by, Force, standing_before, force_in, pushed, returned_to, force_by, force_after, is_disturbing, disturbs}
 use Rattle.worksheet.proofs.drafts.Drafts.{at_rest, FreshAt}
 use Rattle.worksheet.proofs.lists.Replay.{Local, sheet_of, Law}
 use Rattle.worksheet.proofs.lists.Rules.{law}

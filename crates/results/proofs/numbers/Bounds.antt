@@ -1,7 +1,7 @@
 -- Bounds of atan, acos, sin and cos as document 01 steps them, by interval arithmetic: three
 -- halvings take [0, 1] into [0, 1/8], the quarter turns off leave 7/4 at most, and there a series'
 -- ends are computed. Assumes nothing.
-use mathlib.Core.Path.{◌≡◌, refl, sym, subst}
+use mathlib.Core.Path.{◌≡◌, refl, sym, ap, ◌∙◌, subst}
 use mathlib.Core.Logic.{inl, inr}
 use mathlib.Core.Bool.{Bool, true, false, not, cond}
 use mathlib.Core.List.{[], ◌∷◌}
@@ -17,7 +17,7 @@ use Rattle.base.specs.Number.{negative, abs_of, with_sign, narrow_of, sqrt_of}
 use Rattle.base.specs.Elementary.{turns_of, reduced_of, quarter_of, sin_terms, cos_terms, sin_series, cos_series, sin_at, cos_at, sin_of, cos_of, sin32_of, cos32_of, factorial, horner, atan_terms, half_angle, atan_series, atan_within, atan_from, atan_of, acos_of, atan32_of, acos32_of, half_pi, alternating, up_from}
 use Rattle.base.proofs.verdicts.Picks.{cond_true}
 use Rattle.base.proofs.order.Order.{nought, Between, wider, finite_between, between_finite, trans_le, refl_le, total_le, lt→le, not-lt→le, no_nan_finite, abs_no_nan, le_right, abs_not_below, abs→le, abs→ge, le→abs, abs_neg, neg_le, neg_neg, neg_not_above, neg_not_below}
-use Rattle.base.proofs.order.Monotone.{div_mono, div_not_below, div_above, div_plus, add_negative, mul_mono, mul_not_below, narrow_mono, narrow_size, mul_size, square_not_below, abs_finite}
+use Rattle.base.proofs.order.Monotone.{div_mono, div_not_below, div_above, div_plus, add_negative, mul_mono, mul_not_below, narrow_size, mul_size, square_not_below}
 use Rattle.base.proofs.steps.Reduction.{thousand, seven, reduced_in_law}
 use Rattle.base.proofs.roots.RootsOrder.{sqrt_not_below}
 use Rattle.base.proofs.order.Intervals.{every, all, exactly, mul_about, between_positive, add_in, sub_in, mul_in, sqrt_in, narrow_in, low_of, high_of, calm, horner_in_law}
@@ -306,9 +306,16 @@ unfolding fraction round
 cos_size v h = subst Small (sym (cos_is v (is_true (le (abs_of v) thousand) h))) (cos_at_law (quarter_of (turns_of v)) (reduced_of v (turns_of v)) (reduced_in_law v h))
 
 -- ---- over f32
+two_float : fraction 2 1 ≡ fin false 1 (pos 1)
+unfolding fraction round
+two_float = refl
+
+two_kept : narrow_of (fin false 1 (pos 1)) ≡ fin false 1 (pos 1)
+unfolding narrow_of round
+two_kept = refl
+
 two_narrow : narrow_of (fraction 2 1) ≡ fraction 2 1
-unfolding narrow_of fraction round
-two_narrow = refl
+two_narrow = ap narrow_of two_float ∙ two_kept ∙ sym two_float
 
 pub atan32_size : (v : Float) → T (not (is_nan v)) → T (le (abs_of (atan32_of v)) (fraction 2 1))
 unfolding atan32_of
@@ -319,9 +326,9 @@ unfolding acos32_of fraction round narrow_of le
 acos32_range v h = narrow_in (fraction 0 1) (fraction 4 1) tt (acos_range v h)
 
 pub sin32_size : (v : Float) → T (le (abs_of v) (fraction 1000 1)) → T (le (abs_of (sin32_of v)) (fraction 2 1))
-unfolding sin32_of fraction round narrow_of
-sin32_size v h = narrow_size (sin_of v) (fraction 2 1) (sin_size v h)
+unfolding sin32_of
+sin32_size v h = rw two_narrow at (narrow_size (sin_of v) (fraction 2 1) (sin_size v h))
 
 pub cos32_size : (v : Float) → T (le (abs_of v) (fraction 1000 1)) → T (le (abs_of (cos32_of v)) (fraction 2 1))
-unfolding cos32_of fraction round narrow_of
-cos32_size v h = narrow_size (cos_of v) (fraction 2 1) (cos_size v h)
+unfolding cos32_of
+cos32_size v h = rw two_narrow at (narrow_size (cos_of v) (fraction 2 1) (cos_size v h))

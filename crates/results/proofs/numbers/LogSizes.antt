@@ -6,18 +6,17 @@ use mathlib.Core.List.{[], ◌∷◌}
 use Prim.Native.Nat.{ℕ, zero, suc, ◌+◌, ◌-◌, ◌*◌, ◌%◌, ◌^◌, ◌≤◌, ◌<◌}
 use native.Mathlib.Nat.{le_trans, le_of_eq, lt_of_lt_of_le, lt_of_le_of_lt, lt_of_not-le, not-le_of_lt, mul-one, one-mul, mul-le-mul_right}
 use native.Mathlib.Omega.{arith}
-use lib.Dec.{T, ltb, leb, eqb, ltb→lt, nltb→le, leb→le, lit<, lit≤}
-use lib.IntN.{ℤ, pos, negsuc, sub_ℕ, ◌+ℤ◌}
+use lib.Dec.{T, ltb, leb, eqb, ltb→lt, nltb→le, leb→le, lit<}
+use lib.IntN.{ℤ, pos, negsuc, ◌+ℤ◌}
 use lib.Pow.{pow-add, pow_pos, pow_mono}
 use lib.Ieee.{Float, nan, inf, fin, binary32, binary64, up, down, size, round, neg, add, sub, mul, div, le, of_int, fits}
 use lib.Ieee.Digits.{size-lt, size_reaches}
 use lib.Ieee.Fits.{and_l, and_r}
 use lib.Ieee.Order.{round_mono}
-use lib.Ieee.Scale.{finite}
 use lib.Ieee.Positive.{positive}
 use Rattle.base.specs.Double.{◌⊕◌, ◌⊖◌, ◌⊗◌, ◌⊘◌, fraction}
 use Rattle.base.specs.Number.{negative, abs_of, narrow_of}
-use Rattle.base.specs.Elementary.{horner, up_from, ln_terms, ln2, ln_series, ln_sum, ln_of, ln32_of}
+use Rattle.base.specs.Elementary.{up_from, ln_terms, ln2, ln_series, ln_sum, ln_of, ln32_of}
 use Rattle.base.proofs.order.Order.{nought, Between, wider, trans_le, le→abs}
 use Rattle.base.proofs.order.Monotone.{add_size, mul_size, narrow_size, abs_round}
 use Rattle.base.proofs.rounding.Rounding.{size_gt}

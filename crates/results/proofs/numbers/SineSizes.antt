@@ -15,7 +15,7 @@ use Rattle.base.specs.Double.{◌⊕◌, ◌⊗◌, fraction}
 use Rattle.base.specs.Number.{abs_of, narrow_of}
 use Rattle.base.specs.Elementary.{turns_of, reduced_of, quarter_of, sin_terms, cos_terms, sin_series, cos_series, sin_at, cos_at, sin_of, cos_of, sin32_of, cos32_of, factorial, horner, alternating, up_from}
 use Rattle.base.proofs.verdicts.Picks.{cond_true}
-use Rattle.base.proofs.order.Order.{nought, Between, wider, finite_between, between_finite, trans_le, refl_le, total_le, no_nan_finite, le_right, abs_no_nan, abs_not_below, abs→le, le→abs, abs_neg, neg_not_below}
+use Rattle.base.proofs.order.Order.{nought, Between, wider, finite_between, trans_le, refl_le, total_le, no_nan_finite, le_right, abs_no_nan, abs_not_below, abs→le, le→abs, abs_neg, neg_not_below}
 use Rattle.base.proofs.order.Monotone.{add_mono, mul_right, mul_anti, mul_mono, mul_size, abs_mul, square_not_below, abs_finite, narrow_size}
 use Rattle.base.proofs.steps.Reduction.{thousand, seven, reduced_in_law}
 use Rattle.base.proofs.order.Intervals.{every, all, low_of, high_of, calm, horner_in_law}

@@ -3,10 +3,10 @@
 use mathlib.Core.Path.{◌≡◌, sym, ap, ◌∙◌, subst}
 use Prim.Native.Nat.{ℕ, zero, suc, ◌^◌}
 use lib.Dec.{T}
-use lib.Ieee.{Float, binary64, neg, le}
+use lib.Ieee.{Float, binary64, le}
 use lib.Ieee.Bits.{is_true}
 use Rattle.base.specs.Double.{◌⊗◌, fraction}
-use Rattle.base.specs.Number.{abs_of, narrow_of}
+use Rattle.base.specs.Number.{abs_of}
 use Rattle.base.specs.Elementary.{quarter_of, turns_of, reduced_of, half_pi, sin_terms, cos_terms, sin_series, cos_series, sin_at, cos_at, sin_of, cos_of, sin32_of, cos32_of}
 use Rattle.base.proofs.verdicts.Picks.{cond_true}
 use Rattle.results.proofs.numbers.Spans.{Span, In, point, minus, times, negated, narrowed, horner_in, point_in, minus_in, times_in, negated_in, narrowed_in, horner_held}

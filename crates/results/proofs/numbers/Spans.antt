@@ -3,7 +3,7 @@
 -- nothing.
 use mathlib.Core.Path.{◌≡◌, refl, sym, subst}
 use mathlib.Core.Logic.{inl, inr}
-use mathlib.Core.Bool.{Bool, true, false, not, ◌&&◌, ◌||◌, cond}
+use mathlib.Core.Bool.{Bool, true, false, not, ◌&&◌, cond}
 use mathlib.Core.List.{List, [], ◌∷◌}
 use Prim.Native.Nat.{ℕ, zero, suc, ◌<◌}
 use native.Mathlib.Nat.{mul-pos}
@@ -14,9 +14,9 @@ use lib.Ieee.{Float, nan, Format, binary64, add, sub, mul, neg, le, is_nan}
 use lib.Ieee.Fits.{and_l, and_r}
 use lib.Ieee.Scale.{finite}
 use lib.Ieee.Positive.{den_pos}
-use Rattle.base.specs.Number.{abs_of, sqrt_of, narrow_of}
+use Rattle.base.specs.Number.{sqrt_of, narrow_of}
 use Rattle.base.specs.Elementary.{horner}
-use Rattle.base.proofs.order.Order.{nought, Between, wider, between_finite, le_left, le_right, le_abs, abs_neg, neg_neg, trans_le, refl_le, total_le, no_nan_finite, neg_le, neg_finite}
+use Rattle.base.proofs.order.Order.{nought, Between, wider, between_finite, le_left, trans_le, refl_le, total_le, no_nan_finite, neg_le, neg_finite}
 use Rattle.base.proofs.order.Monotone.{Rounds, rounds_mono, mul_rounds, add_mono, sub_mono, mul_left, mul_anti, mul_turn, narrow_mono}
 use Rattle.base.proofs.order.Intervals.{exactly}
 use Rattle.base.proofs.roots.RootsOrder.{sqrt_mono}

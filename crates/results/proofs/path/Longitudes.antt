@@ -26,8 +26,8 @@ use Rattle.base.specs.Constants.{D2R, PI, PI2, PIO2, RZ}
 use Rattle.base.specs.Angle.{radians_of}
 use Rattle.base.specs.Elementary.{acos_of, sin32_of, cos32_of, acos32_of}
 use Rattle.base.proofs.order.Order.{nought, Between, wider, trans_le, neg_le, le→abs, abs_neg, abs_no_nan, abs_not_below, le_left, le_right, not-lt→le, total_le, no_nan_finite, finite_between, between_finite, size_between}
-use Rattle.base.proofs.order.Monotone.{sub_mono, add_size, sub_size, mul_size, div_size, abs_finite}
-use Rattle.base.proofs.order.Intervals.{every, all, exactly, sub_in, div_in}
+use Rattle.base.proofs.order.Monotone.{sub_mono, div_size, abs_finite}
+use Rattle.base.proofs.order.Intervals.{exactly, sub_in, div_in}
 use Rattle.results.proofs.numbers.Bounds.{sin32_size, cos32_size}
 use Rattle.results.proofs.numbers.Sizes.{Sized, plus_sized, less_sized, times_sized, between_sized, larger, sized_number}
 use Rattle.maps.specs.declared.geometry.Use.{Use}

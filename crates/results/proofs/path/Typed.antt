@@ -4,8 +4,6 @@
 use mathlib.Core.Path.{◌≡◌, ap, ◌∙◌}
 use mathlib.Core.Bool.{Bool, cond}
 use mathlib.Core.List.{List}
-use Prim.Native.Nat.{ℕ}
-use lib.Ieee.{Float}
 use Rattle.base.specs.declared.angle.Degrees.{Degrees}
 use Rattle.base.specs.declared.angle.Radians.{Radians}
 use Rattle.maps.specs.declared.inputs.MagneticPole.{MagneticPole}
@@ -13,7 +11,6 @@ use Rattle.base.specs.Single.{◌⊗◌, decimal}
 use Rattle.base.specs.Constants.{RZ}
 use Rattle.base.specs.Angle.{radians_of}
 use Rattle.maps.specs.declared.geometry.ControlPoint.{ControlPoint}
-use Rattle.maps.specs.declared.geometry.PathGeometry.{PathGeometry}
 use Rattle.maps.specs.declared.geometry.Place.{Place}
 use Rattle.maps.specs.Geometry.{nudged_of, place_of, end_longitude, end_of, circle_of, count_of, pole_place, rows_of, track_of, path_of}
 use Rattle.results.specs.SamePaths.{near_pole, SameEnd, SamePole, SameWork}

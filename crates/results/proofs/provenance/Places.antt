@@ -137,8 +137,8 @@ module _ (entries past : List Entry) (x : Entry) (reads : Reads entries (x ∷ p
   one : entries_at entries (length past ∷ []) ≡ x ∷ []
   one = at_one entries (length past) x reads.1
 
-  settled_at : (n : ℕ) → eqb n 0 ≡ false → entries_at entries (settled_at n) ≡ own n past ++ (x ∷ [])
-  settled_at n h =
+  settled_at_law : (n : ℕ) → eqb n 0 ≡ false → entries_at entries (settled_at n) ≡ own n past ++ (x ∷ [])
+  settled_at_law n h =
       at_both entries (own_places (marks_of entries) n (length past)) (length past ∷ []) ∙ ap₂ ◌++◌ (own_at entries n h past reads.2) one
 
   kept_for_law : ((n : ℕ) → role_in x ≡ settling n → good x ≡ true → eqb n 0 ≡ false) → (r : Role) → role_in x ≡ r
@@ -149,7 +149,7 @@ module _ (entries past : List Entry) (x : Entry) (reads : Reads entries (x ∷ p
   kept_for_law desk (settling n) e = go (good x) refl
     where
       go : (b : Bool) → good x ≡ b → entries_at entries (cond b (settled_at n) []) ≡ cond b (own n past ++ (x ∷ [])) []
-      go true g = settled_at n (desk n e g)
+      go true g = settled_at_law n (desk n e g)
       go false g = refl
   kept_for_law desk (belonging n even es) e = refl
   kept_for_law desk returning e = go (good x)

@@ -4,7 +4,6 @@ use mathlib.Core.Bool.{false}
 use mathlib.Core.Path.{◌≡◌, refl}
 use Prim.Native.String.{String}
 use Rattle.wording.specs.declared.number.Decimal.{Decimal}
-use Rattle.wording.specs.declared.line.Line.{Line}
 use Rattle.wording.specs.declared.line.Line.TheVariants.{Call}
 use Rattle.wording.specs.declared.written.WrittenEdit.TheVariants.{Sunspot}
 use Rattle.wording.specs.declared.written.WrittenCall.{WrittenCall}

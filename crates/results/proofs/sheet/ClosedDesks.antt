@@ -4,8 +4,8 @@ use Rattle.worksheet.specs.declared.desks.Worksheet.{Worksheet}
 use Rattle.worksheet.proofs.drafts.Drafts.{at_rest}
 use Rattle.results.specs.Insurer.{DesksClosed}
 
-pub at_rest : (w : Worksheet) → DesksClosed w → at_rest w ≡ w
-at_rest w h =
+pub at_rest_law : (w : Worksheet) → DesksClosed w → at_rest w ≡ w
+at_rest_law w h =
     λ t. record {
       inputs = w.inputs;
       earlier = w.earlier;

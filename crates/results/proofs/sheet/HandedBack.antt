@@ -15,7 +15,7 @@ use Rattle.maps.specs.declared.figures.Shown.{Shown}
 use Rattle.maps.specs.declared.figures.Shown.TheVariants.{Points, Refused as NotShown}
 use Rattle.worksheet.specs.Desks.{opened_of}
 use Rattle.worksheet.specs.Showing.{Source, show_of, show_buffer}
-use Rattle.worksheet.specs.Journal.{Call, show, Answer, shown, Entry, step, entry_of}
+use Rattle.worksheet.specs.Journal.{Call, show, shown, Entry, step, entry_of}
 use Rattle.worksheet.specs.InForce.{Insured}
 use Rattle.jutetrowel.specs.declared.answers.Showing.{Showing}
 use Rattle.jutetrowel.specs.Answers.{answer_of, use_code, use_codes, use_coded, uses_coded, showing_of}

@@ -4,29 +4,26 @@
 -- a sheet reads lies among those bytes. Assumes nothing.
 use mathlib.Core.Path.{◌≡◌, sym, ap, ◌∙◌}
 use mathlib.Core.Bool.{cond}
-use mathlib.Core.List.{List, [], ◌∷◌}
+use mathlib.Core.List.{List}
 use Prim.Native.Nat.{ℕ, ◌+◌, ◌*◌, ◌≤◌}
-use native.Mathlib.Omega.{arith}
 use lib.Dec.{leb, lit≤}
 use lib.ListN.{length}
 use lib.Ieee.{Float}
 use borrow.Author.Tests.{le-leb}
 use Rattle.base.specs.declared.refusal.Refusal.TheVariants.{Record}
 use Rattle.base.specs.declared.refusal.Verdict.{Verdict}
-use Rattle.base.specs.declared.refusal.Verdict.TheVariants.{Accepted, Refused}
+use Rattle.base.specs.declared.refusal.Verdict.TheVariants.{Refused}
 use Rattle.base.specs.Single.{◌⊕◌, ◌⊗◌}
 use Rattle.base.specs.Refusal.{◌then◌, written_over}
 use Rattle.base.specs.MonthFile.{month_file_check}
 use Rattle.base.specs.Finite.{record_words_check, table_words_check}
 use Rattle.base.specs.Files.{files_check}
 use Rattle.base.specs.Tables.{start_of, achi, bchi, anew, bnew, abmap}
-use Rattle.base.specs.Words.{float_at}
 use Rattle.base.specs.Index.{index_of, index_check}
 use Rattle.base.specs.Blend.{hmym_of, fakmap_of}
 use Rattle.results.specs.LaterBytes.{Alike}
 use Rattle.results.proofs.files.Later.{float_alike, file_alike, tables_alike, records_alike, check_alike, index_alike, cofion_month, cofion_record, hmym_alike, fakmap_alike}
 use Rattle.maps.specs.declared.inputs.Inputs.{Inputs}
-use Rattle.maps.specs.declared.ionosphere.layers.Monthly.{Monthly}
 use Rattle.maps.specs.Virtim.{virtim_of}
 use Rattle.maps.specs.Layers.{sun_of, term_of, abmap_at, monthly_of}
 use Rattle.maps.specs.Figures.{SheetHour, hour, hour_from, hour_of, figures_to, sheet_path, figures_of, points_or, shown_of, figures_buffer}

@@ -14,7 +14,7 @@ use lib.Ieee.{Float}
 use borrow.Author.Tests.{le-leb}
 use Rattle.base.specs.declared.refusal.Verdict.TheVariants.{Accepted}
 use Rattle.base.specs.Ranges.{is_month, is_bit}
-use Rattle.base.specs.MonthFile.{Part, record_size, month_start, month_record_check, month_part}
+use Rattle.base.specs.MonthFile.{Part, record_size, month_start, month_record_check}
 use Rattle.base.specs.Finite.{FiniteRecord}
 use Rattle.base.specs.Files.{file_check}
 use Rattle.base.specs.Year.{year_check, pair_part, year_month, year_model, part_bytes}

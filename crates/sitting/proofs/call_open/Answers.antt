@@ -1,5 +1,4 @@
 -- `call_open` is `made_by`: what `spoken` leaves and says, with the call that is written.
-use borrow.Author.Rules.{rules}
 use mathlib.Core.Path.{ap, ◌∙◌}
 use Rattle.worksheet.specs.declared.journal.Call.{Call}
 use Rattle.worksheet.specs.Showing.{lent_as}

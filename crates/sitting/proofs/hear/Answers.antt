@@ -1,5 +1,4 @@
 -- `hear` is `hearing`, by what the line reads as.
-use borrow.Author.Rules.{rules}
 use native.Mathlib.Omega.{arith}
 use mathlib.Core.Path.{refl, sym, ap, ◌∙◌}
 use Rattle.worksheet.specs.Showing.{lent_as}

@@ -1,5 +1,4 @@
 -- `hear_call` is `hear_call`, by the stage.
-use borrow.Author.Rules.{rules}
 use native.Mathlib.Omega.{arith}
 use mathlib.Core.Path.{refl, sym, ap, ◌∙◌}
 use Rattle.worksheet.specs.Showing.{lent_as}

@@ -1,5 +1,4 @@
 -- `hear_wrong` is `hear_wrong`, by the stage.
-use borrow.Author.Rules.{rules}
 use native.Mathlib.Omega.{arith}
 use mathlib.Core.Path.{refl, sym, ap, ◌∙◌}
 use Rattle.sitting.specs.declared.Stage.{Stage}

@@ -1,5 +1,4 @@
 -- `open_first` is `opened_by`: the worksheet opened with the line's inputs, by what its calls ensure.
-use borrow.Author.Rules.{rules}
 use mathlib.Core.Path.{ap, ◌∙◌}
 use Rattle.worksheet.specs.declared.desks.Outcome.{Outcome}
 use Rattle.worksheet.specs.Desks.{open_of}

@@ -1,5 +1,4 @@
 -- `pass` is the sitting of `hearing` over every source and at every line, by what the line reads as.
-use borrow.Author.Rules.{rules}
 use Prim.Native.Nat.{ℕ}
 use mathlib.Core.Path.{◌≡◌, refl, sym, ap, ◌∙◌}
 use Rattle.wording.specs.declared.line.Fault.{Fault}

@@ -1,5 +1,4 @@
 -- `pass_call` is the sitting of `hear_call` over every source and at every line, by the stage.
-use borrow.Author.Rules.{rules}
 use mathlib.Core.Path.{sym, ap, ◌∙◌}
 use Rattle.sitting.specs.declared.Stage.{Stage}
 use Rattle.sitting.specs.declared.Stage.TheVariants.{Open}

@@ -1,5 +1,4 @@
 -- `pass_open` is the sitting of `hear_open` at every line, by the stage.
-use borrow.Author.Rules.{rules}
 use mathlib.Core.Path.{sym, ap, ◌∙◌}
 use Rattle.worksheet.specs.declared.desks.Outcome.{Outcome}
 use Rattle.worksheet.specs.Desks.{open_of}

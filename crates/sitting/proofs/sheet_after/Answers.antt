@@ -1,6 +1,5 @@
 -- `sheet_after` is the step's worksheet over every source: what `make` leaves over empty files, which
 -- is the same over all.
-use borrow.Author.Rules.{rules}
 use mathlib.Core.Path.{ap, ◌∙◌}
 use lib.Ieee.{of_bits, round}
 use Rattle.base.specs.Single.{decimal}

@@ -1,5 +1,4 @@
 -- `waiting` is the first sitting: what `opened` makes of no words, before any line.
-use borrow.Author.Rules.{rules}
 use Rattle.sitting.specs.declared.Stage.TheVariants.{Waiting}
 use Rattle.sitting.specs.Sitting.{first_sitting}
 use Rattle.sitting.proofs.waiting.Goals as goal

@@ -1,6 +1,6 @@
 -- A call that is made is the step of its case: what the arms of `make` share. Assumes nothing.
 use mathlib.Core.List.{List}
-use mathlib.Core.Path.{◌≡◌, refl, sym, ap, ap₂, ◌∙◌}
+use mathlib.Core.Path.{◌≡◌, sym, ap, ◌∙◌}
 use lib.Ieee.{Float}
 use Prim.Native.Nat.{ℕ}
 use Rattle.maps.specs.declared.figures.Shown.{Shown}

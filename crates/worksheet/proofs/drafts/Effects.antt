@@ -3,10 +3,8 @@
 use Prim.Native.Nat.{ℕ}
 use mathlib.Core.Bool.{Bool, true, false, ◌&&◌, true≢false, false≢true}
 use mathlib.Core.Path.{◌≡◌, refl, ap, ◌∙◌}
-use native.Mathlib.Omega.{arith}
 use lib.Dec.{leb}
 use borrow.Author.Tests.{leb-true}
-use Rattle.base.specs.declared.refusal.Refusal.{Refusal}
 use Rattle.base.specs.declared.refusal.Refusal.TheVariants.{Desk}
 use Rattle.base.specs.declared.refusal.Verdict.{Verdict}
 use Rattle.base.specs.declared.refusal.Verdict.TheVariants.{Accepted, Refused}
@@ -19,7 +17,7 @@ use Rattle.worksheet.specs.declared.desks.Earlier.{Earlier}
 use Rattle.worksheet.specs.declared.desks.Earlier.TheVariants.{Nothing, Set}
 use Rattle.worksheet.specs.declared.desks.Outcome.{Outcome}
 use Rattle.worksheet.specs.declared.desks.Worksheet.{Worksheet}
-use Rattle.base.specs.Refusal.{refuse_unless, ◌then◌}
+use Rattle.base.specs.Refusal.{◌then◌}
 use Rattle.worksheet.specs.Inputs.{edit_check, edited}
 use Rattle.worksheet.specs.Desks.{draft_at, with_draft, inputs_of, moved_to, outcome, is_desk, desk_check, closed_check, draft_check, fresh_check, earlier_check, begin_check, begin_of, change_check, edited_draft, change_of, commit_check, commit_of, cancel_check, cancel_of, set_of, take_back_of}
 use Rattle.worksheet.specs.Showing.{Source}

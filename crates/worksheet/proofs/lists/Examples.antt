@@ -1,6 +1,5 @@
 -- The shorter list and the changes in force worked out, an example for each clause of document 01's
 -- demand 3: by computation, for any source of files, all inputs and buffers. Assumes nothing.
-use Prim.Native.Nat.{ℕ}
 use mathlib.Core.List.{List, [], ◌∷◌}
 use mathlib.Core.Path.{◌≡◌, refl}
 use lib.Ieee.{Float, round, le}

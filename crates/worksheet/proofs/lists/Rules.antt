@@ -19,7 +19,7 @@ use Rattle.base.specs.Refusal.{◌then◌, written_over}
 use Rattle.worksheet.specs.Inputs.{inputs_check, edited}
 use Rattle.worksheet.specs.Desks.{draft_at, with_draft, inputs_of, moved_to, desk_check, draft_check, fresh_sheet, open_of, edited_draft}
 use Rattle.worksheet.specs.Showing.{Source, inputs_shown, asked_check, drawn_check, judged_check, show_check, show_of, show_buffer}
-use Rattle.worksheet.specs.Journal.{Call, begin, commit, cancel, change, take_back, show, shown, Role, beginning, ending, settling, belonging, returning, showing, role_of, accepted, Step, step, Demand3}
+use Rattle.worksheet.specs.Journal.{Call, begin, commit, cancel, change, take_back, show, shown, beginning, ending, settling, belonging, returning, showing, role_of, accepted, Step, step, Demand3}
 use Rattle.worksheet.specs.InForce.{changed}
 use Rattle.worksheet.proofs.drafts.Drafts.{at_rest, FreshAt, alone, closed_not_fresh, fresh_same, rest_draft, rest_with, inputs_with, earlier_with, with_with, with_fresh, with_draft_law, with_other, moved_not_fresh, moved_rest, settled_not_fresh, settled_rest}
 use Rattle.worksheet.proofs.drafts.Effects.{accepting, edited_fresh, refused_unmoved, begun, begin_leaves, was_changed, change_leaves, change_fresh, committed, commit_leaves, cancel_leaves, taken_back, take_back_leaves}

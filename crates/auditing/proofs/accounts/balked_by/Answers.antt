@@ -1,5 +1,4 @@
 -- `balked_by` is `balked_by`, by the case of the refusal.
-use borrow.Author.Rules.{rules}
 use mathlib.Core.Path.{sym, ap, ◌∙◌}
 use Rattle.listing.specs.declared.account.Balked.TheVariants.{At}
 use Rattle.auditing.specs.Accounts.{balked_by}

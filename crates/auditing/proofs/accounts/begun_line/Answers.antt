@@ -1,5 +1,4 @@
 -- `begun_line` writes `begun_line`: refusal, fate and line, call after call.
-use borrow.Author.Rules.{rules}
 use Prim.Native.Nat.{ℕ, ◌-◌}
 use mathlib.Core.Path.{ap, ◌∙◌}
 use native.Mathlib.Numerals.{add-one}

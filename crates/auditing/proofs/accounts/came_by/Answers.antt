@@ -1,5 +1,4 @@
 -- `came_by` is `came_by`, by the case of the origin.
-use borrow.Author.Rules.{rules}
 use mathlib.Core.Path.{sym, ap, ◌∙◌}
 use Rattle.listing.specs.declared.account.Came.TheVariants as came
 use Rattle.auditing.specs.Accounts.{came_by}

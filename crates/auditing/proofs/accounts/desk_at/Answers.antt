@@ -1,5 +1,4 @@
 -- `desk_at` is `desk_at`, by whether the place is within the marks.
-use borrow.Author.Rules.{rules}
 use Prim.Native.Nat.{ℕ, ◌%◌, ◌^◌}
 use mathlib.Core.Path.{sym, ap}
 use lib.ListN.{get_or-eq_default}

@@ -1,5 +1,4 @@
 -- `draft_account` writes `draft_account`, by whether the call is an accepted begin.
-use borrow.Author.Rules.{rules}
 use Prim.Native.Nat.{ℕ}
 use mathlib.Core.Bool.{cond}
 use mathlib.Core.List.{[]}

@@ -1,5 +1,4 @@
 -- `fate_line` writes `fate_line`, by the case of the fate.
-use borrow.Author.Rules.{rules}
 use mathlib.Core.Path.{sym, ap, ◌∙◌}
 use Rattle.listing.specs.declared.account.Became.TheVariants.{TakenBack, Cancelled}
 use Rattle.listing.specs.Account.{draft_line}

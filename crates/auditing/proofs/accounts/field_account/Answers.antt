@@ -1,9 +1,7 @@
 -- `field_account` writes `field_account`: the line of the origin of the field's part, call after call.
-use borrow.Author.Rules.{rules}
 use Prim.Native.Nat.{ℕ}
 use mathlib.Core.Bool.{false}
 use mathlib.Core.Path.{ap, ◌∙◌}
-use Rattle.listing.specs.declared.account.Came.{Came}
 use Rattle.listing.specs.Account.{came_line}
 use Rattle.auditing.specs.Marks.{origin_before}
 use Rattle.auditing.specs.Accounts.{came_by, field_account}

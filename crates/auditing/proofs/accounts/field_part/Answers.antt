@@ -1,5 +1,4 @@
 -- `field_part` is `field_part`, by whether the table has a row for the field.
-use borrow.Author.Rules.{rules}
 use mathlib.Core.Path.{sym}
 use lib.ListN.{get_or-eq_default}
 use Rattle.auditing.specs.Accounts.{field_parts}

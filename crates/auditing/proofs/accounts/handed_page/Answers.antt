@@ -1,5 +1,4 @@
 -- `handed_page` writes `handed_page`, by the answer's cases.
-use borrow.Author.Rules.{rules}
 use mathlib.Core.Path.{refl, sym, ap, ◌∙◌}
 use native.Mathlib.Omega.{arith}
 use Rattle.worksheet.specs.declared.journal.Answer.{Answer as Handed}

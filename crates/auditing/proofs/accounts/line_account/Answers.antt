@@ -1,6 +1,5 @@
 -- `line_account` writes `line_account`: the bytes up to the line's end are the line, and past the text
 -- it is empty.
-use borrow.Author.Rules.{rules}
 use mathlib.Core.List.{List}
 use mathlib.Core.Path.{refl, sym, ap, ◌∙◌}
 use Prim.Native.Nat.{ℕ, ◌≤◌}

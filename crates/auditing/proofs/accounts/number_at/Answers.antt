@@ -1,5 +1,4 @@
 -- `number_at` is `number_at`, by whether the place is within the numbers.
-use borrow.Author.Rules.{rules}
 use mathlib.Core.Path.{sym}
 use lib.ListN.{get_or-eq_default}
 use Rattle.auditing.proofs.accounts.number_at.Goals as goal

@@ -1,5 +1,4 @@
 -- `sheet_account` writes `sheet_account`: the page of what `make` hands back of a showing.
-use borrow.Author.Rules.{rules}
 use lib.Ieee.{of_bits, round}
 use Rattle.base.specs.Single.{decimal}
 use Rattle.auditing.proofs.pages.Answers.{sheet_as}

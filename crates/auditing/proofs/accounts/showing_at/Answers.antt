@@ -1,5 +1,4 @@
 -- `showing_at` is `showing_at`, by whether there is a last call, and on this line.
-use borrow.Author.Rules.{rules}
 use borrow.Author.Tests.{eq-eqb, ne_eqb}
 use mathlib.Core.Path.{sym, ap, ◌∙◌}
 use lib.ListN.{get_or-eq_default}

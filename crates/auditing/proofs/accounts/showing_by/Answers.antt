@@ -1,5 +1,4 @@
 -- `showing_by` is `showing_by`, by its two tests.
-use borrow.Author.Rules.{rules}
 use borrow.Author.Tests.{eq-eqb, ne_eqb}
 use mathlib.Core.Path.{sym, ◌∙◌}
 use Rattle.base.proofs.verdicts.Picks.{cond_true, cond_false}

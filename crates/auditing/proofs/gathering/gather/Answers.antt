@@ -1,14 +1,13 @@
 -- `gather` gathers what the first k lines told, by the loop's invariant that it has gathered what the
 -- lines so far told.
 use borrow.Author.Rules.{rules}
-use Prim.Native.Nat.{ℕ, ◌-◌, ◌≤◌}
+use Prim.Native.Nat.{ℕ}
 use mathlib.Core.Path.{◌≡◌, refl, ap, subst, ◌∙◌}
 use native.Mathlib.Omega.{arith}
-use lib.ListN.{length}
 use Rattle.worksheet.specs.Showing.{lent_as}
 use Rattle.wording.specs.Line.{line_in}
 use Rattle.auditing.specs.Gathered.{told_by, GatheringAs, gathering}
-use Rattle.auditing.proofs.journals.Reading.{ReadTo, read_none, read_next, read_all}
+use Rattle.auditing.proofs.journals.Reading.{read_none, read_next, read_all}
 use Rattle.auditing.proofs.gathering.gather.Goals as goal
 
 pub loop-n-init : goal.loop-n-init

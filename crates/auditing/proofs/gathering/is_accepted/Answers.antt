@@ -1,5 +1,4 @@
 -- `is_accepted` tells an answer from a refusal, by the answer's cases.
-use borrow.Author.Rules.{rules}
 use mathlib.Core.Path.{sym, ap, ◌∙◌}
 use Rattle.worksheet.specs.declared.journal.Answer.TheVariants as handed
 use Rattle.auditing.specs.Gathered.{handed_good}

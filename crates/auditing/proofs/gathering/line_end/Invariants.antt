@@ -1,12 +1,9 @@
 -- `line_end` finds the line's end, by the loop's invariant that what is left of the line from k on
 -- ends there.
-use borrow.Author.Rules.{rules}
 use Prim.Native.Nat.{◌+◌, ◌-◌}
-use mathlib.Core.Path.{◌≡◌, refl}
-use native.Mathlib.Omega.{arith}
+use mathlib.Core.Path.{◌≡◌}
 use lib.ListN.{length}
 use Rattle.auditing.specs.Gathered.{line_at}
-use Rattle.auditing.proofs.journals.Lines.{line_past, line_ends, line_longer, line_found}
 use Rattle.auditing.proofs.gathering.line_end.Given as goal
 
 abbrev pub invariant-loop-k : goal.invariant-loop-k

@@ -1,5 +1,4 @@
 -- `made` leaves the step's worksheet and the mark of its entry: what `make` hands back, marked.
-use borrow.Author.Rules.{rules}
 use lib.Ieee.{of_bits, round}
 use Rattle.base.specs.Single.{decimal}
 use Rattle.worksheet.specs.Showing.{lent_as}

@@ -1,5 +1,4 @@
 -- `opened_as` is `opened_as`, field by field.
-use borrow.Author.Rules.{rules}
 use mathlib.Core.Path.{◌≡◌, ap, ◌∙◌}
 use Rattle.worksheet.specs.declared.desks.Outcome.{Outcome}
 use Rattle.worksheet.specs.Desks.{open_of}

@@ -1,5 +1,4 @@
 -- `put_number` sets the place k, which changes nothing where there is no room.
-use borrow.Author.Rules.{rules}
 use mathlib.Core.Path.{sym}
 use lib.Seq.{set_out}
 use Rattle.auditing.proofs.gathering.put_number.Goals as goal

@@ -1,5 +1,4 @@
 -- `with_call` goes on with a call, by the stage: only on a worksheet is it made.
-use borrow.Author.Rules.{rules}
 use mathlib.Core.Path.{ap}
 use native.Mathlib.Omega.{arith}
 use Rattle.auditing.specs.Gathered.{Gathering, with_call}

@@ -1,5 +1,4 @@
 -- `with_line` goes on with a line, by what the line is.
-use borrow.Author.Rules.{rules}
 use native.Mathlib.Omega.{arith}
 use Rattle.auditing.proofs.journals.Turns.{goes_as, goes_blank, goes_wrong}
 use Rattle.auditing.proofs.gathering.with_line.Goals as goal

@@ -1,5 +1,4 @@
 -- `with_made` is `with_call`, field by field and buffer by buffer.
-use borrow.Author.Rules.{rules}
 use Rattle.auditing.proofs.journals.Turns.{called_as}
 use Rattle.auditing.proofs.gathering.with_made.Goals as goal
 

@@ -1,5 +1,4 @@
 -- `with_open` goes on with an open, by the stage: only where nothing was told does it open anything.
-use borrow.Author.Rules.{rules}
 use mathlib.Core.Path.{ap}
 use native.Mathlib.Omega.{arith}
 use Rattle.auditing.specs.declared.gathering.Gathered.{Gathered}

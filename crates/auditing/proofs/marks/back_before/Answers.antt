@@ -1,5 +1,4 @@
 -- `back_before` is `back_before`, by its two tests.
-use borrow.Author.Rules.{rules}
 use mathlib.Core.Path.{sym, ◌∙◌}
 use Rattle.base.proofs.verdicts.Picks.{cond_true, cond_false}
 use Rattle.auditing.specs.Marks.{back_before}

@@ -1,8 +1,6 @@
 -- `begin_before` finds where a draft's own places begin, by the loop's invariant that from place k on
 -- all that is of drafts is this one's.
-use borrow.Author.Rules.{rules}
-use mathlib.Core.Path.{sym, ◌∙◌}
-use Rattle.auditing.proofs.places.Drafts.{Since, since_all, since_begun, since_on, since_start}
+use Rattle.auditing.proofs.places.Drafts.{Since}
 use Rattle.auditing.proofs.marks.begin_before.Given as goal
 
 abbrev pub invariant-loop-k : goal.invariant-loop-k

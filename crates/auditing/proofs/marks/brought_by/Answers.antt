@@ -1,5 +1,4 @@
 -- `brought_by` is `brought_by`, by its two tests.
-use borrow.Author.Rules.{rules}
 use mathlib.Core.Path.{sym, ◌∙◌}
 use Rattle.base.proofs.verdicts.Picks.{cond_true, cond_false}
 use Rattle.auditing.specs.Marks.{brought_by}

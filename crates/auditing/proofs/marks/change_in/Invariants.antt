@@ -1,13 +1,9 @@
 -- `change_in` is `change_before`, by the loop's invariant that what is left to look at answers for the
 -- whole: a begin ends it, a change is found, or it goes on.
-use borrow.Author.Rules.{rules}
 use Prim.Native.Nat.{◌≤◌}
-use mathlib.Core.Path.{◌≡◌, refl, sym, ◌∙◌}
-use native.Mathlib.Omega.{arith}
-use Rattle.base.proofs.verdicts.Picks.{cond_true, cond_false}
+use mathlib.Core.Path.{◌≡◌}
 use Rattle.auditing.specs.declared.marks.Origin.TheVariants.{Opened}
 use Rattle.auditing.specs.Marks.{change_before}
-use Rattle.auditing.proofs.places.Origins.{change_next, change_start}
 use Rattle.auditing.proofs.marks.change_in.Given as goal
 
 abbrev pub invariant-loop-k : goal.invariant-loop-k

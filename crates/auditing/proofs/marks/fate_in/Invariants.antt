@@ -1,11 +1,8 @@
 -- `fate_in` is `fate_from`, by the loop's invariant that the calls that are left answer for the whole:
 -- a cancel or a commit decides, or it goes on.
-use borrow.Author.Rules.{rules}
 use Prim.Native.Nat.{◌-◌}
-use mathlib.Core.Path.{◌≡◌, refl, sym, ◌∙◌}
-use Rattle.base.proofs.verdicts.Picks.{cond_true, cond_false}
+use mathlib.Core.Path.{◌≡◌}
 use Rattle.auditing.specs.Marks.{fate_from}
-use Rattle.auditing.proofs.places.Fates.{fate_next, fate_end}
 use Rattle.auditing.proofs.marks.fate_in.Given as goal
 
 abbrev pub invariant-loop-k : goal.invariant-loop-k

@@ -1,5 +1,4 @@
 -- `is_alone` is `is_alone`, by its tests one after the other.
-use borrow.Author.Rules.{rules}
 use mathlib.Core.Path.{sym, ◌∙◌}
 use borrow.Author.Tests.{eq-eqb, ne_eqb}
 use Rattle.auditing.proofs.places.Flags.{and_on, and_off, or_on, or_off}

@@ -1,5 +1,4 @@
 -- `is_done_by` is `is_done_by`, by what `is_done` says.
-use borrow.Author.Rules.{rules}
 use mathlib.Core.Path.{sym, ◌∙◌}
 use Rattle.auditing.proofs.places.Flags.{and_on, and_off}
 use Rattle.auditing.proofs.marks.is_done_by.Goals as goal

@@ -1,5 +1,4 @@
 -- `is_draft` is `is_draft_mark`, by whether the call is a begin.
-use borrow.Author.Rules.{rules}
 use mathlib.Core.Path.{sym, ◌∙◌}
 use Rattle.auditing.proofs.places.Flags.{or_on, or_off}
 use Rattle.auditing.proofs.marks.is_draft.Goals as goal

@@ -1,5 +1,4 @@
 -- `is_end` is its two tests, by the first of them.
-use borrow.Author.Rules.{rules}
 use mathlib.Core.Path.{sym, ◌∙◌}
 use Rattle.auditing.proofs.places.Flags.{or_on, or_off}
 use Rattle.auditing.proofs.marks.is_end.Goals as goal

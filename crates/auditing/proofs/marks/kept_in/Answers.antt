@@ -1,10 +1,9 @@
 -- `kept_in` gives the buffer the shorter list's places, by the loop's invariant that it has those of
 -- the calls before place j.
 use borrow.Author.Rules.{rules}
-use Prim.Native.Nat.{ℕ, ◌-◌, ◌≤◌}
+use Prim.Native.Nat.{ℕ}
 use mathlib.Core.Path.{◌≡◌, refl, ap, ◌∙◌}
 use native.Mathlib.Omega.{arith}
-use lib.ListN.{length}
 use Rattle.auditing.specs.Marks.{kept_places, pile, all_given}
 use Rattle.auditing.proofs.places.Piles.{kept_start, kept_next, all_kept}
 use Rattle.auditing.proofs.marks.kept_in.Goals as goal

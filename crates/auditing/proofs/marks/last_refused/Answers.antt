@@ -1,5 +1,4 @@
 -- `last_refused` picks by whether the call is a refused commit.
-use borrow.Author.Rules.{rules}
 use mathlib.Core.Path.{sym, ◌∙◌}
 use Rattle.base.proofs.verdicts.Picks.{cond_true, cond_false}
 use Rattle.auditing.proofs.marks.last_refused.Goals as goal

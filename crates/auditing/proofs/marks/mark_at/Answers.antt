@@ -1,5 +1,4 @@
 -- `mark_at` is `mark_at`, by whether the place is within the marks.
-use borrow.Author.Rules.{rules}
 use mathlib.Core.Path.{sym}
 use lib.ListN.{get_or-eq_default}
 use Rattle.auditing.proofs.marks.mark_at.Goals as goal

@@ -1,5 +1,4 @@
 -- `mark_of` is the mark of its call, by the call's six cases; a buffer has no part in it.
-use borrow.Author.Rules.{rules}
 use Prim.Native.Nat.{ℕ, ◌<◌}
 use mathlib.Core.Bool.{Bool}
 use mathlib.Core.List.{List}

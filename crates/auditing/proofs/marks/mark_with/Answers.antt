@@ -1,5 +1,4 @@
 -- `mark_with` is `mark_with`, by whether the call was accepted; the sum fits since the desk is a u32.
-use borrow.Author.Rules.{rules}
 use mathlib.Core.Path.{◌≡◌, sym, ap, ◌∙◌}
 use mathlib.Core.Bool.{Bool}
 use native.Mathlib.Omega.{arith}

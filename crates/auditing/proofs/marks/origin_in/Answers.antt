@@ -1,9 +1,9 @@
 -- `origin_in` is `origin_before`, by the loop's invariant that the calls that are left answer for the
 -- whole: a commit that stands brings a change, or it goes on.
 use borrow.Author.Rules.{rules}
-use Prim.Native.Nat.{◌≤◌, ◌-◌}
-use mathlib.Core.Bool.{Bool, false}
-use mathlib.Core.Path.{◌≡◌, refl, sym, ap, ◌∙◌}
+use Prim.Native.Nat.{◌-◌}
+use mathlib.Core.Bool.{Bool}
+use mathlib.Core.Path.{refl, sym, ap, ◌∙◌}
 use native.Mathlib.Omega.{arith}
 use Rattle.auditing.specs.Marks.{origin_before}
 use Rattle.auditing.proofs.places.Origins.{origin_found, origin_on, origin_start}

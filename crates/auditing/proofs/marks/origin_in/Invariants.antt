@@ -1,12 +1,9 @@
 -- `origin_in` is `origin_before`, by the loop's invariant that the calls that are left answer for the
 -- whole: a commit that stands brings a change, or it goes on.
-use borrow.Author.Rules.{rules}
-use Prim.Native.Nat.{◌≤◌, ◌-◌}
-use mathlib.Core.Bool.{Bool, false}
-use mathlib.Core.Path.{◌≡◌, refl, sym, ap, ◌∙◌}
-use native.Mathlib.Omega.{arith}
+use Prim.Native.Nat.{◌≤◌}
+use mathlib.Core.Bool.{false}
+use mathlib.Core.Path.{◌≡◌}
 use Rattle.auditing.specs.Marks.{origin_before}
-use Rattle.auditing.proofs.places.Origins.{origin_found, origin_on, origin_start}
 use Rattle.auditing.proofs.marks.origin_in.Given as goal
 
 abbrev pub invariant-loop-k : goal.invariant-loop-k

@@ -1,5 +1,4 @@
 -- `push` gives the buffer one place, by whether there is room.
-use borrow.Author.Rules.{rules}
 use Rattle.auditing.proofs.places.Piles.{given_in, given_past}
 use Rattle.auditing.proofs.marks.push.Goals as goal
 

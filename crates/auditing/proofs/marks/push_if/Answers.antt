@@ -1,5 +1,4 @@
 -- `push_if` gives the buffer the place that is wanted, or leaves it.
-use borrow.Author.Rules.{rules}
 use mathlib.Core.Path.{sym, ◌∙◌}
 use Rattle.base.proofs.verdicts.Picks.{cond_true, cond_false}
 use Rattle.auditing.proofs.marks.push_if.Goals as goal

@@ -1,5 +1,4 @@
 -- `push_kept` gives the buffer what the shorter list has for a call, by whether it is a commit.
-use borrow.Author.Rules.{rules}
 use mathlib.Core.Path.{sym, ◌∙◌}
 use Rattle.auditing.specs.Marks.{pile}
 use Rattle.auditing.proofs.places.Piles.{kept_commit, kept_other}

@@ -1,11 +1,9 @@
 -- `push_own` gives the buffer a draft's own places, by the loop's invariant that those which are left
 -- complete them.
-use borrow.Author.Rules.{rules}
-use Prim.Native.Nat.{ℕ, ◌-◌}
+use Prim.Native.Nat.{ℕ}
 use mathlib.Core.List.{List}
-use mathlib.Core.Path.{◌≡◌, refl, sym, ap, ◌∙◌}
-use lib.ListN.{length}
-use Rattle.auditing.specs.Marks.{own_places, pile, all_given, draft_places}
+use mathlib.Core.Path.{refl, sym, ap, ◌∙◌}
+use Rattle.auditing.specs.Marks.{pile, all_given}
 use Rattle.auditing.proofs.places.Piles.{draft_next, draft_end}
 use Rattle.auditing.proofs.marks.push_own.Goals as goal
 

@@ -1,11 +1,9 @@
 -- `refused_in` is `refused_from`, by the loop's invariant that the calls that are left answer for the
 -- whole: the draft ends, or it goes on with the last refused commit so far.
-use borrow.Author.Rules.{rules}
 use Prim.Native.Nat.{◌+◌, ◌-◌}
-use mathlib.Core.Path.{◌≡◌, refl, sym, ap, ◌∙◌}
+use mathlib.Core.Path.{refl, sym, ap, ◌∙◌}
 use Rattle.base.proofs.verdicts.Picks.{cond_true, cond_false}
 use Rattle.auditing.specs.declared.marks.Refused.{Refused}
-use Rattle.auditing.specs.declared.marks.Refused.TheVariants.{Never}
 use Rattle.auditing.specs.Marks.{refused_from}
 use Rattle.auditing.proofs.places.Fates.{refused_next, refused_end}
 use Rattle.auditing.proofs.marks.refused_in.Goals as goal

@@ -1,10 +1,7 @@
 -- `settled_in` is `settled_from`, by the loop's invariant that the calls that are left answer for the
 -- whole: a commit or a take-back decides, or it goes on.
-use borrow.Author.Rules.{rules}
-use Prim.Native.Nat.{◌-◌}
-use mathlib.Core.Path.{◌≡◌, refl, sym, ◌∙◌}
+use mathlib.Core.Path.{refl, sym, ◌∙◌}
 use Rattle.base.proofs.verdicts.Picks.{cond_true, cond_false}
-use Rattle.auditing.specs.Marks.{settled_from}
 use Rattle.auditing.proofs.places.Fates.{settled_next, settled_end}
 use Rattle.auditing.proofs.marks.settled_in.Goals as goal
 

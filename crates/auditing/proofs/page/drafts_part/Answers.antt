@@ -1,5 +1,4 @@
 -- `drafts_part` writes `drafts_part`: the heading, the drafts or `none`, and then the shorter journal.
-use borrow.Author.Rules.{rules}
 use Prim.Native.Nat.{suc, ◌-◌}
 use mathlib.Core.Path.{sym, ◌∙◌}
 use native.Mathlib.Omega.{arith}

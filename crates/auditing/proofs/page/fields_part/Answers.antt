@@ -1,5 +1,4 @@
 -- `fields_part` writes `fields_part`: the title, or a field.
-use borrow.Author.Rules.{rules}
 use mathlib.Core.Path.{◌∙◌}
 use native.Mathlib.Omega.{arith}
 use Rattle.auditing.proofs.pages.Parts.{fields_title, fields_field}

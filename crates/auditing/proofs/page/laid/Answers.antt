@@ -1,11 +1,10 @@
 -- `laid` lays the piece byte by byte. The loop's invariant: the buffer is as it was but for the first
 -- bytes of the piece.
 use borrow.Author.Rules.{rules}
-use Prim.Native.Nat.{◌-◌, ◌≤◌}
-use mathlib.Core.Path.{◌≡◌, ap, ◌∙◌}
+use mathlib.Core.Path.{◌∙◌}
 use native.Mathlib.Omega.{arith}
-use lib.ListN.{length, get_or, length-set}
-use Rattle.listing.proofs.pieces.Puts.{begun, begin}
+use lib.ListN.{get_or, length-set}
+use Rattle.listing.proofs.pieces.Puts.{begin}
 use Rattle.auditing.proofs.pages.Parts.{laid_more, laid_all, laid_counts}
 use Rattle.auditing.proofs.page.laid.Goals as goal
 

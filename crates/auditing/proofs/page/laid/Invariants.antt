@@ -1,12 +1,9 @@
 -- `laid` lays the piece byte by byte. The loop's invariant: the buffer is as it was but for the first
 -- bytes of the piece.
-use borrow.Author.Rules.{rules}
 use Prim.Native.Nat.{◌-◌, ◌≤◌}
-use mathlib.Core.Path.{◌≡◌, ap, ◌∙◌}
-use native.Mathlib.Omega.{arith}
-use lib.ListN.{length, get_or, length-set}
-use Rattle.listing.proofs.pieces.Puts.{begun, begin}
-use Rattle.auditing.proofs.pages.Parts.{laid_more, laid_all, laid_counts}
+use mathlib.Core.Path.{◌≡◌}
+use lib.ListN.{length}
+use Rattle.listing.proofs.pieces.Puts.{begun}
 use Rattle.auditing.proofs.page.laid.Given as goal
 
 abbrev pub invariant-loop-i : goal.invariant-loop-i

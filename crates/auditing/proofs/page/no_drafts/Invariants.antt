@@ -1,13 +1,9 @@
 -- `no_drafts` finds whether a draft has a line. The loop's invariant: those of the first calls have
 -- none.
-use borrow.Author.Rules.{rules}
 use Prim.Native.Nat.{◌-◌, ◌≤◌}
-use mathlib.Core.Path.{◌≡◌, ap, ◌∙◌}
-use native.Mathlib.Omega.{arith}
-use native.Mathlib.Numerals.{add-one}
+use mathlib.Core.Path.{◌≡◌}
 use lib.ListN.{length}
 use Rattle.auditing.specs.Page.{drafts_text}
-use Rattle.auditing.proofs.pages.Parts.{lines_none, lines_next, some_draft, no_draft}
 use Rattle.auditing.proofs.page.no_drafts.Given as goal
 
 abbrev pub invariant-loop-p : goal.invariant-loop-p

@@ -1,5 +1,4 @@
 -- `none_part` writes `none` where no draft has a line, else nothing.
-use borrow.Author.Rules.{rules}
 use mathlib.Core.Path.{refl, sym, ◌∙◌}
 use native.Mathlib.Omega.{arith}
 use Rattle.base.proofs.verdicts.Picks.{cond_true, cond_false}

@@ -1,5 +1,4 @@
 -- `page_part` writes `page_part`: the fields, and then the drafts and what follows them.
-use borrow.Author.Rules.{rules}
 use Prim.Native.Nat.{suc, ◌-◌}
 use mathlib.Core.Path.{sym, ◌∙◌}
 use native.Mathlib.Omega.{arith}

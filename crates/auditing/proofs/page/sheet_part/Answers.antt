@@ -1,5 +1,4 @@
 -- `sheet_part` writes `sheet_part`: the heading, the sheet, and nothing after it.
-use borrow.Author.Rules.{rules}
 use Prim.Native.Nat.{suc}
 use mathlib.Core.Path.{refl, sym}
 use native.Mathlib.Omega.{arith}

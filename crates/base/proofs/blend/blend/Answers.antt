@@ -1,6 +1,6 @@
 -- `blend` fills the buffer from `base` on with `blend_at`, by the loop's invariant that i elements
 -- are filled: both words of a turn are those of the definition.
-use Rattle.std.proofs.Common.{◌≡◌, ◌-◌, ◌≤◌, length, sym, refl, arith, rules}
+use Rattle.std.proofs.Common.{◌≡◌, sym, refl, arith, rules}
 use Rattle.base.specs.Fill.{fill}
 use Rattle.base.specs.Blend.{blend_at}
 use Rattle.base.proofs.lists.Fills.{fill_next}

@@ -1,5 +1,5 @@
 -- `acos64` is `acos_of`: the range's test decides, then the callees' definitions compose.
-use Rattle.std.proofs.Common.{◌-◌, sym, ap, ◌∙◌, rules}
+use Rattle.std.proofs.Common.{sym, ap, ◌∙◌}
 use lib.Ieee.{Float, binary64, le, round, of_bits}
 use Rattle.base.specs.Double.{◌⊗◌, fraction}
 use Rattle.base.specs.Elementary.{atan_of, acos_of}

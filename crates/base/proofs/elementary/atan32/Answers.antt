@@ -1,5 +1,5 @@
 -- `atan32` widens, works in `f64` and narrows, as its definition does.
-use Rattle.std.proofs.Common.{ap, ◌∙◌, rules}
+use Rattle.std.proofs.Common.{ap, ◌∙◌}
 use Rattle.base.specs.Number.{narrow_of}
 use Rattle.base.specs.Elementary.{atan_of, atan32_of}
 use Rattle.base.proofs.elementary.atan32.Goals as goal

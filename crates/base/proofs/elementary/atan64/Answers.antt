@@ -1,5 +1,5 @@
 -- `atan64` is `atan_of`: the sign is put back.
-use Rattle.std.proofs.Common.{◌-◌, sym, ap, ◌∙◌, rules}
+use Rattle.std.proofs.Common.{sym, ap, ◌∙◌}
 use lib.Ieee.{neg}
 use Rattle.base.specs.Number.{with_sign}
 use Rattle.base.specs.Elementary.{atan_from, atan_of}

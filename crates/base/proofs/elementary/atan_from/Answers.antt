@@ -1,5 +1,5 @@
 -- `atan_from` is `atan_from`: inverted above 1.
-use Rattle.std.proofs.Common.{◌-◌, sym, ap, ◌∙◌, rules}
+use Rattle.std.proofs.Common.{sym, ap, ◌∙◌}
 use lib.Ieee.{Float, round, of_bits}
 use Rattle.base.specs.Double.{◌⊖◌, fraction}
 use Rattle.base.specs.Elementary.{atan_from, half_pi}

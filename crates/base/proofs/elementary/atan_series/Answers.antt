@@ -1,5 +1,5 @@
 -- `atan_series` is `atan_series`: its table is the fractions, and `horner` is the sum.
-use Rattle.std.proofs.Common.{List, ap, ◌∙◌, rules}
+use Rattle.std.proofs.Common.{List, ap, ◌∙◌}
 use lib.Ieee.{Float, round, of_bits}
 use Rattle.base.specs.Double.{◌⊗◌, fraction}
 use Rattle.base.specs.Elementary.{horner, atan_series}

@@ -1,6 +1,6 @@
 -- `atan_within` is three halvings, the series and the product with 8, each callee by its
 -- definition.
-use Rattle.std.proofs.Common.{◌-◌, ap, ◌∙◌, rules}
+use Rattle.std.proofs.Common.{ap, ◌∙◌}
 use lib.Ieee.{Float, round, of_bits}
 use Rattle.base.specs.Double.{◌⊗◌, fraction}
 use Rattle.base.specs.Elementary.{half_angle, atan_series, atan_within}

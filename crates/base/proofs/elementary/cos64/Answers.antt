@@ -1,5 +1,5 @@
 -- `cos64` is `cos_of`: up to 1000 in size by `split` and `cos_at`, and else 0 / 0.
-use Rattle.std.proofs.Common.{◌≡◌, true, T, sym, ap, ◌∙◌, subst, rules}
+use Rattle.std.proofs.Common.{◌≡◌, true, T, sym, ap, ◌∙◌, subst}
 use lib.Ieee.{Float, binary64, le, round, of_bits}
 use Rattle.base.specs.Double.{fraction}
 use Rattle.base.specs.Number.{abs_of}

@@ -1,5 +1,5 @@
 -- `cos_at` goes by the quarter as `cos_at` does.
-use Rattle.std.proofs.Common.{◌≡◌, ℕ, zero, suc, ◌-◌, sym, refl, ap, ◌∙◌, rules}
+use Rattle.std.proofs.Common.{◌≡◌, ℕ, zero, suc, sym, refl, ap, ◌∙◌}
 use lib.Ieee.{Float, neg}
 use Rattle.base.specs.Elementary.{cos_at, sin_series}
 use Rattle.base.proofs.elementary.cos_at.Goals as goal

@@ -1,5 +1,5 @@
 -- `exp64` is `exp_of`: the two ends, then `exp_within`.
-use Rattle.std.proofs.Common.{◌≡◌, false, sym, refl, ◌∙◌, rules}
+use Rattle.std.proofs.Common.{◌≡◌, false, sym, refl, ◌∙◌}
 use lib.Ieee.{binary64, inf, div, neg, round, of_bits}
 use Rattle.base.specs.Double.{fraction}
 use Rattle.base.specs.Elementary.{exp_of}

@@ -1,5 +1,5 @@
 -- `exp_within` takes whole powers of two out, and sums the series of what is left.
-use Rattle.std.proofs.Common.{List, ap, ◌∙◌, rules}
+use Rattle.std.proofs.Common.{List, ap, ◌∙◌}
 use lib.Ieee.{Float, round, of_bits}
 use Rattle.base.specs.Double.{◌⊖◌, ◌⊗◌, fraction}
 use Rattle.base.specs.Elementary.{power_of_two, horner, ln2, exp_terms, exp_within}

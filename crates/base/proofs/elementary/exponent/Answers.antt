@@ -1,6 +1,6 @@
 -- `exponent` is f - 1075 as a float: std's conversion of the difference, turned where it is
 -- negative.
-use Rattle.std.proofs.Common.{ap, ◌∙◌, rules}
+use Rattle.std.proofs.Common.{ap, ◌∙◌}
 use lib.Ieee.{neg}
 use Rattle.base.proofs.steps.Logs.{exponent_up, exponent_down}
 use Rattle.base.proofs.elementary.exponent.Goals as goal

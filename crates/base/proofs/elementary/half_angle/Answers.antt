@@ -1,5 +1,5 @@
 -- `half_angle` is `half_angle`, the root by its definition.
-use Rattle.std.proofs.Common.{◌-◌, ap, rules}
+use Rattle.std.proofs.Common.{ap}
 use lib.Ieee.{Float, round, of_bits}
 use Rattle.base.specs.Double.{◌⊕◌, ◌⊘◌, fraction}
 use Rattle.base.specs.Elementary.{half_angle}

@@ -1,6 +1,6 @@
 -- `horner` is the sum from the highest term down: before each turn `s` is the sum of the terms from
 -- `i` on.
-use Rattle.std.proofs.Common.{◌≡◌, ℕ, suc, ◌-◌, ◌<◌, length, get_or, drop, ap, ◌∙◌, arith, rules}
+use Rattle.std.proofs.Common.{◌≡◌, ℕ, suc, ◌-◌, length, get_or, drop, ap, ◌∙◌, arith, rules}
 use lib.Ieee.{Float, nan}
 use Rattle.base.specs.Double.{◌⊕◌, ◌⊗◌}
 use Rattle.base.specs.Elementary.{horner}

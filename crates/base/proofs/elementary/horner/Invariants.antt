@@ -1,10 +1,7 @@
 -- `horner` is the sum from the highest term down: before each turn `s` is the sum of the terms from
 -- `i` on.
-use Rattle.std.proofs.Common.{◌≡◌, ℕ, suc, ◌-◌, ◌<◌, length, get_or, drop, ap, ◌∙◌, arith, rules}
-use lib.Ieee.{Float, nan}
-use Rattle.base.specs.Double.{◌⊕◌, ◌⊗◌}
+use Rattle.std.proofs.Common.{◌≡◌, ◌<◌, length, drop}
 use Rattle.base.specs.Elementary.{horner}
-use Rattle.base.proofs.steps.Terms.{horner_none, horner_last, horner_next}
 use Rattle.base.proofs.elementary.horner.Given as goal
 
 abbrev pub invariant-loop-i : goal.invariant-loop-i

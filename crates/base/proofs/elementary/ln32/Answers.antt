@@ -1,5 +1,5 @@
 -- `ln32` widens, works in `f64` and narrows, as its definition does.
-use Rattle.std.proofs.Common.{ap, ◌∙◌, rules}
+use Rattle.std.proofs.Common.{ap, ◌∙◌}
 use Rattle.base.specs.Number.{narrow_of}
 use Rattle.base.specs.Elementary.{ln_of, ln32_of}
 use Rattle.base.proofs.elementary.ln32.Goals as goal

@@ -1,6 +1,6 @@
 -- `ln_bits` is `ln_of` of its pattern: a subnormal's digits are shifted up first (`subnormal_ln`), a
 -- normal number's are read off (`normal_ln`).
-use Rattle.std.proofs.Common.{◌∙◌, arith, rules}
+use Rattle.std.proofs.Common.{◌∙◌, arith}
 use Rattle.base.proofs.rounding.Sorts.{lead, no_wrap}
 use Rattle.base.proofs.steps.Logs.{normal_ln, subnormal_ln}
 use Rattle.base.proofs.elementary.ln_bits.Goals as goal

@@ -1,5 +1,5 @@
 -- `ln_sum` is `ln_sum`, the series by its definition.
-use Rattle.std.proofs.Common.{ap, rules}
+use Rattle.std.proofs.Common.{ap}
 use lib.Ieee.{Float, round, of_bits}
 use Rattle.base.specs.Double.{◌⊕◌, ◌⊗◌, fraction}
 use Rattle.base.specs.Elementary.{ln2, ln_sum}

@@ -1,5 +1,5 @@
 -- `near` is the definition's two steps, the first of them by `shifted`. Assumes nothing.
-use Rattle.std.proofs.Common.{ap, rules}
+use Rattle.std.proofs.Common.{ap}
 use lib.Ieee.{Float, round, of_bits}
 use Rattle.base.specs.Double.{◌⊖◌, fraction}
 use Rattle.base.specs.Elementary.{near_of}

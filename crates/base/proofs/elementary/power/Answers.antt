@@ -1,5 +1,5 @@
 -- `power` is `power_of_two`, by the sign.
-use Rattle.std.proofs.Common.{◌≡◌, ℕ, ◌^◌, sym, ap, ◌∙◌, rules}
+use Rattle.std.proofs.Common.{◌≡◌, ℕ, ◌^◌, sym, ap, ◌∙◌}
 use lib.Ieee.{to_unsigned}
 use Rattle.base.specs.Double.{fraction}
 use Rattle.base.specs.Number.{abs_of}

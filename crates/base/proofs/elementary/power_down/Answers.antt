@@ -1,6 +1,6 @@
 -- `power_down` is 1 / 2 ^ k: by the exponent's field, then by one digit below the normal numbers,
 -- then 0.
-use Rattle.std.proofs.Common.{◌≡◌, ℕ, ◌-◌, ◌*◌, ◌%◌, ◌^◌, ◌<◌, ◌≤◌, ap, ◌∙◌, lt_of_lt_of_le, mod-eq_of_lt, one-mul, arith, lit≤, rules}
+use Rattle.std.proofs.Common.{◌≡◌, ℕ, ◌-◌, ◌*◌, ◌%◌, ◌^◌, ◌<◌, ◌≤◌, ap, ◌∙◌, lt_of_lt_of_le, mod-eq_of_lt, one-mul, arith, lit≤}
 use lib.Pow.{pow-lt}
 use lib.Ieee.{binary64, of_bits}
 use Rattle.base.proofs.rounding.Patterns.{no_nan_bits}

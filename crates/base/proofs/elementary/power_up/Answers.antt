@@ -1,5 +1,5 @@
 -- `power_up` is 2 ^ k: by the exponent's field, and the infinity from 2 ^ 1024 on.
-use Rattle.std.proofs.Common.{◌≡◌, ◌+◌, ◌*◌, ◌^◌, false, refl, ◌∙◌, arith, rules}
+use Rattle.std.proofs.Common.{◌≡◌, ◌+◌, ◌*◌, ◌^◌, false, refl, ◌∙◌, arith}
 use lib.Ieee.{binary64, inf, div, of_bits}
 use Rattle.base.proofs.rounding.Patterns.{no_nan_bits}
 use Rattle.base.proofs.rounding.Twos.{up_bits, up_inf}

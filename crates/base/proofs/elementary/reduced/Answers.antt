@@ -1,5 +1,5 @@
 -- `reduced` is `reduced_of`: the literals are the decimals.
-use Rattle.std.proofs.Common.{◌-◌, refl}
+use Rattle.std.proofs.Common.{refl}
 use lib.Ieee.{round, of_bits}
 use Rattle.base.specs.Double.{fraction}
 use Rattle.base.specs.Elementary.{reduced_of, half_pi}

@@ -1,5 +1,5 @@
 -- `sin_at` goes by the quarter as `sin_at` does.
-use Rattle.std.proofs.Common.{◌≡◌, ℕ, zero, suc, ◌-◌, sym, refl, ap, ◌∙◌, rules}
+use Rattle.std.proofs.Common.{◌≡◌, ℕ, zero, suc, sym, refl, ap, ◌∙◌}
 use lib.Ieee.{Float, neg}
 use Rattle.base.specs.Elementary.{sin_at, cos_series}
 use Rattle.base.proofs.elementary.sin_at.Goals as goal

@@ -1,6 +1,6 @@
 -- `split` is the quarter and the rest of v by `turns_of`: v in quarter turns is 1024 at most in size
 -- (`turns_small`), as `quarter` asks.
-use Rattle.std.proofs.Common.{ap, ◌∙◌, rules}
+use Rattle.std.proofs.Common.{ap, ◌∙◌}
 use lib.Ieee.{round, of_bits}
 use Rattle.base.specs.Double.{fraction}
 use Rattle.base.specs.Elementary.{turns_of, reduced_of}

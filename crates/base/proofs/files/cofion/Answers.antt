@@ -1,5 +1,5 @@
 -- `cofion` answers `files_check`, and fills the array with `cofion_of` or leaves it, by the verdict.
-use Rattle.std.proofs.Common.{sym, ◌∙◌, rules}
+use Rattle.std.proofs.Common.{sym, ◌∙◌}
 use Rattle.base.proofs.layout.Readers.{files_record, files_length, files_record_finite, files_finite, written, left}
 use Rattle.base.proofs.files.cofion.Goals as goal
 

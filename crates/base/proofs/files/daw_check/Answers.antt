@@ -1,6 +1,6 @@
 -- `daw_check` is `daw_check`, by the verdict on month 12's record: where it is there, so are all, and
 -- their words are judged.
-use Rattle.std.proofs.Common.{◌≡◌, sym, ap, ◌∙◌, lit≤, rules}
+use Rattle.std.proofs.Common.{sym, ap, ◌∙◌, lit≤}
 use Rattle.base.specs.declared.refusal.Verdict.{Verdict}
 use Rattle.base.specs.Refusal.{◌then◌}
 use Rattle.base.specs.Finite.{record_words_check}

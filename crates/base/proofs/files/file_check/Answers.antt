@@ -1,6 +1,6 @@
 -- `file_check` is `file_check`, by the walk's verdict: where it accepts, the words and then the index
 -- table are judged.
-use Rattle.std.proofs.Common.{◌≡◌, sym, ap, ◌∙◌, rules}
+use Rattle.std.proofs.Common.{sym, ap, ◌∙◌}
 use Rattle.base.specs.declared.refusal.Verdict.{Verdict}
 use Rattle.base.specs.Refusal.{◌then◌}
 use Rattle.base.specs.Finite.{table_words_check}

@@ -1,6 +1,6 @@
 -- `files_check` is `files_check`, by the record's length and the walk's verdict: a short record is
 -- refused first, then what the walk meets; else the words and the index table are judged.
-use Rattle.std.proofs.Common.{◌≡◌, sym, ap, ◌∙◌, arith, rules, le-leb}
+use Rattle.std.proofs.Common.{sym, ap, ◌∙◌, le-leb}
 use borrow.Author.Tests.{lt-leb}
 use Rattle.base.specs.declared.refusal.Verdict.{Verdict}
 use Rattle.base.specs.Refusal.{◌then◌}

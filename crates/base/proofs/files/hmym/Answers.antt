@@ -1,5 +1,5 @@
 -- `hmym` answers `file_check`, and fills the array with `hmym_of` or leaves it, by the verdict.
-use Rattle.std.proofs.Common.{sym, ◌∙◌, rules}
+use Rattle.std.proofs.Common.{sym, ◌∙◌}
 use Rattle.base.proofs.layout.Readers.{file_length, file_finite, written, left}
 use Rattle.base.proofs.files.hmym.Goals as goal
 

@@ -1,5 +1,5 @@
 -- `index` answers `index_file_check`, and fills the array with `index_of` or leaves it, by the verdict.
-use Rattle.std.proofs.Common.{sym, ◌∙◌, rules}
+use Rattle.std.proofs.Common.{sym, ◌∙◌}
 use Rattle.base.proofs.layout.Readers.{index_length, written, left}
 use Rattle.base.proofs.files.index.Goals as goal
 

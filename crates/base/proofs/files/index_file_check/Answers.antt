@@ -1,5 +1,5 @@
 -- `index_file_check` is `index_file_check`, by the walk's verdict: where it accepts, the index table is judged.
-use Rattle.std.proofs.Common.{◌≡◌, sym, ap, ◌∙◌, rules}
+use Rattle.std.proofs.Common.{sym, ap, ◌∙◌}
 use Rattle.base.specs.declared.refusal.Verdict.{Verdict}
 use Rattle.base.specs.Index.{index_check}
 use Rattle.base.specs.Refusal.{◌then◌}

@@ -1,5 +1,5 @@
 -- `redmap` answers `files_check`, and fills the four arrays or leaves them, by the verdict.
-use Rattle.std.proofs.Common.{◌≡◌, sym, ◌∙◌, rules}
+use Rattle.std.proofs.Common.{◌≡◌, sym, ◌∙◌}
 use Rattle.base.specs.declared.refusal.Verdict.TheVariants.{Accepted}
 use Rattle.base.specs.Files.{files_check}
 use Rattle.base.proofs.layout.Readers.{files_record, files_length, files_record_finite, files_finite, written, left}

@@ -1,6 +1,6 @@
 -- `are_finite` is `all_finite`, by the loop's invariant that the sums gathered so far stay below the
 -- sign's bit exactly where the words so far are finite.
-use Rattle.std.proofs.Common.{◌≡◌, ◌-◌, ◌≤◌, ltb, refl, ap, ◌∙◌, arith, rules}
+use Rattle.std.proofs.Common.{◌≡◌, refl, ap, ◌∙◌, arith, rules}
 use Rattle.base.specs.Finite.{all_finite}
 use Rattle.base.proofs.layout.FirstWords.{all_next}
 use Rattle.base.proofs.finite.are_finite.Goals as goal

@@ -1,8 +1,7 @@
 -- `first_other` is `first_other`: where all words are finite it is behind them, and else it is looked
 -- for, by the loop's invariant that from the word i on it is that of the whole run.
-use Rattle.std.proofs.Common.{◌-◌, ◌≤◌, sym, ◌∙◌, rules}
-use borrow.Author.Tests.{not-true, not-false}
-use Rattle.base.proofs.layout.FirstWords.{none_other, all_run, Sought, sought_first, sought_on, sought_here, sought_none}
+use Rattle.std.proofs.Common.{sym, ◌∙◌, rules}
+use Rattle.base.proofs.layout.FirstWords.{none_other, all_run, sought_first, sought_on, sought_here, sought_none}
 use Rattle.base.proofs.finite.first_other.Goals as goal
 
 pub returns-then-are_finite : goal.returns-then-are_finite

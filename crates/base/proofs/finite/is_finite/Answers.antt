@@ -1,5 +1,5 @@
 -- `is_finite` is `finite` of the word, by what `table_word` tells of it.
-use Rattle.std.proofs.Common.{sym, ap, ◌∙◌, rules}
+use Rattle.std.proofs.Common.{sym, ap, ◌∙◌}
 use Rattle.base.proofs.layout.FirstWords.{tells, told}
 use Rattle.base.proofs.finite.is_finite.Goals as goal
 

@@ -1,5 +1,5 @@
 -- `record_words_check` is `record_words_check`: the first word that is no finite number, or none.
-use Rattle.std.proofs.Common.{◌*◌, ◌∙◌, arith, rules}
+use Rattle.std.proofs.Common.{◌*◌, ◌∙◌, arith}
 use Rattle.base.specs.declared.refusal.Refusal.TheVariants.{RecordWord}
 use Rattle.base.specs.Finite.{record_words_check}
 use Rattle.base.proofs.layout.FirstWords.{first_most, by_found}

@@ -1,9 +1,7 @@
 -- `is_ladder` is `climbs`, by the loop's invariant that the rest of the ladder is the whole of it:
 -- a word stops it, breaks it or goes on.
-use Rattle.std.proofs.Common.{ℕ, ◌-◌, ℤ, sym, refl, ap, ◌∙◌, rules}
-use borrow.Author.Tests.{not-true, not-false}
-use Rattle.base.specs.Index.{climbs}
-use Rattle.base.proofs.ladder.Ladders.{Climbed, same_words, stops, falls, goes_up, ends_up}
+use Rattle.std.proofs.Common.{◌-◌}
+use Rattle.base.proofs.ladder.Ladders.{Climbed}
 use Rattle.base.proofs.index.is_ladder.Given as goal
 
 abbrev pub invariant-loop-j : goal.invariant-loop-j

@@ -1,5 +1,5 @@
 -- `is_next` is `exceeds`, by its two tests: the unsigned words exceed each other as the signed do.
-use Rattle.std.proofs.Common.{sym, rules}
+use Rattle.std.proofs.Common.{sym}
 use Rattle.base.proofs.ladder.Ladders.{exceeds_even, exceeds_odd, exceeds_not}
 use Rattle.base.proofs.index.is_next.Goals as goal
 

@@ -1,5 +1,5 @@
 -- `is_marker` is whether the word at `at` is n, by what `word` ensures.
-use Rattle.std.proofs.Common.{ℕ, eqb, ap, rules}
+use Rattle.std.proofs.Common.{ℕ, eqb, ap}
 use Rattle.base.proofs.month_file.is_marker.Goals as goal
 
 pub returns : goal.returns

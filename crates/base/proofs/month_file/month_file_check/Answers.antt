@@ -1,8 +1,7 @@
 -- `month_file_check` is `month_file_check`, by the loop's invariant that what is left of the walk is
 -- the whole walk: a record is passed at once, or the walk ends in it.
-use Rattle.std.proofs.Common.{◌-◌, sym, ◌∙◌, inl, inr, rules}
-use borrow.Author.Tests.{not-true, not-false}
-use Rattle.base.proofs.layout.Walks.{Walked, first, ends_short, ends_open, ends_close, goes_on, ends}
+use Rattle.std.proofs.Common.{sym, ◌∙◌, inl, inr}
+use Rattle.base.proofs.layout.Walks.{first, ends_short, ends_open, ends_close, goes_on, ends}
 use Rattle.base.proofs.month_file.month_file_check.Goals as goal
 
 pub loop-k-init : goal.loop-k-init

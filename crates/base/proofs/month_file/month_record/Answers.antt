@@ -1,6 +1,6 @@
 -- `month_record` is the part `month_part` of the file, by the verdict: an accepted record lies
 -- within the file, and a refused one gives no bytes at 0.
-use Rattle.std.proofs.Common.{sym, refl, ◌∙◌, arith, rules}
+use Rattle.std.proofs.Common.{sym, refl, ◌∙◌, arith}
 use Rattle.base.proofs.layout.Records.{MonthThere, month_known, month_part_law, month_none, part_of}
 use Rattle.base.proofs.month_file.month_record.Goals.{In-Accepted}
 use Rattle.base.proofs.month_file.month_record.Goals as goal

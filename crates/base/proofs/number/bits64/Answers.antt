@@ -1,5 +1,5 @@
 -- `bits64` is `to_bits`, whose pattern for a NaN is the one written here.
-use Rattle.std.proofs.Common.{sym, ap, rules}
+use Rattle.std.proofs.Common.{sym, ap}
 use lib.Ieee.{binary64, to_bits}
 use Rattle.base.proofs.rounding.Patterns.{is_nan_law, no_nan}
 use Rattle.base.proofs.number.bits64.Goals as goal

@@ -1,5 +1,5 @@
 -- `float32` is `of_bits`: a pattern above that of the infinity is a NaN's.
-use Rattle.std.proofs.Common.{◌∙◌, rules}
+use Rattle.std.proofs.Common.{◌∙◌}
 use lib.Ieee.{binary32}
 use Rattle.base.proofs.rounding.Patterns.{no_number, no_nan_bits, nan_bits_law}
 use Rattle.base.proofs.number.float32.Goals as goal

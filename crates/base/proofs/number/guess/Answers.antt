@@ -1,5 +1,5 @@
 -- `guess` is safe. Nothing is proved of how near it is.
-use Rattle.std.proofs.Common.{◌-◌, ◌/◌, arith, rules}
+use Rattle.std.proofs.Common.{◌-◌, ◌/◌, arith}
 use lib.Ieee.{binary64}
 use Rattle.base.proofs.rounding.Patterns.{no_nan_bits}
 use Rattle.base.proofs.number.guess.Goals as goal

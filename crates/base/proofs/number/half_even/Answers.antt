@@ -1,5 +1,5 @@
 -- `half_even` is `closest`, without a branch (`half_up`).
-use Rattle.std.proofs.Common.{◌^◌, arith, rules}
+use Rattle.std.proofs.Common.{◌^◌, arith}
 use Rattle.base.proofs.rounding.Halves.{half_of, half_small, half_pos, half_twice, half_up}
 use Rattle.base.proofs.number.half_even.Goals as goal
 

@@ -1,6 +1,6 @@
 -- `is_nearest` is true only of the nearest root: the three differences do not wrap where they are
 -- small, and `next_nearest` has what they leave.
-use Rattle.std.proofs.Common.{◌≡◌, ◌+◌, ◌*◌, ◌/◌, ◌%◌, ◌^◌, arith, rules, ltb-true}
+use Rattle.std.proofs.Common.{◌≡◌, ◌+◌, ◌*◌, ◌/◌, ◌%◌, ◌^◌, arith, ltb-true}
 use mathlib.Core.Bool.{false≢true}
 use Rattle.base.proofs.roots.Roots.{sizes, next_nearest}
 use Rattle.base.proofs.number.is_nearest.Goals as goal

@@ -1,6 +1,6 @@
 -- `is_root` is true only of the root: then the digits of s are the nearest root of the number's
 -- digits (`is_nearest`), and its exponent is half of the number's.
-use Rattle.std.proofs.Common.{◌≡◌, ◌+◌, ◌/◌, ◌%◌, ◌^◌, ◌∙◌, arith, rules}
+use Rattle.std.proofs.Common.{◌≡◌, ◌+◌, ◌/◌, ◌%◌, ◌^◌, ◌∙◌, arith}
 use mathlib.Core.Bool.{false≢true}
 use lib.Ieee.{binary64, to_bits}
 use Rattle.base.proofs.rounding.Patterns.{no_nan, by_bits}

@@ -1,5 +1,5 @@
 -- `magnitude` is the narrowed pattern, case by case of the exponent's field (`Narrowing`).
-use Rattle.std.proofs.Common.{ℕ, ◌+◌, ◌-◌, ◌*◌, ◌/◌, ◌%◌, ◌^◌, ◌≤◌, sym, subst, le_trans, lt_of_lt_of_le, arith, lit≤, pow_mono, rules}
+use Rattle.std.proofs.Common.{ℕ, ◌+◌, ◌-◌, ◌*◌, ◌/◌, ◌%◌, ◌^◌, ◌≤◌, sym, subst, le_trans, lt_of_lt_of_le, arith, lit≤, pow_mono}
 use Rattle.base.proofs.rounding.Rounding.{closest_le}
 use Rattle.base.proofs.rounding.Narrowing.{Narrows, zero_case, low_case, mid_case, inf_case}
 use Rattle.base.proofs.number.magnitude.Goals.{After-half_even-then-exponent-lt1151}

@@ -1,7 +1,7 @@
 -- `narrowed` is `narrow_of`: the bits with 29 digits cleared are those of the `f64` that has the
 -- same value as the `f32` of `mid_case`, and two floats of one format with the same value are the
 -- same, since their bits are.
-use Rattle.std.proofs.Common.{◌≡◌, ℕ, ◌+◌, ◌-◌, ◌*◌, ◌/◌, ◌%◌, ◌^◌, ◌<◌, ◌≤◌, Bool, true, false, cond, not, T, sym, refl, ap, ◌∙◌, subst, inr, lt_of_lt_of_le, mul_right_comm, arith, lit≤, pow_pos, pow_mono, shl_lt, rules}
+use Rattle.std.proofs.Common.{◌≡◌, ℕ, ◌+◌, ◌-◌, ◌*◌, ◌/◌, ◌%◌, ◌^◌, ◌<◌, ◌≤◌, Bool, true, false, cond, not, T, sym, refl, ap, ◌∙◌, subst, inr, lt_of_lt_of_le, mul_right_comm, arith, lit≤, pow_pos, pow_mono, shl_lt}
 use native.Mathlib.Decide.{dec_lt}
 use lib.Ieee.{Float, nan, inf, fin, Format, binary32, binary64, prec, low, up, down, hid, top, size, units, nan_bits, of_bits, to_bits, fits}
 use lib.Ieee.Fits.{down_pos, fits_widens}

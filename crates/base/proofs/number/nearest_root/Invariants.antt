@@ -1,7 +1,7 @@
 -- `nearest_root` is the nearest root, a binary digit a turn: the invariant `Turn` has the digits
 -- read so far as a square and a rest.
-use Rattle.std.proofs.Common.{◌≡◌, ◌+◌, ◌-◌, ◌*◌, ◌^◌, ◌<◌, ⊎_elim, arith}
-use Rattle.base.proofs.roots.Roots.{Turn, first, turn_one, turn_zero, moved, q_lt, last_lt, all, down, up}
+use Rattle.std.proofs.Common.{◌-◌}
+use Rattle.base.proofs.roots.Roots.{Turn}
 use Rattle.base.proofs.number.nearest_root.Given as goal
 
 abbrev pub invariant-loop-i : goal.invariant-loop-i

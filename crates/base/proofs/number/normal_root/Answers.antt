@@ -1,6 +1,6 @@
 -- `normal_root` is the root: the guess where it was found to be (`is_root`), and by `root_bits`
 -- where not.
-use Rattle.std.proofs.Common.{arith, rules}
+use Rattle.std.proofs.Common.{arith}
 use lib.Ieee.{binary64}
 use Rattle.base.proofs.rounding.Patterns.{no_nan_bits}
 use Rattle.base.proofs.number.normal_root.Goals as goal

@@ -1,6 +1,6 @@
 -- `root_bits` is the pattern of `sqrt_of`: a subnormal's digits are shifted up first
 -- (`subnormal_root`), a normal number's are read off (`normal_root`).
-use Rattle.std.proofs.Common.{sym, subst, arith, rules}
+use Rattle.std.proofs.Common.{sym, subst, arith}
 use Rattle.base.proofs.rounding.Sorts.{Rooted, lead, no_wrap, subnormal_root, normal_root}
 use Rattle.base.proofs.number.root_bits.Goals as goal
 

@@ -1,5 +1,5 @@
 -- `scaled_root` is the exponent's half and the digits' root, by `nearest_root`.
-use Rattle.std.proofs.Common.{ℕ, ◌%◌, ◌^◌, ◌≤◌, sym, subst, arith, rules}
+use Rattle.std.proofs.Common.{ℕ, ◌%◌, ◌^◌, ◌≤◌, sym, subst, arith}
 use Rattle.base.proofs.roots.Rooted.{at_most, root_small}
 use Rattle.base.proofs.number.scaled_root.Goals as goal
 

@@ -1,5 +1,5 @@
 -- `signed` is `signed_of`: from 2 ^ 31 on, -1 - (2 ^ 32 - 1 - w) is w - 2 ^ 32.
-use Rattle.std.proofs.Common.{◌≡◌, ℕ, zero, suc, ◌-◌, ◌^◌, ◌<◌, ℤ, pos, negsuc, ◌-ℤ◌, sym, refl, ap, ◌∙◌, subst, zero-add, arith, to_z-of_z, w32, SFits, to_z, of_z, rules, le-ltb, lt-ltb}
+use Rattle.std.proofs.Common.{◌≡◌, ℕ, zero, suc, ◌-◌, ◌^◌, ◌<◌, ℤ, pos, negsuc, ◌-ℤ◌, sym, refl, ap, ◌∙◌, subst, zero-add, arith, to_z-of_z, w32, SFits, to_z, of_z, le-ltb, lt-ltb}
 use mir.Facts.{to_z_pos}
 use Rattle.base.specs.Number.{signed_of}
 use Rattle.base.proofs.verdicts.Picks.{cond_true, cond_false}

@@ -1,5 +1,5 @@
 -- `sqrt32` rounds twice, which for a root gives what rounding once gives (`sqrt_narrow`).
-use Rattle.std.proofs.Common.{ap, ◌∙◌, rules}
+use Rattle.std.proofs.Common.{ap, ◌∙◌}
 use lib.Ieee.{binary32, binary64}
 use Rattle.base.specs.Number.{narrow_of, sqrt_of}
 use Rattle.base.proofs.rounding.DoubleRounding.{sqrt_narrow}

@@ -1,6 +1,6 @@
 -- `sqrt64` is `sqrt_of binary64`: a normal number's by `normal_root`, NaN's, the zeros', the
 -- infinity's and that of what is below zero by their patterns, a subnormal number's by `root_bits`.
-use Rattle.std.proofs.Common.{◌≡◌, ◌+◌, ◌-◌, ◌*◌, ◌%◌, ◌^◌, ◌<◌, ◌⊎◌, sym, ap, ◌∙◌, inl, inr, eq-zero-or-pos, arith, rules}
+use Rattle.std.proofs.Common.{◌≡◌, ◌+◌, ◌-◌, ◌*◌, ◌%◌, ◌^◌, ◌<◌, ◌⊎◌, sym, ap, ◌∙◌, inl, inr, eq-zero-or-pos, arith}
 use lib.Ieee.{binary64, of_bits, to_bits}
 use Rattle.base.specs.Number.{sqrt_of}
 use Rattle.base.proofs.rounding.Patterns.{is_nan_law, no_nan, no_nan_bits, no_number, wide, read_back, by_bits, capped}

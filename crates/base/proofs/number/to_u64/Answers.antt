@@ -1,6 +1,6 @@
 -- `to_u64` is `to_unsigned 64`: in the range std's conversion gives it, and outside an end of the
 -- range does.
-use Rattle.std.proofs.Common.{T, sym, subst, rules}
+use Rattle.std.proofs.Common.{T, sym, subst}
 use lib.Ieee.{of_bits, neg}
 use Rattle.base.proofs.rounding.Patterns.{is_nan_law}
 use Rattle.base.proofs.rounding.Signs.{unsigned_nan, unsigned_low, unsigned_high}

@@ -1,5 +1,4 @@
 -- `hour_check` is `hour_check`: the ends of the range are the decimals, by computation.
-use Rattle.std.proofs.Common.{rules}
 use lib.Ieee.{of_bits, round}
 use Rattle.base.specs.Single.{decimal}
 use Rattle.base.specs.Ranges.{hour_check}

@@ -1,5 +1,4 @@
 -- `latitude_check` is `latitude_check`: the ends of the range are the decimals, by computation.
-use Rattle.std.proofs.Common.{rules}
 use lib.Ieee.{of_bits, round, neg}
 use Rattle.base.specs.Single.{decimal, minus_decimal}
 use Rattle.base.specs.Ranges.{latitude_check}

@@ -1,5 +1,4 @@
 -- `model_check` is `model_check`, by what `is_bit` and `refuse_unless` ensure.
-use Rattle.std.proofs.Common.{rules}
 use Rattle.base.specs.Ranges.{model_check}
 use Rattle.base.proofs.verdicts.Refusals.{by_test}
 use Rattle.base.proofs.ranges.model_check.Goals as goal

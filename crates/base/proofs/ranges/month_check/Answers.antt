@@ -1,5 +1,4 @@
 -- `month_check` is `month_check`, by what `is_month` and `refuse_unless` ensure.
-use Rattle.std.proofs.Common.{rules}
 use Rattle.base.specs.Ranges.{month_check}
 use Rattle.base.proofs.verdicts.Refusals.{by_test}
 use Rattle.base.proofs.ranges.month_check.Goals as goal

@@ -1,5 +1,5 @@
 -- `then` is `_then_`, by the first verdict's two cases.
-use Rattle.std.proofs.Common.{sym, ap, rules}
+use Rattle.std.proofs.Common.{sym, ap}
 use Rattle.base.specs.declared.refusal.Verdict.{Verdict}
 use Rattle.base.specs.Refusal.{◌then◌}
 use Rattle.base.proofs.refusal.then.Goals as goal

@@ -1,6 +1,6 @@
 -- `table` is the part `table_part` of the file that holds it, by the verdict: an accepted table lies
 -- within that file, and a refused one gives no bytes at 0.
-use Rattle.std.proofs.Common.{sym, refl, ◌∙◌, arith, rules}
+use Rattle.std.proofs.Common.{sym, refl, ◌∙◌, arith}
 use Rattle.base.proofs.layout.Records.{part_of}
 use Rattle.base.proofs.layout.Walks.{accepted_length}
 use Rattle.base.proofs.layout.Parts.{TableThere, Placed, placed, table_known, table_part_law, table_none, file_none, file_f2, file_month}

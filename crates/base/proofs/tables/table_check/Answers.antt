@@ -1,5 +1,5 @@
 -- `table_check` is `table_check`, by the number, the record's length and the walk, in this order.
-use Rattle.std.proofs.Common.{sym, ◌∙◌, rules}
+use Rattle.std.proofs.Common.{sym, ◌∙◌}
 use Rattle.base.proofs.layout.Parts.{table_high, table_short, table_walk}
 use Rattle.base.proofs.tables.table_check.Goals as goal
 

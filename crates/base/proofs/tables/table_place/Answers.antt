@@ -1,6 +1,6 @@
 -- `table_place` is start and size of `part_of`: the source's rows are those of the parts, by
 -- computation over the whole table.
-use Rattle.std.proofs.Common.{◌≡◌, ℕ, List, [], ◌∷◌, map, get_or, sym, ap, ◌∙◌, rules}
+use Rattle.std.proofs.Common.{◌≡◌, ℕ, List, [], ◌∷◌, map, get_or, sym, ap, ◌∙◌}
 use lib.ListN.{get_or-map}
 use Rattle.base.specs.MonthFile.{Part}
 use Rattle.base.specs.Tables.{numbered, no_such_table, bytes_in, part_of}

@@ -1,5 +1,5 @@
 -- `finite_word` is `float_at`: a finite number's pattern is no NaN's.
-use Rattle.std.proofs.Common.{ℕ, T, sym, ap, subst, rules}
+use Rattle.std.proofs.Common.{ℕ, T, sym, ap, subst}
 use lib.Ieee.{binary32, of_bits}
 use lib.Ieee.Scale.{finite}
 use Rattle.base.specs.Words.{float_at}

@@ -1,7 +1,6 @@
 -- `read_words` fills the array with the words. The loop's invariant: the first i are filled.
-use Rattle.std.proofs.Common.{◌≡◌, ℕ, ◌+◌, ◌-◌, ◌*◌, ◌≤◌, length, sym, refl, arith, rules}
+use Rattle.std.proofs.Common.{sym, refl, arith, rules}
 use Rattle.base.specs.Fill.{fill}
-use Rattle.base.specs.Words.{word_at}
 use Rattle.base.proofs.lists.Fills.{fill_first, filled}
 use Rattle.base.proofs.words.read_words.Goals as goal
 

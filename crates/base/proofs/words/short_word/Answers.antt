@@ -1,5 +1,5 @@
 -- `short_word` is `word_at`: from the file's end on each of the four bytes is 0.
-use Rattle.std.proofs.Common.{◌≡◌, ℕ, ◌+◌, ◌≤◌, List, length, arith, rules}
+use Rattle.std.proofs.Common.{◌≡◌, ℕ, ◌+◌, ◌≤◌, List, length, arith}
 use lib.ListN.{get_or-eq_default}
 use Rattle.base.specs.Words.{word_at}
 use Rattle.base.proofs.words.short_word.Goals as goal

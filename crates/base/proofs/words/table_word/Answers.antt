@@ -1,6 +1,6 @@
 -- `table_word` is `table_word_at`: a word is finite exactly where its pattern, the sign left out, is
 -- below the infinity's.
-use Rattle.std.proofs.Common.{arith, rules}
+use Rattle.std.proofs.Common.{arith}
 use lib.Ieee.{binary32}
 use Rattle.base.proofs.rounding.Patterns.{no_nan_bits}
 use Rattle.base.proofs.rounding.Exponents.{told_finite, told_other}

@@ -1,5 +1,5 @@
 -- `floor` is `floor_at`, by whether the pair is the first.
-use Rattle.std.proofs.Common.{sym, ◌∙◌, rules, eq-eqb, ne_eqb}
+use Rattle.std.proofs.Common.{sym, ◌∙◌, eq-eqb, ne_eqb}
 use Rattle.base.specs.Year.{floor_at}
 use Rattle.base.proofs.verdicts.Picks.{cond_true, cond_false}
 use Rattle.base.proofs.year.floor.Goals as goal

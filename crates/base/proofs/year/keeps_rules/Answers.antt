@@ -1,5 +1,5 @@
 -- `keeps_rules` is `keeps_rules`: each return by the tests before it.
-use Rattle.std.proofs.Common.{ℕ, leb, length, ap, ◌∙◌, arith, rules}
+use Rattle.std.proofs.Common.{ℕ, leb, length, ap, ◌∙◌, arith}
 use Rattle.base.proofs.layout.Directories.{rule_cut, rule_early, rule_kept, rule_last}
 use Rattle.base.proofs.year.keeps_rules.Goals as goal
 

@@ -1,5 +1,5 @@
 -- `model_place` is the part `year_model`: that of a pair, by what `pair_place` ensures, or none.
-use Rattle.std.proofs.Common.{◌≡◌, ℕ, sym, ap, ◌∙◌, arith, rules}
+use Rattle.std.proofs.Common.{ℕ, sym, ap, ◌∙◌, arith}
 use Rattle.base.specs.MonthFile.{Part}
 use Rattle.base.proofs.layout.Directories.{model_part_is, no_model, bit_known}
 use Rattle.base.proofs.year.model_place.Goals as goal

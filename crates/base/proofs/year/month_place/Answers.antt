@@ -1,5 +1,5 @@
 -- `month_place` is the part `year_month`: that of a pair, by what `pair_place` ensures, or none.
-use Rattle.std.proofs.Common.{◌≡◌, ℕ, sym, ap, ◌∙◌, arith, rules}
+use Rattle.std.proofs.Common.{ℕ, sym, ap, ◌∙◌, arith}
 use Rattle.base.specs.MonthFile.{Part}
 use Rattle.base.proofs.layout.Directories.{month_part_is, no_month, month_known}
 use Rattle.base.proofs.year.month_place.Goals as goal

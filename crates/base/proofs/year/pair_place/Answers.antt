@@ -1,5 +1,5 @@
 -- `pair_place` is the part `pair_part`, by whether the pair and its part lie in the file.
-use Rattle.std.proofs.Common.{◌≡◌, ℕ, ◌+◌, ◌≤◌, sym, ap, ◌∙◌, arith, rules}
+use Rattle.std.proofs.Common.{ℕ, sym, ap, ◌∙◌, arith}
 use Rattle.base.specs.MonthFile.{Part}
 use Rattle.base.specs.Year.{end_at}
 use Rattle.base.proofs.layout.Directories.{part_there, part_cut, part_beyond}

@@ -1,7 +1,6 @@
 -- `year_check` is `year_check`, by the loop's invariant that what is left of the check is the whole.
-use Rattle.std.proofs.Common.{◌-◌, sym, ◌∙◌, rules}
-use borrow.Author.Tests.{not-true, not-false}
-use Rattle.base.proofs.layout.Directories.{Passed, first, next, broken, done}
+use Rattle.std.proofs.Common.{sym, ◌∙◌}
+use Rattle.base.proofs.layout.Directories.{first, next, broken, done}
 use Rattle.base.proofs.year.year_check.Goals as goal
 
 pub loop-k-init : goal.loop-k-init

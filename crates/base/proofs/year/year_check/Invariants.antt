@@ -1,7 +1,6 @@
 -- `year_check` is `year_check`, by the loop's invariant that what is left of the check is the whole.
-use Rattle.std.proofs.Common.{◌-◌, sym, ◌∙◌, rules}
-use borrow.Author.Tests.{not-true, not-false}
-use Rattle.base.proofs.layout.Directories.{Passed, first, next, broken, done}
+use Rattle.std.proofs.Common.{◌-◌}
+use Rattle.base.proofs.layout.Directories.{Passed}
 use Rattle.base.proofs.year.year_check.Given as goal
 
 abbrev pub invariant-loop-k : goal.invariant-loop-k

@@ -1,5 +1,5 @@
 -- `year_month` is the part `year_month` of the file, by what `month_place` ensures: it lies within.
-use Rattle.std.proofs.Common.{sym, arith, rules}
+use Rattle.std.proofs.Common.{sym, arith}
 use Rattle.base.proofs.layout.Records.{part_of}
 use Rattle.base.proofs.year.year_month.Goals as goal
 

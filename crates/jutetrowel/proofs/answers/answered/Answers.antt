@@ -1,5 +1,4 @@
 -- `answered` is `answer_of`: number and place are those of the verdict.
-use borrow.Author.Rules.{rules}
 use Rattle.jutetrowel.specs.Answers.{answer_of}
 use Rattle.jutetrowel.proofs.answers.answered.Goals as goal
 

@@ -1,5 +1,4 @@
 -- `no_span` is the span of a refusal: its number and place beside an empty part.
-use borrow.Author.Rules.{rules}
 use Rattle.jutetrowel.specs.Answers.{span_of}
 use Rattle.jutetrowel.proofs.answers.no_span.Goals as goal
 

@@ -1,5 +1,4 @@
 -- `numbers_of` is `shown_numbers`: number and place of what `shown_as` gives.
-use borrow.Author.Rules.{rules}
 use mathlib.Core.Path.{ap}
 use Rattle.jutetrowel.specs.declared.answers.Showing.{Showing}
 use Rattle.jutetrowel.proofs.answers.numbers_of.Goals as goal

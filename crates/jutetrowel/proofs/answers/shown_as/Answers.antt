@@ -1,5 +1,4 @@
 -- `shown_as` is `showing_of`, by whether the showing gives points or a refusal.
-use borrow.Author.Rules.{rules}
 use mathlib.Core.Path.{sym, ap, ◌∙◌}
 use lib.ListN.{replicate}
 use Rattle.jutetrowel.specs.Answers.{showing_of}

@@ -1,5 +1,4 @@
 -- `span_unless` is `span_unless`, by whether the verdict accepts.
-use borrow.Author.Rules.{rules}
 use mathlib.Core.Path.{sym, ap, ◌∙◌}
 use Rattle.base.specs.declared.refusal.Verdict.{Verdict}
 use Rattle.base.specs.MonthFile.{Part}

@@ -1,5 +1,4 @@
 -- `use_code` is `use_code`, by the use.
-use borrow.Author.Rules.{rules}
 use mathlib.Core.Path.{sym, ap}
 use Rattle.jutetrowel.specs.Answers.{use_code}
 use Rattle.jutetrowel.proofs.answers.use_code.Goals as goal

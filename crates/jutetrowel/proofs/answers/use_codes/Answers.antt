@@ -1,5 +1,4 @@
 -- `use_codes` is `use_codes`, call by call.
-use borrow.Author.Rules.{rules}
 use Rattle.jutetrowel.specs.Answers.{use_codes}
 use Rattle.jutetrowel.proofs.answers.use_codes.Goals as goal
 

@@ -1,5 +1,4 @@
 -- `clock_of` is `clock_answer`, by whether the clock moved or was refused.
-use borrow.Author.Rules.{rules}
 use mathlib.Core.Path.{sym, ap, ◌∙◌}
 use lib.Ieee.{binary32, of_bits, round}
 use Rattle.base.specs.Single.{decimal}

@@ -1,5 +1,4 @@
 -- `hours_of` is `hours_answer`, by whether there are hours or a refusal.
-use borrow.Author.Rules.{rules}
 use mathlib.Core.Path.{sym, ap, ◌∙◌}
 use lib.Ieee.{binary32, of_bits, round}
 use Rattle.base.specs.Single.{decimal}

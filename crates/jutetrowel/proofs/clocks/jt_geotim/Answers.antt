@@ -1,5 +1,4 @@
 -- `jt_geotim` answers `times_of` of its numbers: what `geotim` ensures, in `hours_of`.
-use borrow.Author.Rules.{rules}
 use mathlib.Core.Path.{ap, ◌∙◌}
 use Rattle.jutetrowel.specs.Clocks.{hours_answer}
 use Rattle.jutetrowel.proofs.clocks.jt_geotim.Goals as goal

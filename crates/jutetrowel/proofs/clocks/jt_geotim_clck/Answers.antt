@@ -1,5 +1,4 @@
 -- `jt_geotim_clck` answers `local_time_of` of its numbers: what `geotim_clck` ensures, in `local_of`.
-use borrow.Author.Rules.{rules}
 use mathlib.Core.Path.{ap, ◌∙◌}
 use Rattle.jutetrowel.specs.Clocks.{local_answer}
 use Rattle.jutetrowel.proofs.clocks.jt_geotim_clck.Goals as goal

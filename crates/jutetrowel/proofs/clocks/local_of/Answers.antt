@@ -1,5 +1,4 @@
 -- `local_of` is `local_answer`, by whether there is a time or a refusal.
-use borrow.Author.Rules.{rules}
 use mathlib.Core.Path.{sym, ap, ◌∙◌}
 use lib.Ieee.{binary32, of_bits, round}
 use Rattle.base.specs.Single.{decimal}

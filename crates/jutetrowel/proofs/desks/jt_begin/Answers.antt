@@ -1,6 +1,5 @@
 -- `jt_begin` is `Made` of a begin: what `made` ensures, for any source, since a begin reads no
 -- files.
-use borrow.Author.Rules.{rules}
 use Rattle.worksheet.specs.Journal.{step}
 use Rattle.jutetrowel.specs.Calls.{words_left}
 use Rattle.jutetrowel.proofs.desks.jt_begin.Goals as goal

@@ -1,6 +1,5 @@
 -- `jt_cancel` is `Made` of a cancel: what `made` ensures, for any source, since a cancel reads no
 -- files.
-use borrow.Author.Rules.{rules}
 use Rattle.worksheet.specs.Journal.{step}
 use Rattle.jutetrowel.specs.Calls.{words_left}
 use Rattle.jutetrowel.proofs.desks.jt_cancel.Goals as goal

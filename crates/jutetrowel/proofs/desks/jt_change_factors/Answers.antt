@@ -1,5 +1,4 @@
 -- `jt_change_factors` is `Made` of the change to these factors: what `made` ensures (`changed`).
-use borrow.Author.Rules.{rules}
 use mathlib.Core.Path.{ap}
 use Rattle.worksheet.specs.declared.inputs.Edit.TheVariants.{Psc}
 use Rattle.jutetrowel.proofs.crossing.Crossed.{changed}

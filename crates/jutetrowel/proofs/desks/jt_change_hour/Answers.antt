@@ -1,5 +1,4 @@
 -- `jt_change_hour` is `Made` of the change to this hour: what `made` ensures (`changed`).
-use borrow.Author.Rules.{rules}
 use mathlib.Core.Path.{refl}
 use Rattle.jutetrowel.proofs.crossing.Crossed.{changed}
 use Rattle.jutetrowel.proofs.desks.jt_change_hour.Goals as goal

@@ -1,5 +1,4 @@
 -- `jt_change_month` is `Made` of the change to this month: what `made` ensures (`changed`).
-use borrow.Author.Rules.{rules}
 use mathlib.Core.Path.{refl}
 use Rattle.jutetrowel.proofs.crossing.Crossed.{changed}
 use Rattle.jutetrowel.proofs.desks.jt_change_month.Goals as goal

@@ -1,5 +1,4 @@
 -- `jt_change_path` is `Made` of the change to this route: what `made` ensures (`changed`).
-use borrow.Author.Rules.{rules}
 use mathlib.Core.Path.{ap}
 use Rattle.worksheet.specs.declared.inputs.Edit.TheVariants.{Path}
 use Rattle.jutetrowel.proofs.crossing.Crossed.{changed}

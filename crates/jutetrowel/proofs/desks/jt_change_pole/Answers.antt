@@ -1,5 +1,4 @@
 -- `jt_change_pole` is `Made` of the change to this pole: what `made` ensures (`changed`).
-use borrow.Author.Rules.{rules}
 use mathlib.Core.Path.{ap}
 use Rattle.worksheet.specs.declared.inputs.Edit.TheVariants.{Pole}
 use Rattle.jutetrowel.proofs.crossing.Crossed.{changed}

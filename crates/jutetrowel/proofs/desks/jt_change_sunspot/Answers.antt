@@ -1,6 +1,5 @@
 -- `jt_change_sunspot` is `Made` of the change to this sunspot number: what `made` ensures
 -- (`changed`).
-use borrow.Author.Rules.{rules}
 use mathlib.Core.Path.{refl}
 use Rattle.jutetrowel.proofs.crossing.Crossed.{changed}
 use Rattle.jutetrowel.proofs.desks.jt_change_sunspot.Goals as goal

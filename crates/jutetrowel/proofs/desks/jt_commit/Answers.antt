@@ -1,6 +1,5 @@
 -- `jt_commit` is `Made` of a commit: what `made` ensures, for any source, since a commit reads no
 -- files.
-use borrow.Author.Rules.{rules}
 use Rattle.worksheet.specs.Journal.{step}
 use Rattle.jutetrowel.specs.Calls.{words_left}
 use Rattle.jutetrowel.proofs.desks.jt_commit.Goals as goal

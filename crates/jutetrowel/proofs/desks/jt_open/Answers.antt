@@ -1,5 +1,4 @@
 -- `jt_open` answers and leaves what `opened_of` of the words gives: the outcome, settled.
-use borrow.Author.Rules.{rules}
 use mathlib.Core.Path.{ap, ◌∙◌}
 use Rattle.worksheet.specs.declared.desks.Outcome.{Outcome}
 use Rattle.jutetrowel.specs.Answers.{answer_of}

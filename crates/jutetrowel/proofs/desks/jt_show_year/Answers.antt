@@ -1,6 +1,5 @@
 -- `jt_show_year` is the step of a showing of the worksheet that the words hold, by what `load` and
 -- `show_year` ensure.
-use borrow.Author.Rules.{rules}
 use mathlib.Core.Path.{ap, ◌∙◌}
 use Rattle.worksheet.specs.Showing.{show_of, show_buffer}
 use Rattle.worksheet.specs.Journal.{step}

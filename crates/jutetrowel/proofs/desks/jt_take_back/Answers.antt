@@ -1,6 +1,5 @@
 -- `jt_take_back` is `Made` of a take-back: what `made` ensures, for any source, since a take-back
 -- reads no files.
-use borrow.Author.Rules.{rules}
 use Rattle.worksheet.specs.Journal.{step}
 use Rattle.jutetrowel.specs.Calls.{words_left}
 use Rattle.jutetrowel.proofs.desks.jt_take_back.Goals as goal

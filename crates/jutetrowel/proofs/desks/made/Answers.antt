@@ -1,6 +1,5 @@
 -- `made` is the step of the worksheet that the words hold, by whether `make` hands back a verdict
 -- or a showing.
-use borrow.Author.Rules.{rules}
 use mathlib.Core.List.{[]}
 use mathlib.Core.Path.{ap, ◌∙◌}
 use Rattle.worksheet.specs.declared.desks.Worksheet.{Worksheet}

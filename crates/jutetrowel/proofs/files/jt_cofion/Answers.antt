@@ -1,5 +1,4 @@
 -- `jt_cofion` is `cofion`, its verdict answered as a number and a place.
-use borrow.Author.Rules.{rules}
 use mathlib.Core.Path.{ap, ◌∙◌}
 use Rattle.jutetrowel.specs.Answers.{answer_of}
 use Rattle.jutetrowel.proofs.files.jt_cofion.Goals as goal

@@ -1,6 +1,5 @@
 -- `jt_month_record` is the span of `month_part`, by the check: an accepted month has its part from
 -- the first byte of its record.
-use borrow.Author.Rules.{rules}
 use mathlib.Core.Path.{sym, ap, ◌∙◌}
 use native.Mathlib.Omega.{arith}
 use Rattle.base.specs.MonthFile.{empty_part, month_start, month_record_check}

@@ -1,5 +1,4 @@
 -- `jt_table` is the span of `table_part`, by the check: an accepted table has its number's part.
-use borrow.Author.Rules.{rules}
 use mathlib.Core.Path.{sym, ap, ◌∙◌}
 use Rattle.base.specs.MonthFile.{empty_part}
 use Rattle.base.specs.Tables.{part_of, table_check}

@@ -1,8 +1,6 @@
 -- `jt_year_model` is the span of `year_model` unless its check refuses, by what its calls ensure.
-use borrow.Author.Rules.{rules}
 use mathlib.Core.Path.{ap₂, ◌∙◌}
 use Rattle.base.specs.Refusal.{◌then◌}
-use Rattle.base.specs.MonthFile.{Part}
 use Rattle.base.specs.Year.{year_model_check}
 use Rattle.jutetrowel.specs.Answers.{span_unless}
 use Rattle.jutetrowel.proofs.files.jt_year_model.Goals as goal

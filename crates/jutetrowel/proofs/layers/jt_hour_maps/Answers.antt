@@ -1,5 +1,4 @@
 -- `jt_hour_maps` is `hour_maps`, its verdict answered as a number and a place.
-use borrow.Author.Rules.{rules}
 use mathlib.Core.Path.{ap, ◌∙◌}
 use Rattle.jutetrowel.specs.Answers.{answer_of}
 use Rattle.jutetrowel.proofs.layers.jt_hour_maps.Goals as goal

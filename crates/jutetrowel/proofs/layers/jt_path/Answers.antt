@@ -1,5 +1,4 @@
 -- `jt_path` is `path_of` of its numbers: the ends become degrees, and the path numbers.
-use borrow.Author.Rules.{rules}
 use Rattle.jutetrowel.proofs.layers.jt_path.Goals as goal
 
 pub returns : goal.returns

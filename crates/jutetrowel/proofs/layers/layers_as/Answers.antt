@@ -1,5 +1,4 @@
 -- `layers_as` is `layers_as`: number and place of the verdict, and the fields as they are.
-use borrow.Author.Rules.{rules}
 use Rattle.jutetrowel.specs.Layers.{layers_as}
 use Rattle.jutetrowel.proofs.layers.layers_as.Goals as goal
 

@@ -1,5 +1,4 @@
 -- `path_as` is `measured_of`, field by field, three of them by a call.
-use borrow.Author.Rules.{rules}
 use Rattle.jutetrowel.specs.Layers.{measured_of}
 use Rattle.jutetrowel.proofs.layers.path_as.Goals as goal
 

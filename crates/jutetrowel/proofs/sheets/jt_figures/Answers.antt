@@ -1,5 +1,4 @@
 -- `jt_figures` is `drawn_of` of its numbers: they become inputs, and the answer a struct.
-use borrow.Author.Rules.{rules}
 use mathlib.Core.Path.{◌≡◌, ap, ◌∙◌}
 use Rattle.maps.specs.declared.inputs.Inputs.{Inputs}
 use Rattle.worksheet.specs.Showing.{pair, drawn_of, drawn_buffer}

@@ -1,6 +1,5 @@
 -- `jt_sheet` is the step of a showing of the worksheet that the words open, by what `sheet_opened`
 -- and `show` ensure.
-use borrow.Author.Rules.{rules}
 use mathlib.Core.Path.{ap, ◌∙◌}
 use Rattle.worksheet.specs.declared.desks.Outcome.{Outcome}
 use Rattle.worksheet.specs.Showing.{show_of, show_buffer}

@@ -2,12 +2,11 @@
 use borrow.Author.Rules.{rules}
 use mathlib.Core.Path.{◌≡◌, refl, sym, ap, ◌∙◌}
 use mathlib.Core.List.{List}
-use Prim.Native.Nat.{ℕ, ◌+◌, ◌≤◌, ◌-◌}
+use Prim.Native.Nat.{ℕ, ◌+◌}
 use native.Mathlib.Omega.{arith}
-use lib.ListN.{length, set}
+use lib.ListN.{set}
 use Rattle.base.specs.Fill.{fill}
 use Rattle.base.proofs.lists.Fills.{fill_next}
-use Rattle.jutetrowel.specs.Words.{word_in}
 use Rattle.jutetrowel.proofs.words.copy.Invariants.{after}
 use Rattle.jutetrowel.proofs.words.copy.Goals as goal
 

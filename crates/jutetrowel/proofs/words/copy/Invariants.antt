@@ -1,12 +1,9 @@
 -- `copy` fills the words with the others. The loop's invariant: the first k are filled.
-use borrow.Author.Rules.{rules}
-use mathlib.Core.Path.{◌≡◌, refl, sym, ap, ◌∙◌}
+use mathlib.Core.Path.{◌≡◌}
 use mathlib.Core.List.{List}
 use Prim.Native.Nat.{ℕ, ◌+◌, ◌≤◌, ◌-◌}
-use native.Mathlib.Omega.{arith}
-use lib.ListN.{length, set}
+use lib.ListN.{length}
 use Rattle.base.specs.Fill.{fill}
-use Rattle.base.proofs.lists.Fills.{fill_next}
 use Rattle.jutetrowel.specs.Words.{word_in}
 use Rattle.jutetrowel.proofs.words.copy.Given as goal
 

@@ -1,5 +1,4 @@
 -- `draft_words` is `draft_words`, by the draft's case.
-use borrow.Author.Rules.{rules}
 use mathlib.Core.Path.{sym, ap, ◌∙◌}
 use Rattle.jutetrowel.specs.Words.{draft_words}
 use Rattle.jutetrowel.proofs.words.draft_words.Goals as goal

@@ -1,5 +1,4 @@
 -- `earlier_in` is `earlier_in`, by the set's first word.
-use borrow.Author.Rules.{rules}
 use borrow.Author.Tests.{eq-eqb, ne_eqb}
 use mathlib.Core.Path.{sym, ap, ◌∙◌}
 use Rattle.base.proofs.verdicts.Picks.{cond_true, cond_false}

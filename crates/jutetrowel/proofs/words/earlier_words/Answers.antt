@@ -1,5 +1,4 @@
 -- `earlier_words` is `earlier_words`, by whether there is an earlier set.
-use borrow.Author.Rules.{rules}
 use mathlib.Core.Path.{sym, ap, ◌∙◌}
 use Rattle.jutetrowel.specs.Words.{earlier_words}
 use Rattle.jutetrowel.proofs.words.earlier_words.Goals as goal

@@ -1,5 +1,4 @@
 -- `inputs_in` is `inputs_in`: the set's 15 words, copied and read.
-use borrow.Author.Rules.{rules}
 use mathlib.Core.List.{List}
 use mathlib.Core.Path.{ap, ◌∙◌}
 use Prim.Native.Nat.{ℕ}

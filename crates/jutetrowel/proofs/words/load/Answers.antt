@@ -1,5 +1,4 @@
 -- `load` is `worksheet_of`, set by set.
-use borrow.Author.Rules.{rules}
 use Rattle.jutetrowel.specs.Words.{worksheet_of}
 use Rattle.jutetrowel.proofs.words.load.Goals as goal
 

@@ -1,5 +1,4 @@
 -- `set_words` is `set_words`: what the set is, and the words of the fields copied behind it.
-use borrow.Author.Rules.{rules}
 use mathlib.Core.List.{List}
 use mathlib.Core.Path.{ap, ◌∙◌}
 use Prim.Native.Nat.{ℕ, ◌+◌}

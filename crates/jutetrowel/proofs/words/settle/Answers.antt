@@ -1,6 +1,5 @@
 -- `settle` answers the verdict and writes the worksheet's words, or leaves the words, by the
 -- verdict.
-use borrow.Author.Rules.{rules}
 use mathlib.Core.Path.{sym, ap, ◌∙◌}
 use Rattle.base.specs.Refusal.{written_over}
 use Rattle.base.specs.declared.refusal.Verdict.{Verdict}

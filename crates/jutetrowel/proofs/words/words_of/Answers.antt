@@ -1,5 +1,4 @@
 -- `words_of` is `sheet_words`: the six sets, copied one after the other, are appended.
-use borrow.Author.Rules.{rules}
 use Rattle.jutetrowel.proofs.crossing.Stored.{six_sets}
 use Rattle.jutetrowel.proofs.words.words_of.Goals as goal
 

@@ -1,5 +1,4 @@
 -- `draft_line` puts `draft_line`: desk, begin, refusal, ending and line feed, joined, which fit.
-use borrow.Author.Rules.{rules}
 use native.Mathlib.Omega.{arith}
 use Rattle.listing.specs.Account.{draft_line}
 use Rattle.listing.proofs.digits.Places.{at_most_20}

@@ -1,5 +1,4 @@
 -- `put_at_line` puts `at_line`: words and number, joined, which fit.
-use borrow.Author.Rules.{rules}
 use native.Mathlib.Omega.{arith}
 use Rattle.listing.specs.Account.{at_line}
 use Rattle.listing.proofs.digits.Places.{at_most_20}

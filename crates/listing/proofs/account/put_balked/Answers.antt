@@ -1,5 +1,4 @@
 -- `put_balked` puts `balked_words`, by the case.
-use borrow.Author.Rules.{rules}
 use mathlib.Core.Path.{sym, ap}
 use Rattle.listing.specs.Account.{balked_words}
 use Rattle.listing.proofs.pieces.Puts.{put_as, nothing}

@@ -1,5 +1,4 @@
 -- `put_came` puts `came_words`, by the case.
-use borrow.Author.Rules.{rules}
 use mathlib.Core.Path.{sym, ap}
 use Rattle.listing.specs.Account.{came_words}
 use Rattle.listing.proofs.pieces.Puts.{put_as}

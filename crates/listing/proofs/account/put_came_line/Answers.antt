@@ -1,5 +1,4 @@
 -- `put_came_line` puts `came_text`: field, blanks, where it comes from and line feed, joined, which fit.
-use borrow.Author.Rules.{rules}
 use native.Mathlib.Omega.{arith}
 use Rattle.listing.specs.Account.{came_text}
 use Rattle.listing.proofs.pieces.Puts.{joined}

@@ -1,5 +1,4 @@
 -- `put_done` puts what was done and `at_line`, joined.
-use borrow.Author.Rules.{rules}
 use Rattle.listing.proofs.pieces.Puts.{joined}
 use Rattle.listing.proofs.account.put_done.Goals as goal
 

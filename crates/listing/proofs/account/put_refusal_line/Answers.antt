@@ -1,5 +1,4 @@
 -- `put_refusal_line` puts `balked_words` of a refusal: word, line and comma, joined, which fit.
-use borrow.Author.Rules.{rules}
 use native.Mathlib.Omega.{arith}
 use Rattle.listing.specs.Account.{balked_words}
 use Rattle.listing.proofs.pieces.Puts.{joined}

@@ -1,5 +1,4 @@
 -- `put_set` puts `came_words` of a change: desk, line and the commit's line, joined, which fit.
-use borrow.Author.Rules.{rules}
 use native.Mathlib.Omega.{arith}
 use Rattle.listing.specs.Account.{came_words}
 use Rattle.listing.proofs.digits.Places.{at_most_20}

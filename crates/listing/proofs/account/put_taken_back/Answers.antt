@@ -1,5 +1,4 @@
 -- `put_taken_back` puts `became_words` of a draft taken back: both lines, joined, which fit.
-use borrow.Author.Rules.{rules}
 use native.Mathlib.Omega.{arith}
 use Rattle.listing.specs.Account.{became_words}
 use Rattle.listing.proofs.pieces.Puts.{joined}

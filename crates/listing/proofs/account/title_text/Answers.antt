@@ -1,5 +1,4 @@
 -- `title_text` puts `title_text`: words, the line's number and words, joined, which fit.
-use borrow.Author.Rules.{rules}
 use native.Mathlib.Omega.{arith}
 use Rattle.listing.specs.Account.{title_text}
 use Rattle.listing.proofs.digits.Places.{at_most_20}

@@ -1,5 +1,4 @@
 -- `glyph` is `glyph_of`, by whether the digit is below 10.
-use borrow.Author.Rules.{rules}
 use borrow.Author.Tests.{lt-ltb, le-ltb}
 use mathlib.Core.Path.{sym}
 use Rattle.base.proofs.verdicts.Picks.{cond_true, cond_false}

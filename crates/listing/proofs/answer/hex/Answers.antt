@@ -1,5 +1,4 @@
 -- `hex` is `hex_of`, digit by digit.
-use borrow.Author.Rules.{rules}
 use Rattle.listing.specs.Answer.{hex_of}
 use Rattle.listing.proofs.answer.hex.Goals as goal
 

@@ -1,5 +1,4 @@
 -- `points_text` puts `points_text`: word, number, uses, line feed and the lines, joined, which fit.
-use borrow.Author.Rules.{rules}
 use native.Mathlib.Omega.{arith}
 use Rattle.listing.specs.Answer.{points_text}
 use Rattle.listing.proofs.pieces.HexLines.{length_lines}

@@ -1,5 +1,4 @@
 -- `put_line` puts `line_of`: the eight digits and the line feed, joined.
-use borrow.Author.Rules.{rules}
 use mathlib.Core.Path.{ap, ◌∙◌}
 use native.Mathlib.Omega.{arith}
 use Rattle.listing.specs.Answer.{hex_of, line_of}

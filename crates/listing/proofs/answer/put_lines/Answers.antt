@@ -1,12 +1,12 @@
 -- `put_lines` puts `lines_of`. The loop's invariant: what is owed after k turns are the lines from
 -- number k on.
 use borrow.Author.Rules.{rules}
-use Prim.Native.Nat.{◌+◌, ◌≤◌, ◌-◌}
-use lib.ListN.{length, get_or, drop}
+use Prim.Native.Nat.{◌+◌}
+use lib.ListN.{get_or, drop}
 use lib.Ieee.{nan}
 use Rattle.listing.specs.Answer.{line_of, lines_of}
 use Rattle.listing.proofs.pieces.HexLines.{lines_from, no_lines}
-use Rattle.listing.proofs.pieces.Puts.{Owed, owing, renamed, paid, room, settled}
+use Rattle.listing.proofs.pieces.Puts.{owing, renamed, paid, room, settled}
 use Rattle.listing.proofs.answer.put_lines.Goals as goal
 
 pub loop-k-init : goal.loop-k-init

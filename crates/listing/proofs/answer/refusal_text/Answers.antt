@@ -1,5 +1,4 @@
 -- `refusal_text` puts `refusal_text`: word, number, blank, place and line feed, joined, which fit.
-use borrow.Author.Rules.{rules}
 use mathlib.Core.Path.{ap}
 use native.Mathlib.Omega.{arith}
 use Rattle.listing.specs.Text.{decimal_of}

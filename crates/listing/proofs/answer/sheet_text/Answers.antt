@@ -1,5 +1,4 @@
 -- `sheet_text` puts `sheet_text`, by whether the showing gives points or a refusal.
-use borrow.Author.Rules.{rules}
 use mathlib.Core.Path.{sym, ap, ◌∙◌}
 use native.Mathlib.Omega.{arith}
 use Rattle.maps.specs.declared.figures.Shown.{Shown}

@@ -1,5 +1,4 @@
 -- `shown_text` puts `shown_text`, by whether the showing gives points or a refusal.
-use borrow.Author.Rules.{rules}
 use mathlib.Core.Path.{sym, ap, ◌∙◌}
 use Rattle.maps.specs.declared.figures.Shown.{Shown}
 use Rattle.listing.specs.Answer.{shown_text}

@@ -1,5 +1,4 @@
 -- `stopped_text` puts `stopped_text`: words, number and line feed, joined, which fit.
-use borrow.Author.Rules.{rules}
 use native.Mathlib.Omega.{arith}
 use Rattle.listing.specs.Answer.{stopped_text}
 use Rattle.listing.proofs.digits.Places.{at_most_20}

@@ -1,5 +1,4 @@
 -- `verdict_text` puts `verdict_text`, by the verdict.
-use borrow.Author.Rules.{rules}
 use mathlib.Core.Path.{sym, ap, ◌∙◌}
 use native.Mathlib.Omega.{arith}
 use Rattle.listing.specs.Answer.{verdict_text}

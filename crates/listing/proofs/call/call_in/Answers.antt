@@ -1,6 +1,5 @@
 -- `call_in` is `call_in`, by the operation's number: each arm is its row of the table of calls, and
 -- a number that has no arm is 0 or past the table's end.
-use borrow.Author.Rules.{rules}
 use mathlib.Core.Path.{◌≡◌, sym, ap, ◌∙◌}
 use mathlib.Core.List.{List}
 use Prim.Native.Nat.{ℕ, ◌≤◌}

@@ -1,5 +1,4 @@
 -- `change_in` is `change_in`: the desk's word and the edit.
-use borrow.Author.Rules.{rules}
 use Rattle.listing.specs.Calls.{change_in}
 use Rattle.listing.proofs.call.change_in.Goals as goal
 

@@ -1,5 +1,4 @@
 -- `operation_in` is `operation_in`, by what is lent.
-use borrow.Author.Rules.{rules}
 use mathlib.Core.Path.{sym, ap, ◌∙◌}
 use Rattle.worksheet.specs.declared.showing.Lent.{Lent}
 use Rattle.listing.specs.Calls.{operation_in}

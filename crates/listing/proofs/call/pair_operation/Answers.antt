@@ -1,5 +1,4 @@
 -- `pair_operation` is `pair_operation`, by its test.
-use borrow.Author.Rules.{rules}
 use borrow.Author.Tests.{lt-ltb, le-ltb}
 use mathlib.Core.Path.{sym}
 use Rattle.base.proofs.verdicts.Picks.{cond_true, cond_false}

@@ -1,5 +1,4 @@
 -- `path_in` is `path_edit`, field by field.
-use borrow.Author.Rules.{rules}
 use Rattle.listing.specs.Calls.{path_edit}
 use Rattle.listing.proofs.call.path_in.Goals as goal
 

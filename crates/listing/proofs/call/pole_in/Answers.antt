@@ -1,5 +1,4 @@
 -- `pole_in` is `pole_edit`, field by field.
-use borrow.Author.Rules.{rules}
 use Rattle.listing.specs.Calls.{pole_edit}
 use Rattle.listing.proofs.call.pole_in.Goals as goal
 

@@ -1,5 +1,4 @@
 -- `psc_in` is `psc_edit`, field by field.
-use borrow.Author.Rules.{rules}
 use Rattle.listing.specs.Calls.{psc_edit}
 use Rattle.listing.proofs.call.psc_in.Goals as goal
 

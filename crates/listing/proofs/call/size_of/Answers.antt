@@ -1,6 +1,5 @@
 -- The source's sizes are those of the table of calls, by computation over the whole table; so is
 -- that none is above 24.
-use borrow.Author.Rules.{rules}
 use mathlib.Core.Path.{sym, ap}
 use mathlib.Core.Bool.{Bool}
 use mathlib.Core.List.{List, map}

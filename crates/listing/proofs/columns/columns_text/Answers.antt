@@ -1,5 +1,4 @@
 -- `columns_text` puts `columns_text`, which fits.
-use borrow.Author.Rules.{rules}
 use native.Mathlib.Omega.{arith}
 use Rattle.listing.proofs.pieces.Puts.{counts}
 use Rattle.listing.proofs.pieces.Abreast.{length_columns}

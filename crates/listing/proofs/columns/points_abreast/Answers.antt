@@ -1,5 +1,4 @@
 -- `points_abreast` is `abreast`, by whether the count is below five.
-use borrow.Author.Rules.{rules}
 use borrow.Author.Tests.{lt-ltb, le-ltb}
 use mathlib.Core.Path.{sym}
 use native.Mathlib.Omega.{arith}

@@ -1,5 +1,4 @@
 -- `put_columns` puts `columns_text`: fields, path, head and points, joined, which fit.
-use borrow.Author.Rules.{rules}
 use mathlib.Core.Path.{ap}
 use Prim.Native.Nat.{ℕ}
 use native.Mathlib.Omega.{arith}

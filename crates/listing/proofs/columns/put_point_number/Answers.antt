@@ -1,5 +1,4 @@
 -- `put_point_number` puts `cell`: a blank and the number at the right, joined.
-use borrow.Author.Rules.{rules}
 use Rattle.listing.specs.Columns.{cell}
 use Rattle.listing.proofs.pieces.Puts.{joined}
 use Rattle.listing.proofs.columns.put_point_number.Goals as goal

@@ -1,5 +1,4 @@
 -- `put_points_head` puts `points_head`: two lines of a word and cells, joined, which fit.
-use borrow.Author.Rules.{rules}
 use native.Mathlib.Omega.{arith}
 use Rattle.listing.specs.Columns.{points_head}
 use Rattle.listing.proofs.pieces.Puts.{joined}

@@ -1,5 +1,4 @@
 -- `put_side_row` puts `side_row`: name, numbers, unit and line feed, joined, which fit.
-use borrow.Author.Rules.{rules}
 use native.Mathlib.Omega.{arith}
 use Rattle.listing.specs.Columns.{side_row}
 use Rattle.listing.proofs.pieces.Puts.{put_as, joined}

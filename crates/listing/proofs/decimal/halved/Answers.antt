@@ -1,6 +1,5 @@
 -- `halved` is n over 2^s to the nearest: n over all factors of two but the last, halved to the
 -- nearest.
-use borrow.Author.Rules.{rules}
 use mathlib.Core.Path.{sym, ap, ◌∙◌}
 use Prim.Native.Nat.{ℕ, ◌+◌, ◌/◌, ◌%◌, ◌^◌}
 use native.Mathlib.Omega.{arith}

@@ -1,5 +1,4 @@
 -- `leading` is `leading_of`, by whether there is a digit here, and whether there is one after it.
-use borrow.Author.Rules.{rules}
 use mathlib.Core.Path.{sym, ◌∙◌}
 use Rattle.base.proofs.verdicts.Picks.{cond_true, cond_false}
 use Rattle.listing.specs.Decimal.{leading_of}

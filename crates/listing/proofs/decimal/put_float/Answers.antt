@@ -1,6 +1,5 @@
 -- `put_float` puts `decimal_text`: the fields are those of the float's bits, which are read back as
 -- the float.
-use borrow.Author.Rules.{rules}
 use mathlib.Core.Path.{ap, ◌∙◌}
 use Prim.Native.Nat.{ℕ}
 use lib.Ieee.{binary32, of_bits}

@@ -1,5 +1,4 @@
 -- `put_parts` puts `decimal_text` of the float with these fields, by the exponent's field.
-use borrow.Author.Rules.{rules}
 use mathlib.Core.Path.{◌≡◌, sym, ap, ◌∙◌}
 use Prim.Native.Nat.{ℕ}
 use native.Mathlib.Omega.{arith}

@@ -1,5 +1,4 @@
 -- `put_scaled` puts `scaled_text`: sign, number, sign of the power and number, joined, which fit.
-use borrow.Author.Rules.{rules}
 use native.Mathlib.Omega.{arith}
 use Rattle.listing.specs.Decimal.{minus_of, scaled_text}
 use Rattle.listing.proofs.digits.Places.{at_most_20}

@@ -1,6 +1,5 @@
 -- `small` is `decimal_text` of a float below 2^24, by whether it has a leading one that its bits do
 -- not hold.
-use borrow.Author.Rules.{rules}
 use mathlib.Core.Path.{sym, ap, ◌∙◌}
 use Prim.Native.Nat.{ℕ}
 use native.Mathlib.Omega.{arith}

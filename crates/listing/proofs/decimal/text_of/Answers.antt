@@ -1,5 +1,4 @@
 -- `text_of` is `text_of`, place by place.
-use borrow.Author.Rules.{rules}
 use Rattle.listing.specs.Decimal.{text_of}
 use Rattle.listing.proofs.decimal.text_of.Goals as goal
 

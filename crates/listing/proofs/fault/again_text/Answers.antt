@@ -1,5 +1,4 @@
 -- `again_text` puts `again_text`: the line's number and the words, joined, which fit.
-use borrow.Author.Rules.{rules}
 use native.Mathlib.Omega.{arith}
 use Rattle.listing.specs.Fault.{again_text}
 use Rattle.listing.proofs.pieces.Puts.{joined, counts}

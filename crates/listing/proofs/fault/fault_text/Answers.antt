@@ -1,5 +1,4 @@
 -- `fault_text` writes `fault_text`: words, numbers and what is said, joined, which fit the buffer.
-use borrow.Author.Rules.{rules}
 use native.Mathlib.Omega.{arith}
 use Rattle.listing.specs.Fault.{fault_text}
 use Rattle.listing.proofs.pieces.Puts.{joined, counts}

@@ -1,5 +1,4 @@
 -- `put_line_number` puts the word and the number, joined, which has at most twenty digits.
-use borrow.Author.Rules.{rules}
 use native.Mathlib.Omega.{arith}
 use Rattle.listing.proofs.digits.Places.{at_most_20}
 use Rattle.listing.proofs.pieces.Puts.{joined}

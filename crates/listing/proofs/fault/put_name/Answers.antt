@@ -1,5 +1,4 @@
 -- `put_name` puts the name of a word: the letters of its row of the table.
-use borrow.Author.Rules.{rules}
 use mathlib.Core.Path.{ap, ◌∙◌}
 use native.Mathlib.Omega.{arith}
 use Prim.Native.Nat.{ℕ}

@@ -1,5 +1,4 @@
 -- `put_saying` puts what is said: the letters of its row of the table.
-use borrow.Author.Rules.{rules}
 use mathlib.Core.Path.{ap, ◌∙◌}
 use native.Mathlib.Omega.{arith}
 use Prim.Native.Nat.{ℕ}

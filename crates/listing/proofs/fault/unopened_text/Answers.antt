@@ -1,5 +1,4 @@
 -- `unopened_text` puts `unopened_text`: the line's number and the words, joined, which fit.
-use borrow.Author.Rules.{rules}
 use native.Mathlib.Omega.{arith}
 use Rattle.listing.specs.Fault.{unopened_text}
 use Rattle.listing.proofs.pieces.Puts.{joined, counts}

@@ -1,5 +1,4 @@
 -- The source's names are those of the rows of specs/Fields.antt, by computation over the whole table.
-use borrow.Author.Rules.{rules}
 use Prim.Native.Nat.{◌-◌}
 use native.Mathlib.Omega.{arith}
 use Rattle.listing.specs.Fields.{field_name}

@@ -1,5 +1,4 @@
 -- `put_field_line` puts `field_line`: text and line feed, joined, which fit.
-use borrow.Author.Rules.{rules}
 use native.Mathlib.Omega.{arith}
 use Rattle.listing.proofs.pieces.Puts.{joined}
 use Rattle.listing.proofs.pieces.Named.{length_field}

@@ -1,5 +1,4 @@
 -- `put_field_unit` puts the unit of its row of specs/Fields.antt: the letters of its row of the table.
-use borrow.Author.Rules.{rules}
 use mathlib.Core.Path.{sym, ap, ◌∙◌}
 use Prim.Native.Nat.{◌-◌}
 use native.Mathlib.Omega.{arith}

@@ -2,7 +2,7 @@
 -- stand there.
 use borrow.Author.Rules.{rules}
 use mathlib.Core.Path.{◌≡◌, subst}
-use Prim.Native.Nat.{ℕ, ◌+◌, ◌-◌, ◌≤◌}
+use Prim.Native.Nat.{ℕ, ◌+◌}
 use native.Mathlib.Omega.{arith}
 use Rattle.listing.specs.Text.{Put}
 use Rattle.listing.specs.Fields.{in_turn, field_line, fields_words}

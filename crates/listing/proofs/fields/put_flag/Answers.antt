@@ -1,5 +1,4 @@
 -- `put_flag` puts `flag_name` at the right, by the flag.
-use borrow.Author.Rules.{rules}
 use borrow.Author.Tests.{eq-eqb, ne_eqb}
 use mathlib.Core.Path.{sym, ap, ◌∙◌}
 use Prim.Native.String.{String}

@@ -1,7 +1,5 @@
 -- `put_right` puts `at_right`: as many blanks as are missing and the text, joined, which fit.
-use borrow.Author.Rules.{rules}
 use mathlib.Core.Path.{sym}
-use mathlib.Core.List.{List}
 use Prim.Native.Nat.{ℕ, ◌-◌}
 use native.Mathlib.Omega.{arith}
 use lib.ListN.{length, replicate}

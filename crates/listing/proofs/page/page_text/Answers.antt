@@ -1,5 +1,4 @@
 -- `page_text` puts `page_text`: fields, path and points, joined, which fit.
-use borrow.Author.Rules.{rules}
 use native.Mathlib.Omega.{arith}
 use Rattle.listing.specs.Page.{page_text}
 use Rattle.listing.proofs.pieces.Puts.{joined, counts}

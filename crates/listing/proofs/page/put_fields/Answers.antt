@@ -1,5 +1,4 @@
 -- `put_fields` puts `fields_text`: month, six numbers, flag and six numbers, joined, which fit.
-use borrow.Author.Rules.{rules}
 use native.Mathlib.Omega.{arith}
 use Rattle.maps.specs.Inputs.{is_long}
 use Rattle.listing.specs.Page.{early_fields, long_text, fields_text}

@@ -1,5 +1,4 @@
 -- `put_point` puts `point_text`: the line over the point and its lines, joined, which fit.
-use borrow.Author.Rules.{rules}
 use native.Mathlib.Omega.{arith}
 use Rattle.listing.specs.Page.{point_text}
 use Rattle.listing.proofs.pieces.Puts.{joined}

@@ -1,5 +1,4 @@
 -- `put_point_head` puts `point_head`: word, number, words, name and line feed, joined, which fit.
-use borrow.Author.Rules.{rules}
 use mathlib.Core.Path.{ap}
 use Prim.Native.Nat.{◌+◌}
 use native.Mathlib.Omega.{arith}

@@ -1,5 +1,4 @@
 -- `put_point_there` puts `there_text`, by whether the point is there.
-use borrow.Author.Rules.{rules}
 use borrow.Author.Tests.{lt-ltb, le-ltb}
 use mathlib.Core.Path.{sym}
 use Rattle.base.proofs.verdicts.Picks.{cond_true, cond_false}

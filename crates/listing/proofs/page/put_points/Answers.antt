@@ -1,7 +1,7 @@
 -- `put_points` puts the five points. The loop's invariant: after p turns the first p stand there.
 use borrow.Author.Rules.{rules}
 use mathlib.Core.Path.{◌≡◌, subst}
-use Prim.Native.Nat.{ℕ, ◌≤◌, ◌-◌}
+use Prim.Native.Nat.{ℕ}
 use native.Mathlib.Omega.{arith}
 use Rattle.listing.specs.Text.{Put}
 use Rattle.listing.specs.Page.{first_points}

@@ -1,12 +1,7 @@
 -- `put_points` puts the five points. The loop's invariant: after p turns the first p stand there.
-use borrow.Author.Rules.{rules}
-use mathlib.Core.Path.{◌≡◌, subst}
-use Prim.Native.Nat.{ℕ, ◌≤◌, ◌-◌}
-use native.Mathlib.Omega.{arith}
+use Prim.Native.Nat.{◌≤◌, ◌-◌}
 use Rattle.listing.specs.Text.{Put}
 use Rattle.listing.specs.Page.{first_points}
-use Rattle.listing.proofs.pieces.Puts.{put_as, joined}
-use Rattle.listing.proofs.pieces.Rows.{no_points, next_point, length_points}
 use Rattle.listing.proofs.page.put_points.Given as goal
 
 abbrev pub invariant-loop-p : goal.invariant-loop-p

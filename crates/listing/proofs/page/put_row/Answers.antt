@@ -1,5 +1,4 @@
 -- `put_row` puts `row_text`: name, number, unit and line feed, joined, which fit.
-use borrow.Author.Rules.{rules}
 use native.Mathlib.Omega.{arith}
 use Rattle.listing.specs.Page.{row_text}
 use Rattle.listing.proofs.pieces.Puts.{put_as, joined}

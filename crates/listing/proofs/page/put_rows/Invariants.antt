@@ -1,13 +1,8 @@
 -- `put_rows` puts `rows_text`. The loop's invariant: after k turns the lines of k numbers stand
 -- there.
-use borrow.Author.Rules.{rules}
-use mathlib.Core.Path.{◌≡◌, subst}
-use Prim.Native.Nat.{ℕ, ◌≤◌, ◌-◌}
-use native.Mathlib.Omega.{arith}
+use Prim.Native.Nat.{◌≤◌, ◌-◌}
 use Rattle.listing.specs.Text.{Put}
 use Rattle.listing.specs.Page.{rows_text}
-use Rattle.listing.proofs.pieces.Puts.{put_as, joined}
-use Rattle.listing.proofs.pieces.Rows.{no_rows, next_row, length_rows}
 use Rattle.listing.proofs.page.put_rows.Given as goal
 
 abbrev pub invariant-loop-k : goal.invariant-loop-k

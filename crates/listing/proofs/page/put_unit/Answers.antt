@@ -1,5 +1,4 @@
 -- `put_unit` puts `unit_in`, by whether the first letter is a blank.
-use borrow.Author.Rules.{rules}
 use borrow.Author.Tests.{eq-eqb, ne_eqb}
 use mathlib.Core.Path.{sym}
 use Rattle.base.proofs.verdicts.Picks.{cond_true, cond_false}

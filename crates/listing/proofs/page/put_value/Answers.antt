@@ -1,5 +1,4 @@
 -- `put_value` puts `value_text`: decimals, two blanks and bits, joined, which fit.
-use borrow.Author.Rules.{rules}
 use mathlib.Core.Path.{ap, ◌∙◌}
 use native.Mathlib.Omega.{arith}
 use Rattle.listing.specs.Answer.{hex_of}

@@ -2,11 +2,11 @@
 -- what follows them.
 use borrow.Author.Rules.{rules}
 use mathlib.Core.List.{[], ◌∷◌}
-use Prim.Native.Nat.{◌+◌, ◌≤◌, ◌-◌}
+use Prim.Native.Nat.{◌+◌}
 use native.Mathlib.Omega.{arith}
-use lib.ListN.{length, get_or, drop}
+use lib.ListN.{get_or, drop}
 use Rattle.listing.specs.Page.{letters_in}
-use Rattle.listing.proofs.pieces.Puts.{Owed, owing, renamed, paid, room, settled}
+use Rattle.listing.proofs.pieces.Puts.{owing, renamed, paid, room, settled}
 use Rattle.listing.proofs.pieces.Rows.{word_next, word_end, word_none, length_word}
 use Rattle.listing.proofs.page.put_word.Goals as goal
 

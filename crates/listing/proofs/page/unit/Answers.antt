@@ -1,5 +1,4 @@
 -- The source's units are those of the rows of specs/Page.antt, by computation over the whole table.
-use borrow.Author.Rules.{rules}
 use Rattle.listing.proofs.pieces.Rows.{unit_at}
 use Rattle.listing.proofs.page.unit.Goals as goal
 

@@ -1,5 +1,4 @@
 -- `put_reason` puts the reason: the letters of its row of the table.
-use borrow.Author.Rules.{rules}
 use mathlib.Core.Path.{sym, ap, ◌∙◌}
 use native.Mathlib.Omega.{arith}
 use lib.ListN.{length}

@@ -1,5 +1,4 @@
 -- `put_refused` puts `refused_words`: word, number, blank, place, colon and reason, joined, which fit.
-use borrow.Author.Rules.{rules}
 use mathlib.Core.Path.{ap}
 use native.Mathlib.Omega.{arith}
 use Rattle.listing.specs.Text.{decimal_of}

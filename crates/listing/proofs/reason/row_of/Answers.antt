@@ -1,6 +1,5 @@
 -- `row_of` gives the row that `reason_row` says of each case: each arm is told which constructor the
 -- refusal is.
-use borrow.Author.Rules.{rules}
 use mathlib.Core.Path.{sym, ap}
 use native.Mathlib.Omega.{arith}
 use Rattle.listing.specs.Reason.{reason_row}

@@ -1,10 +1,7 @@
 -- `page_answer` puts `page_answer`: what the showing of the opened worksheet gives, as a page.
-use borrow.Author.Rules.{rules}
-use mathlib.Core.Path.{◌≡◌, ap, ap₂, ◌∙◌}
-use mathlib.Core.List.{List}
-use lib.Ieee.{Float, of_bits, round}
+use mathlib.Core.Path.{ap, ap₂, ◌∙◌}
+use lib.Ieee.{of_bits, round}
 use Rattle.base.specs.Single.{decimal}
-use Rattle.maps.specs.declared.figures.Shown.{Shown}
 use Rattle.worksheet.specs.declared.desks.Outcome.{Outcome}
 use Rattle.worksheet.specs.Showing.{pair, show_of, show_buffer}
 use Rattle.listing.specs.Turn.{blank}

@@ -1,5 +1,4 @@
 -- `page_for` puts `page_for`, by whether the showing gives points or a refusal.
-use borrow.Author.Rules.{rules}
 use mathlib.Core.Path.{sym, ap, ◌∙◌}
 use Rattle.maps.specs.declared.figures.Shown.{Shown}
 use Rattle.listing.specs.Sheet.{page_for}

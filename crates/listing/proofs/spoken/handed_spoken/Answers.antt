@@ -1,5 +1,4 @@
 -- `handed_spoken` puts the line's number and `handed_words`, joined, which fit.
-use borrow.Author.Rules.{rules}
 use native.Mathlib.Omega.{arith}
 use Rattle.listing.proofs.pieces.Puts.{joined, counts}
 use Rattle.listing.proofs.pieces.Sayings.{length_mark, length_handed}

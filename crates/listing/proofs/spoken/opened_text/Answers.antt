@@ -1,5 +1,4 @@
 -- `opened_text` puts `spoken_verdict`: the line's number and the verdict, joined, which fit.
-use borrow.Author.Rules.{rules}
 use native.Mathlib.Omega.{arith}
 use Rattle.listing.specs.Spoken.{spoken_verdict}
 use Rattle.listing.proofs.pieces.Puts.{joined, counts}

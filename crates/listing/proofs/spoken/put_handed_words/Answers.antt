@@ -1,5 +1,4 @@
 -- `put_handed_words` puts `handed_words`, by the answer's case.
-use borrow.Author.Rules.{rules}
 use mathlib.Core.Path.{sym, ap}
 use Rattle.worksheet.specs.declared.journal.Answer.{Answer}
 use Rattle.listing.specs.Spoken.{handed_words}

@@ -1,5 +1,4 @@
 -- `put_line_mark` puts `line_mark`: word, number and colon, joined, which fit.
-use borrow.Author.Rules.{rules}
 use native.Mathlib.Omega.{arith}
 use Rattle.listing.specs.Spoken.{line_mark}
 use Rattle.listing.proofs.digits.Places.{at_most_20}

@@ -1,5 +1,4 @@
 -- `put_points_noun` puts `points_noun`, by whether there is one point.
-use borrow.Author.Rules.{rules}
 use borrow.Author.Tests.{eq-eqb, ne_eqb}
 use mathlib.Core.Path.{sym, ap}
 use Rattle.base.proofs.verdicts.Picks.{cond_true, cond_false}

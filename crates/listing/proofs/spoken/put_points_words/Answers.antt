@@ -1,5 +1,4 @@
 -- `put_points_words` puts `points_words`: word, number, noun, page and line feed, joined, which fit.
-use borrow.Author.Rules.{rules}
 use native.Mathlib.Omega.{arith}
 use Rattle.listing.specs.Spoken.{points_words}
 use Rattle.listing.proofs.digits.Places.{at_most_10}

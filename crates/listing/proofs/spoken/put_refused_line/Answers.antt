@@ -1,5 +1,4 @@
 -- `put_refused_line` puts `refused_line`: the words and line feed, joined, which fit.
-use borrow.Author.Rules.{rules}
 use native.Mathlib.Omega.{arith}
 use Rattle.listing.specs.Survey.{refused_line}
 use Rattle.listing.proofs.pieces.Puts.{joined}

@@ -1,5 +1,4 @@
 -- `put_shown_words` puts `shown_words`, by whether the showing gives points or a refusal.
-use borrow.Author.Rules.{rules}
 use mathlib.Core.Path.{sym, ap}
 use Rattle.maps.specs.declared.figures.Shown.{Shown}
 use Rattle.listing.specs.Spoken.{shown_words}

@@ -1,5 +1,4 @@
 -- `put_verdict_words` puts `verdict_words`, by the verdict.
-use borrow.Author.Rules.{rules}
 use mathlib.Core.Path.{sym, ap}
 use Rattle.listing.specs.Spoken.{verdict_words}
 use Rattle.listing.proofs.pieces.Puts.{put_as}

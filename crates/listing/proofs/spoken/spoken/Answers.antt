@@ -1,6 +1,5 @@
 -- `spoken` leaves the step's worksheet and puts its answer in words: what `make` hands back, as
 -- words, with the inputs that the call asks to see.
-use borrow.Author.Rules.{rules}
 use mathlib.Core.Path.{ap, ◌∙◌}
 use Prim.Native.Nat.{ℕ}
 use lib.Ieee.{of_bits, round}

@@ -1,5 +1,4 @@
 -- `put_found` puts `found_text`, by the verdict.
-use borrow.Author.Rules.{rules}
 use mathlib.Core.Path.{sym, ap}
 use Rattle.listing.specs.Survey.{found_text}
 use Rattle.listing.proofs.pieces.Puts.{put_as}

@@ -1,8 +1,6 @@
 -- `put_model` puts `model_name`, by the model.
-use borrow.Author.Rules.{rules}
 use borrow.Author.Tests.{eq-eqb, ne_eqb}
-use mathlib.Core.Path.{◌≡◌, sym, ap, ◌∙◌}
-use Prim.Native.String.{String}
+use mathlib.Core.Path.{sym, ap, ◌∙◌}
 use Rattle.base.proofs.verdicts.Picks.{cond_true, cond_false}
 use Rattle.wording.specs.Token.{ascii}
 use Rattle.listing.proofs.pieces.Puts.{put_as}

@@ -1,6 +1,5 @@
 -- `survey_line` puts `survey_line`: month, model, what the check found and line feed, joined, which
 -- fit.
-use borrow.Author.Rules.{rules}
 use mathlib.Core.Path.{ap}
 use Rattle.worksheet.specs.Showing.{year_files_check}
 use native.Mathlib.Omega.{arith}

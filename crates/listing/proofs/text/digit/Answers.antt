@@ -1,5 +1,4 @@
 -- `digit` is `digit_of`: the last digit of the quotient.
-use borrow.Author.Rules.{rules}
 use mathlib.Core.Path.{ap}
 use Prim.Native.Nat.{ℕ, ◌+◌, ◌%◌}
 use Rattle.listing.specs.Text.{digit_of}

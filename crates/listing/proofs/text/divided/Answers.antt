@@ -2,7 +2,7 @@
 -- the whole power from the start.
 use borrow.Author.Rules.{rules}
 use mathlib.Core.Path.{◌≡◌, refl, sym, ap, ◌∙◌}
-use Prim.Native.Nat.{ℕ, ◌/◌, ◌^◌, ◌≤◌}
+use Prim.Native.Nat.{ℕ, ◌/◌, ◌^◌}
 use native.Mathlib.Omega.{arith}
 use Rattle.listing.proofs.digits.Quotients.{by_none, by_one_more}
 use Rattle.listing.proofs.text.divided.Goals as goal

@@ -1,10 +1,7 @@
 -- `divided` is n over b^k. The loop's invariant: n over b to the power of the turns left is n over
 -- the whole power from the start.
-use borrow.Author.Rules.{rules}
-use mathlib.Core.Path.{◌≡◌, refl, sym, ap, ◌∙◌}
-use Prim.Native.Nat.{ℕ, ◌/◌, ◌^◌, ◌≤◌}
-use native.Mathlib.Omega.{arith}
-use Rattle.listing.proofs.digits.Quotients.{by_none, by_one_more}
+use mathlib.Core.Path.{◌≡◌}
+use Prim.Native.Nat.{◌/◌, ◌^◌, ◌≤◌}
 use Rattle.listing.proofs.text.divided.Given as goal
 
 abbrev pub invariant-loop-left : goal.invariant-loop-left

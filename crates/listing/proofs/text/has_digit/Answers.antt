@@ -1,5 +1,4 @@
 -- `has_digit` is `has_digit`, by whether the place is the lowest.
-use borrow.Author.Rules.{rules}
 use borrow.Author.Tests.{eq-eqb, ne_eqb}
 use mathlib.Core.Path.{sym, ap, ◌∙◌}
 use lib.Dec.{ltb}

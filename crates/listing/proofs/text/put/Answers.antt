@@ -1,11 +1,11 @@
 -- `put` puts the piece byte by byte. The loop's invariant: the buffer is as it was but for the
 -- first bytes of the piece.
 use borrow.Author.Rules.{rules}
-use mathlib.Core.Path.{◌≡◌, ◌∙◌}
-use Prim.Native.Nat.{◌+◌, ◌≤◌, ◌-◌}
+use mathlib.Core.Path.{◌∙◌}
+use Prim.Native.Nat.{◌+◌}
 use native.Mathlib.Omega.{arith}
-use lib.ListN.{length, get_or, length-set}
-use Rattle.listing.proofs.pieces.Puts.{begun, begin, go_on, complete}
+use lib.ListN.{get_or, length-set}
+use Rattle.listing.proofs.pieces.Puts.{begin, go_on, complete}
 use Rattle.listing.proofs.text.put.Goals as goal
 
 pub loop-i-init : goal.loop-i-init

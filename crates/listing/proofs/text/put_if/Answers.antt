@@ -1,5 +1,4 @@
 -- `put_if` puts the piece or nothing, by the flag.
-use borrow.Author.Rules.{rules}
 use mathlib.Core.Path.{sym}
 use Rattle.base.proofs.verdicts.Picks.{cond_true, cond_false}
 use Rattle.listing.proofs.pieces.Puts.{put_as, nothing}

@@ -1,11 +1,11 @@
 -- `put_number` puts `decimal_of`. The loop's invariant: what is owed with k places to go are the
 -- digits of those.
 use borrow.Author.Rules.{rules}
-use Prim.Native.Nat.{◌≤◌, ◌-◌}
+use Prim.Native.Nat.{◌-◌}
 use native.Mathlib.Omega.{arith}
 use Rattle.listing.specs.Text.{digit_at, digits_below, decimal_of}
 use Rattle.listing.proofs.digits.Places.{next_place, no_place}
-use Rattle.listing.proofs.pieces.Puts.{Owed, owing, renamed, paid, room, settled}
+use Rattle.listing.proofs.pieces.Puts.{owing, renamed, paid, room, settled}
 use Rattle.listing.proofs.text.put_number.Goals as goal
 
 pub loop-k-init : goal.loop-k-init

@@ -1,6 +1,5 @@
 -- `answered` leaves the step's worksheet and puts the text of its answer: what `make` hands back,
 -- as text.
-use borrow.Author.Rules.{rules}
 use lib.Ieee.{of_bits, round}
 use Rattle.base.specs.Single.{decimal}
 use Rattle.listing.proofs.pieces.Turns.{turn_as}

@@ -1,5 +1,4 @@
 -- `handed_text` puts `handed_text`, by the answer's case.
-use borrow.Author.Rules.{rules}
 use mathlib.Core.Path.{sym, ap, ◌∙◌}
 use Rattle.worksheet.specs.declared.journal.Answer.{Answer}
 use Rattle.listing.specs.Turn.{handed_text}

@@ -1,5 +1,4 @@
 -- `put_use_name` puts `use_name`, by the use.
-use borrow.Author.Rules.{rules}
 use mathlib.Core.Path.{sym, ap}
 use Rattle.maps.specs.declared.geometry.Use.{Use}
 use Rattle.wording.specs.Token.{ascii}

@@ -1,5 +1,4 @@
 -- `put_use_word` puts `use_text`, by the use.
-use borrow.Author.Rules.{rules}
 use mathlib.Core.Path.{sym, ap}
 use Rattle.listing.specs.Uses.{use_word, use_text}
 use Rattle.listing.proofs.pieces.Puts.{put_as}

@@ -1,5 +1,4 @@
 -- `put_uses` puts `uses_text`: five words, joined, which fit.
-use borrow.Author.Rules.{rules}
 use native.Mathlib.Omega.{arith}
 use Rattle.listing.specs.Uses.{uses_text}
 use Rattle.listing.proofs.pieces.Puts.{joined}

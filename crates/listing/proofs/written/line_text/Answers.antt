@@ -1,5 +1,4 @@
 -- `line_text` writes `line_text`: each arm is told which constructor the line is.
-use borrow.Author.Rules.{rules}
 use mathlib.Core.Path.{sym, ap, ◌∙◌}
 use Rattle.listing.specs.Written.{line_text}
 use Rattle.listing.proofs.written.line_text.Goals as goal

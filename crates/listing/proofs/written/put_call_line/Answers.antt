@@ -1,5 +1,4 @@
 -- `put_call_line` puts the text and a line feed, joined.
-use borrow.Author.Rules.{rules}
 use native.Mathlib.Omega.{arith}
 use Rattle.listing.proofs.pieces.Puts.{joined, counts}
 use Rattle.listing.proofs.written.put_call_line.Goals as goal

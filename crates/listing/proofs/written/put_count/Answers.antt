@@ -1,5 +1,4 @@
 -- `put_count` puts `decimal_of` of a u32, which has at most ten digits.
-use borrow.Author.Rules.{rules}
 use native.Mathlib.Omega.{arith}
 use Rattle.listing.proofs.digits.Places.{at_most_10}
 use Rattle.listing.proofs.written.put_count.Goals as goal

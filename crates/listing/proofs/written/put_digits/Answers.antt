@@ -1,5 +1,4 @@
 -- `put_digits` puts `digits_text`: sign, whole part and fraction, joined, which fit.
-use borrow.Author.Rules.{rules}
 use mathlib.Core.Path.{ap}
 use native.Mathlib.Omega.{arith}
 use Rattle.listing.specs.Text.{decimal_of}

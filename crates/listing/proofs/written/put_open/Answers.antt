@@ -1,5 +1,4 @@
 -- `put_open` puts `open_text`: head, blank, route and tail, joined, which fit the buffer.
-use borrow.Author.Rules.{rules}
 use mathlib.Core.List.{append_assoc}
 use native.Mathlib.Omega.{arith}
 use Rattle.listing.specs.Written.{head_text, tail_text, open_text}

@@ -3,11 +3,11 @@
 use borrow.Author.Rules.{rules}
 use mathlib.Core.Path.{ap}
 use mathlib.Core.List.{[], ◌∷◌}
-use Prim.Native.Nat.{ℕ, ◌≤◌, ◌-◌}
+use Prim.Native.Nat.{ℕ, ◌-◌}
 use native.Mathlib.Omega.{arith}
 use Rattle.listing.specs.Text.{digit_of}
 use Rattle.listing.specs.Written.{places_text}
-use Rattle.listing.proofs.pieces.Puts.{Owed, owing, renamed, paid, room, settled, put_as}
+use Rattle.listing.proofs.pieces.Puts.{owing, renamed, paid, room, settled, put_as}
 use Rattle.listing.proofs.pieces.Fractions.{next_digit, no_digits}
 use Rattle.listing.proofs.written.put_places.Goals as goal
 

@@ -1,14 +1,8 @@
 -- `put_places` puts `places_text`. The loop's invariant: what is owed with k places to go are the
 -- digits of those.
-use borrow.Author.Rules.{rules}
-use mathlib.Core.Path.{ap}
-use mathlib.Core.List.{[], ◌∷◌}
-use Prim.Native.Nat.{ℕ, ◌≤◌, ◌-◌}
-use native.Mathlib.Omega.{arith}
-use Rattle.listing.specs.Text.{digit_of}
+use Prim.Native.Nat.{◌≤◌}
 use Rattle.listing.specs.Written.{places_text}
-use Rattle.listing.proofs.pieces.Puts.{Owed, owing, renamed, paid, room, settled, put_as}
-use Rattle.listing.proofs.pieces.Fractions.{next_digit, no_digits}
+use Rattle.listing.proofs.pieces.Puts.{Owed}
 use Rattle.listing.proofs.written.put_places.Given as goal
 
 abbrev pub invariant-loop-k : goal.invariant-loop-k

@@ -1,5 +1,4 @@
 -- `put_route` puts `route_text`: words and pairs, joined, and the last word by the flag.
-use borrow.Author.Rules.{rules}
 use mathlib.Core.Path.{◌≡◌, refl}
 use mathlib.Core.Bool.{Bool, true, false, not, cond}
 use mathlib.Core.List.{List, []}

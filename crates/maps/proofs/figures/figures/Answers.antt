@@ -1,12 +1,11 @@
 -- `figures` answers `shown_of` and leaves `figures_buffer`, by the verdict: accepted, the tables are
 -- those of the files and give every figure, and a refusal leaves the buffer.
-use Rattle.std.proofs.Common.{◌≡◌, ℕ, sym, ap, ◌∙◌, rules}
+use Rattle.std.proofs.Common.{ℕ, sym, ap, ◌∙◌, rules}
 use Rattle.base.specs.declared.refusal.Verdict.{Verdict}
 use Rattle.base.specs.Refusal.{written_over}
 use Rattle.base.specs.Index.{index_of}
 use Rattle.base.specs.Blend.{cofion_of, hmym_of, fakmap_of}
 use Rattle.base.proofs.layout.Readers.{files_index, files_finite}
-use Rattle.maps.specs.declared.figures.Shown.{Shown}
 use Rattle.maps.specs.declared.figures.Shown.TheVariants.{Points}
 use Rattle.maps.specs.Geometry.{uses_of}
 use Rattle.maps.specs.Figures.{hour_from, hour_of, figures_to, sheet_path, figures_of, points_or, shown_of, figures_buffer}

@@ -1,6 +1,6 @@
 -- `fill_in` answers the path's count and fills the buffer with `figures_to`, by what its calls
 -- ensure: what the points share is worked out once.
-use Rattle.std.proofs.Common.{◌≡◌, refl, ap, rules}
+use Rattle.std.proofs.Common.{refl, ap}
 use Rattle.maps.specs.declared.geometry.PathGeometry.{PathGeometry}
 use Rattle.maps.specs.Figures.{hour_from}
 use Rattle.maps.proofs.figures.fill_in.Goals as goal

@@ -1,6 +1,5 @@
 -- `head` is `head_of`: the list is written out in the definition's order, its last number by a call.
-use Rattle.std.proofs.Common.{◌≡◌, List, [], ◌∷◌, ap, rules}
-use lib.Ieee.{Float}
+use Rattle.std.proofs.Common.{[], ◌∷◌, ap}
 use Rattle.base.specs.declared.angle.Degrees.{Degrees}
 use Rattle.maps.specs.Figures.{head_of}
 use Rattle.maps.proofs.figures.head.Goals as goal

@@ -1,7 +1,7 @@
 -- `put` fills the buffer from `at` on with the list, by the loop's invariant that the first k
 -- numbers are put.
-use Rattle.std.proofs.Common.{◌≡◌, ℕ, ◌+◌, ◌-◌, ◌≤◌, List, length, get_or, set, sym, refl, ap, ◌∙◌, arith, rules}
-use lib.Ieee.{Float, nan}
+use Rattle.std.proofs.Common.{◌≡◌, ◌+◌, List, length, set, sym, refl, ap, ◌∙◌, arith, rules}
+use lib.Ieee.{Float}
 use Rattle.base.specs.Fill.{fill}
 use Rattle.base.proofs.lists.Fills.{fill_next}
 use Rattle.maps.proofs.figures.put.Invariants.{elements}

@@ -1,9 +1,8 @@
 -- `put` fills the buffer from `at` on with the list, by the loop's invariant that the first k
 -- numbers are put.
-use Rattle.std.proofs.Common.{◌≡◌, ℕ, ◌+◌, ◌-◌, ◌≤◌, List, length, get_or, set, sym, refl, ap, ◌∙◌, arith, rules}
+use Rattle.std.proofs.Common.{◌≡◌, ℕ, ◌-◌, ◌≤◌, List, length, get_or}
 use lib.Ieee.{Float, nan}
 use Rattle.base.specs.Fill.{fill}
-use Rattle.base.proofs.lists.Fills.{fill_next}
 use Rattle.maps.proofs.figures.put.Given as goal
 
 abbrev pub elements : List Float → ℕ → Float

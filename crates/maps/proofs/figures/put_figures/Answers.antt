@@ -1,6 +1,6 @@
 -- `put_figures` fills the buffer with `figures_to`, by the loop's invariant that the buffer starts
 -- with the path's figures and p rows.
-use Rattle.std.proofs.Common.{◌≡◌, ℕ, ◌+◌, ◌-◌, ◌*◌, ◌<◌, ◌≤◌, List, [], ◌++◌, length, sym, refl, ap, ◌∙◌, add-one, arith, rules}
+use Rattle.std.proofs.Common.{◌≡◌, ℕ, ◌+◌, ◌-◌, ◌*◌, ◌<◌, List, ◌++◌, length, sym, refl, ap, ◌∙◌, add-one, arith, rules}
 use lib.Ieee.{Float}
 use Rattle.base.proofs.lists.Fills.{length_fill}
 use Rattle.base.proofs.lists.Maps.{Starts, start, whole}
@@ -8,7 +8,7 @@ use Rattle.maps.specs.declared.inputs.Inputs.{Inputs}
 use Rattle.maps.specs.declared.geometry.PathGeometry.{PathGeometry}
 use Rattle.maps.specs.Figures.{SheetHour, hour, head_of, figure_row, figures_to}
 use Rattle.maps.proofs.sheet.Alone.{row_length}
-use Rattle.maps.proofs.lists.Written.{elements, starts_as, written}
+use Rattle.maps.proofs.lists.Written.{starts_as, written}
 use Rattle.maps.proofs.figures.put_figures.Goals as goal
 
 head_length : (g : PathGeometry) → length (head_of g) ≡ 6

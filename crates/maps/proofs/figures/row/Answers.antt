@@ -1,5 +1,5 @@
 -- `row` is `figure_row`, by whether the point is there: its numbers, as the calls ensure, or zeros.
-use Rattle.std.proofs.Common.{sym, refl, ◌∙◌, rules, le-ltb, lt-ltb}
+use Rattle.std.proofs.Common.{sym, le-ltb, lt-ltb}
 use lib.Ieee.{round, of_bits}
 use Rattle.base.specs.Single.{decimal}
 use Rattle.base.proofs.verdicts.Picks.{cond_true, cond_false}

@@ -1,5 +1,4 @@
 -- `alatd` reads the rows as the definition does and hands their latitudes to `mean_latitude`.
-use Rattle.std.proofs.Common.{rules}
 use Rattle.maps.specs.Geometry.{lat_at, alatd_of}
 use Rattle.maps.proofs.geometry.alatd.Goals as goal
 

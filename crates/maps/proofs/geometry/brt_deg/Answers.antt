@@ -1,5 +1,4 @@
 -- `brt_deg` is one call of `to_degrees`.
-use Rattle.std.proofs.Common.{rules}
 use Rattle.maps.specs.Geometry.{brt_deg}
 use Rattle.maps.proofs.geometry.brt_deg.Goals as goal
 

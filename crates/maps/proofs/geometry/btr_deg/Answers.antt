@@ -1,5 +1,4 @@
 -- `btr_deg` is one call of `to_degrees`.
-use Rattle.std.proofs.Common.{rules}
 use Rattle.maps.specs.Geometry.{btr_deg}
 use Rattle.maps.proofs.geometry.btr_deg.Goals as goal
 

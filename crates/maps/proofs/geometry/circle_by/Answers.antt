@@ -1,5 +1,4 @@
 -- `circle_by` hands `dlong` and `gcd`, with its sine and cosine, to both bearings.
-use Rattle.std.proofs.Common.{rules}
 use lib.Ieee.{round, of_bits}
 use Rattle.base.specs.Single.{decimal}
 use Rattle.maps.specs.Geometry.{circle_of}

@@ -1,5 +1,5 @@
 -- `circle_longitude` picks by how near the sample area is to a pole.
-use Rattle.std.proofs.Common.{sym, ◌∙◌, rules}
+use Rattle.std.proofs.Common.{sym, ◌∙◌}
 use lib.Ieee.{round, of_bits}
 use Rattle.base.specs.Single.{decimal}
 use Rattle.base.specs.Constants.{PI}

@@ -1,6 +1,6 @@
 -- `clamped` picks by the size of q.
-use Rattle.std.proofs.Common.{sym, ap, ◌∙◌, rules}
-use lib.Ieee.{lt, round, of_bits}
+use Rattle.std.proofs.Common.{sym, ◌∙◌}
+use lib.Ieee.{round, of_bits}
 use Rattle.base.specs.Single.{decimal}
 use Rattle.maps.specs.Geometry.{clamped_cosine}
 use Rattle.base.proofs.verdicts.Picks.{cond_true, cond_false}

@@ -1,5 +1,4 @@
 -- `control_point` reads the sample area's place, and its geomagnetic latitude from the same place.
-use Rattle.std.proofs.Common.{rules}
 use Rattle.maps.specs.Geometry.{point_of}
 use Rattle.maps.proofs.geometry.control_point.Goals as goal
 

@@ -1,5 +1,4 @@
 -- `cos_between` is the definition's sum.
-use Rattle.std.proofs.Common.{rules}
 use Rattle.maps.specs.Geometry.{cos_between}
 use Rattle.maps.proofs.geometry.cos_between.Goals as goal
 

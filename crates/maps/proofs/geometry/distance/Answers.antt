@@ -1,5 +1,4 @@
 -- `distance` composes its callees as the definition does.
-use Rattle.std.proofs.Common.{rules}
 use Rattle.maps.specs.Geometry.{gcd_of}
 use Rattle.maps.proofs.geometry.distance.Goals as goal
 

@@ -1,5 +1,5 @@
 -- `down_meridian` picks by the size of the latitude it comes to.
-use Rattle.std.proofs.Common.{sym, ◌∙◌, rules}
+use Rattle.std.proofs.Common.{sym}
 use lib.Ieee.{round, of_bits}
 use Rattle.base.specs.Single.{decimal}
 use Rattle.base.specs.Constants.{PIO2}

@@ -1,5 +1,4 @@
 -- `end` is a place made of the latitude in radians and the longitude that a pole leaves.
-use Rattle.std.proofs.Common.{rules}
 use Rattle.maps.specs.Geometry.{end_of}
 use Rattle.maps.proofs.geometry.end.Goals as goal
 

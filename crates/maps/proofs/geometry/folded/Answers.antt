@@ -1,5 +1,5 @@
 -- `folded` picks by the size of x against the engine's own `PI`.
-use Rattle.std.proofs.Common.{sym, ◌∙◌, rules}
+use Rattle.std.proofs.Common.{sym, ◌∙◌}
 use lib.Ieee.{round, of_bits}
 use Rattle.base.specs.Single.{decimal}
 use Rattle.base.specs.Constants.{PI}

@@ -1,5 +1,5 @@
 -- `from_north` picks by how near its end is to a pole, and by which pole.
-use Rattle.std.proofs.Common.{sym, ◌∙◌, rules}
+use Rattle.std.proofs.Common.{sym, ◌∙◌}
 use lib.Ieee.{round, of_bits}
 use Rattle.base.specs.Single.{decimal}
 use Rattle.base.specs.Constants.{PI}

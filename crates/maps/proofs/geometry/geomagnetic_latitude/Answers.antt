@@ -1,5 +1,4 @@
 -- `geomagnetic_latitude` wraps `gmlat` of the two places.
-use Rattle.std.proofs.Common.{rules}
 use Rattle.maps.specs.Geometry.{geomagnetic_of}
 use Rattle.maps.proofs.geometry.geomagnetic_latitude.Goals as goal
 

@@ -1,5 +1,5 @@
 -- `gmlat` composes its callees as the definition does.
-use Rattle.std.proofs.Common.{ap, ◌∙◌, rules}
+use Rattle.std.proofs.Common.{ap, ◌∙◌}
 use Rattle.maps.specs.Geometry.{latitude_of, gmlat_of}
 use Rattle.maps.proofs.geometry.gmlat.Goals as goal
 

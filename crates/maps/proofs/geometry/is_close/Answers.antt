@@ -1,5 +1,5 @@
 -- `is_close` compares the difference's size with `DDX`, in the Rust's digits.
-use Rattle.std.proofs.Common.{ap, rules}
+use Rattle.std.proofs.Common.{ap}
 use lib.Ieee.{Float, le, round, of_bits}
 use Rattle.base.specs.Single.{decimal}
 use Rattle.maps.specs.Geometry.{DDX, close}

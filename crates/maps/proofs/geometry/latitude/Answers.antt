@@ -1,5 +1,5 @@
 -- `latitude` is one difference from `PIO2`, in the Rust's digits.
-use Rattle.std.proofs.Common.{ap, rules}
+use Rattle.std.proofs.Common.{ap}
 use lib.Ieee.{Float, round, of_bits}
 use Rattle.base.specs.Single.{◌⊖◌, decimal}
 use Rattle.base.specs.Constants.{PIO2}

@@ -1,5 +1,5 @@
 -- `longitude_between` folds once, and turns once more for the long way.
-use Rattle.std.proofs.Common.{sym, ap, ◌∙◌, rules}
+use Rattle.std.proofs.Common.{sym, ap, ◌∙◌}
 use Rattle.maps.specs.Geometry.{turned_of, dlong_of}
 use Rattle.base.proofs.verdicts.Picks.{cond_true, cond_false}
 use Rattle.maps.proofs.geometry.longitude_between.Goals as goal

@@ -1,9 +1,7 @@
 -- `nudged` moves the receiver where both differences are close; each arm rewrites with the tests
 -- that led there.
-use Rattle.std.proofs.Common.{Bool, ◌&&◌, sym, ap, ◌∙◌, rules}
-use lib.Ieee.{Float}
-use Rattle.maps.specs.Geometry.{close, nudge_of, nudged_of}
-use Rattle.base.proofs.verdicts.Picks.{cond_true, cond_false}
+use Rattle.std.proofs.Common.{sym, ◌∙◌}
+use Rattle.maps.specs.Geometry.{nudged_of}
 use Rattle.maps.proofs.geometry.nudged.Goals as goal
 
 pub returns-then-is_close-2 : goal.returns-then-is_close-2

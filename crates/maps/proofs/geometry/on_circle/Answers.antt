@@ -1,6 +1,5 @@
 -- `on_circle` hands the sine and the cosine of the new latitude on, which the definition's place
 -- has again.
-use Rattle.std.proofs.Common.{rules}
 use Rattle.maps.specs.Geometry.{place_of, on_circle}
 use Rattle.maps.proofs.geometry.on_circle.Goals as goal
 

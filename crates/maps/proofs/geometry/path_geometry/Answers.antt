@@ -1,5 +1,4 @@
 -- `path_geometry` composes its callees as the definition does.
-use Rattle.std.proofs.Common.{rules}
 use lib.Ieee.{round, of_bits}
 use Rattle.base.specs.Single.{decimal}
 use Rattle.base.specs.Constants.{RZ}

@@ -1,5 +1,4 @@
 -- `place_at` puts the sine and the cosine of the latitude beside it.
-use Rattle.std.proofs.Common.{refl, rules}
 use Rattle.maps.specs.Geometry.{place_of}
 use Rattle.maps.proofs.geometry.place_at.Goals as goal
 

@@ -1,5 +1,4 @@
 -- `pole_place` is a place made of the pole in radians.
-use Rattle.std.proofs.Common.{rules}
 use Rattle.maps.specs.Geometry.{pole_place}
 use Rattle.maps.proofs.geometry.pole_place.Goals as goal
 

@@ -1,5 +1,5 @@
 -- `row` picks by whether the point is there; the other arm is +0.0 in every field.
-use Rattle.std.proofs.Common.{sym, ◌∙◌, rules}
+use Rattle.std.proofs.Common.{sym, ◌∙◌}
 use lib.Ieee.{round, of_bits}
 use Rattle.base.specs.Single.{decimal}
 use Rattle.maps.specs.Geometry.{absent, control_point_if}

@@ -1,5 +1,5 @@
 -- `sample` picks by how near the transmitter is to a pole.
-use Rattle.std.proofs.Common.{sym, ◌∙◌, rules}
+use Rattle.std.proofs.Common.{sym, ◌∙◌}
 use lib.Ieee.{round, of_bits}
 use Rattle.base.specs.Single.{decimal}
 use Rattle.maps.specs.Geometry.{EPSLON, sample_of}

@@ -1,5 +1,5 @@
 -- `turned` takes `PI2` off with the sign of x.
-use Rattle.std.proofs.Common.{ap, rules}
+use Rattle.std.proofs.Common.{ap}
 use lib.Ieee.{Float, round, of_bits}
 use Rattle.base.specs.Single.{◌⊖◌, decimal}
 use Rattle.base.specs.Constants.{PI2}

@@ -1,5 +1,4 @@
 -- `degrees_in` is `degrees_from`: one word as a number, by what `float32` ensures.
-use Rattle.std.proofs.Common.{rules}
 use Rattle.maps.proofs.inputs.degrees_in.Goals as goal
 
 pub returns : goal.returns

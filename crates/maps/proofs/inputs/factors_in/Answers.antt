@@ -1,5 +1,4 @@
 -- `factors_in` is `factors_from`, field by field, by what `float32` ensures.
-use Rattle.std.proofs.Common.{rules}
 use Rattle.maps.specs.Inputs.{factors_from}
 use Rattle.maps.proofs.inputs.factors_in.Goals as goal
 

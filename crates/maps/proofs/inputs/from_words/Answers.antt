@@ -1,5 +1,4 @@
 -- `from_words` is `inputs_from` of the words, field by field, by what its calls ensure.
-use Rattle.std.proofs.Common.{rules}
 use Rattle.maps.specs.Inputs.{inputs_from}
 use Rattle.maps.proofs.inputs.from_words.Goals as goal
 

@@ -1,5 +1,5 @@
 -- `inputs_in` is `inputs_from` of the bytes' words, by what `words_in` and `from_words` ensure.
-use Rattle.std.proofs.Common.{◌≡◌, ℕ, List, get_or, ap, ◌∙◌, rules}
+use Rattle.std.proofs.Common.{ℕ, List, get_or, ap, ◌∙◌}
 use Rattle.maps.specs.Inputs.{route_from, factors_from, pole_from, inputs_from, words_to}
 use Rattle.maps.proofs.inputs.inputs_in.Goals as goal
 

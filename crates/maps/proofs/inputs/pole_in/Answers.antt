@@ -1,5 +1,4 @@
 -- `pole_in` is `pole_from`, field by field, by what `degrees_in` ensures.
-use Rattle.std.proofs.Common.{rules}
 use Rattle.maps.specs.Inputs.{pole_from}
 use Rattle.maps.proofs.inputs.pole_in.Goals as goal
 

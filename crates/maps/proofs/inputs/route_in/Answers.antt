@@ -1,5 +1,4 @@
 -- `route_in` is `route_from`, field by field, by what `degrees_in` ensures.
-use Rattle.std.proofs.Common.{rules}
 use Rattle.maps.specs.Inputs.{route_from}
 use Rattle.maps.proofs.inputs.route_in.Goals as goal
 

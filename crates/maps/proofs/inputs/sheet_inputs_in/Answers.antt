@@ -1,6 +1,6 @@
 -- `sheet_inputs_in` is `inputs_from` of a sheet's fields: the bytes' words with 0 for the last, by
 -- what its calls ensure.
-use Rattle.std.proofs.Common.{◌≡◌, ℕ, List, get_or, set, ap, ◌∙◌, rules}
+use Rattle.std.proofs.Common.{ℕ, List, get_or, set, ap, ◌∙◌}
 use Rattle.maps.specs.Inputs.{route_from, factors_from, pole_from, inputs_from, words_to}
 use Rattle.maps.proofs.inputs.sheet_inputs_in.Goals as goal
 

@@ -1,5 +1,4 @@
 -- `to_words` is `field_words`, word by word, by what `bits32` ensures.
-use Rattle.std.proofs.Common.{rules}
 use Rattle.maps.specs.Inputs.{field_words}
 use Rattle.maps.proofs.inputs.to_words.Goals as goal
 

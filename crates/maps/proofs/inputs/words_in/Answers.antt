@@ -1,5 +1,4 @@
 -- `words_in` is `words_to` of the bytes' words, word by word, by what `word` ensures.
-use Rattle.std.proofs.Common.{rules}
 use Rattle.maps.specs.Inputs.{words_to}
 use Rattle.maps.proofs.inputs.words_in.Goals as goal
 

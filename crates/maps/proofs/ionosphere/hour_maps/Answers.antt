@@ -1,6 +1,6 @@
 -- `hour_maps` answers `files_check`, and writes `hour_maps_of` or leaves the array, by the verdict:
 -- accepted, the tables are those of the files.
-use Rattle.std.proofs.Common.{◌≡◌, sym, ap, ◌∙◌, rules}
+use Rattle.std.proofs.Common.{sym, ap, ◌∙◌}
 use Rattle.base.specs.declared.refusal.Verdict.{Verdict}
 use Rattle.base.specs.Refusal.{written_over}
 use Rattle.base.specs.Index.{index_of}

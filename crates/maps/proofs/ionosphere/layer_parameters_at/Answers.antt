@@ -1,6 +1,6 @@
 -- `layer_parameters_at` is `layers_at_of`, by the verdict of month and file: where both are accepted,
 -- the tables are the file's own.
-use Rattle.std.proofs.Common.{◌≡◌, sym, ap, ◌∙◌, rules}
+use Rattle.std.proofs.Common.{sym, ap, ◌∙◌}
 use Rattle.base.specs.declared.refusal.Verdict.{Verdict}
 use Rattle.base.specs.declared.refusal.Verdict.TheVariants.{Accepted}
 use Rattle.base.specs.Index.{index_of}

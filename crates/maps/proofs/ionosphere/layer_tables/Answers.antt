@@ -1,6 +1,6 @@
 -- `layer_tables` answers `layers_check`, and fills both tables or leaves them, by the month's
 -- verdict: where it accepts, the file's own decides.
-use Rattle.std.proofs.Common.{◌≡◌, sym, ap, ◌∙◌, rules}
+use Rattle.std.proofs.Common.{sym, ap, ◌∙◌}
 use Rattle.base.specs.declared.refusal.Verdict.{Verdict}
 use Rattle.base.specs.Refusal.{◌then◌, written_over}
 use Rattle.base.specs.Index.{index_of}

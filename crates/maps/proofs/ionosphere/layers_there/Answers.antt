@@ -1,6 +1,6 @@
 -- `layers_there` is `layers_there`: the same calls as for a control point of a path are rewritten by
 -- what they ensure.
-use Rattle.std.proofs.Common.{refl, rules}
+use Rattle.std.proofs.Common.{refl}
 use Rattle.maps.specs.Ionosphere.{layers_there}
 use Rattle.maps.proofs.ionosphere.layers_there.Goals as goal
 

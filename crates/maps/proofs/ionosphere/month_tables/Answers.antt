@@ -1,6 +1,6 @@
 -- `month_tables` answers `file_check`, and fills both tables or leaves them, by the height map's
 -- verdict: a file that is accepted has an index table that is.
-use Rattle.std.proofs.Common.{sym, ◌∙◌, rules}
+use Rattle.std.proofs.Common.{sym, ◌∙◌}
 use Rattle.base.specs.Index.{index_of}
 use Rattle.base.proofs.layout.Readers.{file_indexed, written, left}
 use Rattle.maps.proofs.sheet.Checks.{written_is}

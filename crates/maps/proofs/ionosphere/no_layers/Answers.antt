@@ -1,5 +1,5 @@
 -- `no_layers` is `no_layers`: every field is written out, and the literal 0.0 is the decimal.
-use Rattle.std.proofs.Common.{refl, rules}
+use Rattle.std.proofs.Common.{refl}
 use lib.Ieee.{round, of_bits}
 use Rattle.base.specs.Single.{decimal}
 use Rattle.maps.specs.Ionosphere.{no_layers}

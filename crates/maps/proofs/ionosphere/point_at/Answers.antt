@@ -1,5 +1,5 @@
 -- `point_at` is `point_at`: every field is written out, the geomagnetic latitude by a call.
-use Rattle.std.proofs.Common.{◌≡◌, ap, rules}
+use Rattle.std.proofs.Common.{ap}
 use lib.Ieee.{round, of_bits}
 use Rattle.base.specs.declared.angle.Radians.{Radians}
 use Rattle.base.specs.Single.{decimal}

@@ -1,5 +1,4 @@
 -- `degree` is `degree_of`: the sums of its orders are those of `orders_of`.
-use Rattle.std.proofs.Common.{rules}
 use Rattle.maps.specs.Magnetic.{degree_of}
 use Rattle.maps.proofs.magnetic.degree.Goals as goal
 

@@ -1,7 +1,7 @@
 -- `east` is `east_of`: 360 degrees in radians are added to a longitude below 0.
-use Rattle.std.proofs.Common.{sym, ap, ◌∙◌, rules}
+use Rattle.std.proofs.Common.{sym}
 use lib.Ieee.{round, of_bits}
-use Rattle.base.specs.Single.{◌⊕◌, decimal}
+use Rattle.base.specs.Single.{decimal}
 use Rattle.base.proofs.verdicts.Picks.{cond_true, cond_false}
 use Rattle.maps.specs.Magnetic.{o, east_of}
 use Rattle.maps.proofs.magnetic.east.Goals as goal

@@ -1,5 +1,5 @@
 -- `element_of` is `element_of`, arm by arm.
-use Rattle.std.proofs.Common.{sym, ◌∙◌, rules, eq-eqb, ne_eqb}
+use Rattle.std.proofs.Common.{sym, ◌∙◌, eq-eqb, ne_eqb}
 use Rattle.base.proofs.verdicts.Picks.{cond_true, cond_false}
 use Rattle.maps.specs.Magnetic.{element_of}
 use Rattle.maps.proofs.magnetic.element_of.Goals as goal

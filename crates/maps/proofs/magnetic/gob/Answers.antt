@@ -1,5 +1,5 @@
 -- `gob` is `gob_of`, arm by arm.
-use Rattle.std.proofs.Common.{◌≡◌, true, false, sym, ap, ◌∙◌, rules}
+use Rattle.std.proofs.Common.{sym, ap, ◌∙◌}
 use lib.Ieee.{Float, le, round, of_bits}
 use Rattle.base.specs.Single.{decimal}
 use Rattle.base.proofs.verdicts.Picks.{cond_true, cond_false}

@@ -1,6 +1,6 @@
 -- `magfin` is `magfin_of`: its calls are rewritten by what they ensure, and the arrays have the sums
 -- of the closed form (`FieldSums`).
-use Rattle.std.proofs.Common.{sym, rules}
+use Rattle.std.proofs.Common.{sym}
 use Rattle.maps.proofs.field.FieldSums.{magfin_arrays}
 use Rattle.maps.proofs.magnetic.magfin.Goals as goal
 

@@ -1,5 +1,4 @@
 -- `magvar` is `magvar_of`: its calls are rewritten by what they ensure, the last call first.
-use Rattle.std.proofs.Common.{rules}
 use lib.Ieee.{round, of_bits}
 use Rattle.base.specs.Single.{decimal}
 use Rattle.maps.specs.Magnetic.{magvar_of}

@@ -1,5 +1,5 @@
 -- `multiple` is `multiple_of`: one store into each of two arrays.
-use Rattle.std.proofs.Common.{refl, rules}
+use Rattle.std.proofs.Common.{refl}
 use Rattle.maps.specs.Magnetic.{multiple_of}
 use Rattle.maps.proofs.magnetic.multiple.Goals as goal
 

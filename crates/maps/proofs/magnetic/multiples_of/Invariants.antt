@@ -1,11 +1,8 @@
 -- `multiples_of` is `multiples_of`. The loop's invariant: `v` is what the loop of the definition has
 -- at m.
-use Rattle.std.proofs.Common.{◌≡◌, ◌-◌, ◌≤◌, arith, rules}
-use lib.Ieee.{round, of_bits}
-use Rattle.base.specs.Single.{decimal}
+use Rattle.std.proofs.Common.{◌≡◌, ◌-◌, ◌≤◌}
 use Rattle.maps.specs.Loop.{loop}
-use Rattle.maps.specs.Magnetic.{o, multiple_of, multiples_of}
-use Rattle.maps.proofs.lists.Loops.{loop_start, loop_turn}
+use Rattle.maps.specs.Magnetic.{multiple_of}
 use Rattle.maps.proofs.magnetic.multiples_of.Given as goal
 
 abbrev pub invariant-loop-m : goal.invariant-loop-m

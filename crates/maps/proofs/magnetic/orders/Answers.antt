@@ -1,7 +1,7 @@
 -- `orders` is `orders_of`. The loop's invariant: the two tables and the sums are what the loop of
 -- the definition has at m. A turn is `order_of`: its calls are rewritten by what they ensure, the
 -- row with them.
-use Rattle.std.proofs.Common.{◌≡◌, ℕ, ◌+◌, ◌-◌, ◌≤◌, ap, ◌∙◌, arith, rules}
+use Rattle.std.proofs.Common.{◌≡◌, ℕ, ◌+◌, ap, ◌∙◌, arith, rules}
 use lib.Ieee.{round, of_bits}
 use Rattle.base.specs.Single.{decimal}
 use Rattle.maps.specs.declared.magnetic.Sums.{Sums}

@@ -1,5 +1,4 @@
 -- `placed` is `placed_of`: its calls are rewritten by what they ensure.
-use Rattle.std.proofs.Common.{rules}
 use lib.Ieee.{round, of_bits}
 use Rattle.base.specs.Single.{decimal}
 use Rattle.maps.specs.Magnetic.{HC, placed_of}

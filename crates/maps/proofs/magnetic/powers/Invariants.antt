@@ -1,10 +1,7 @@
 -- `powers` is `powers_of`. The loop's invariant: `aor` is what the loop of the definition has at m.
-use Rattle.std.proofs.Common.{◌≡◌, ◌-◌, ◌≤◌, refl, arith, rules}
-use lib.Ieee.{round, of_bits}
-use Rattle.base.specs.Single.{decimal}
+use Rattle.std.proofs.Common.{◌≡◌, ◌-◌, ◌≤◌}
 use Rattle.maps.specs.Loop.{loop}
-use Rattle.maps.specs.Magnetic.{o, aor_step, powers_of}
-use Rattle.maps.proofs.lists.Loops.{loop_start, loop_turn}
+use Rattle.maps.specs.Magnetic.{aor_step}
 use Rattle.maps.proofs.magnetic.powers.Given as goal
 
 abbrev pub invariant-loop-m : goal.invariant-loop-m

@@ -1,6 +1,5 @@
 -- `and_then` is `_and_then_`, by the first of the two.
 use mathlib.Core.Path.{sym, ap}
-use borrow.Author.Rules.{rules}
 use Rattle.wording.specs.declared.line.Fit.{Fit}
 use Rattle.wording.specs.Line.{◌and_then◌}
 use Rattle.wording.proofs.line.and_then.Goals as goal

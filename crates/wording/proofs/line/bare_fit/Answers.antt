@@ -1,6 +1,5 @@
 -- `bare_fit` is `bare_fit`, test by test.
 use mathlib.Core.Path.{sym, ◌∙◌}
-use borrow.Author.Rules.{rules}
 use borrow.Author.Tests.{eq-eqb, ne_eqb}
 use Rattle.base.proofs.verdicts.Picks.{cond_true, cond_false}
 use Rattle.wording.specs.Line.{◌and_then◌, bare_fit, SHOW, TAKE}

@@ -1,6 +1,5 @@
 -- `brings` is the name of the word at a place.
 use mathlib.Core.Path.{ap, ◌∙◌}
-use borrow.Author.Rules.{rules}
 use Rattle.wording.specs.Line.{is_named}
 use Rattle.wording.proofs.line.brings.Goals as goal
 

@@ -1,6 +1,5 @@
 -- `change_fit` is `change_fit`, test by test.
 use mathlib.Core.Path.{sym, ap, ◌∙◌}
-use borrow.Author.Rules.{rules}
 use borrow.Author.Tests.{eq-eqb, ne_eqb}
 use Rattle.base.proofs.verdicts.Picks.{cond_true, cond_false}
 use Rattle.wording.specs.Line.{◌and_then◌, end_fit, change_fit, SUNSPOT, HOUR, PATH, FACTORS, POLE, MONTH, MODEL}

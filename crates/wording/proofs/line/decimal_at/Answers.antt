@@ -1,6 +1,5 @@
 -- `decimal_at` is `decimal_at`, part by part.
 use mathlib.Core.Path.{ap, ◌∙◌}
-use borrow.Author.Rules.{rules}
 use Rattle.wording.specs.Line.{decimal_at, decimal_in}
 use Rattle.wording.proofs.line.decimal_at.Goals as goal
 

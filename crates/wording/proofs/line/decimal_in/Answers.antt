@@ -1,6 +1,5 @@
 -- `decimal_in` is `decimal_in`, by what the word is.
 use mathlib.Core.Path.{sym, ap}
-use borrow.Author.Rules.{rules}
 use Rattle.wording.specs.Line.{decimal_in}
 use Rattle.wording.proofs.line.decimal_in.Goals as goal
 

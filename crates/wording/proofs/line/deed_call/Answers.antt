@@ -1,6 +1,5 @@
 -- `deed_call` is `deed_call`, test by test.
 use mathlib.Core.Path.{sym, ap, ◌∙◌}
-use borrow.Author.Rules.{rules}
 use borrow.Author.Tests.{eq-eqb, ne_eqb}
 use Rattle.base.proofs.verdicts.Picks.{cond_true, cond_false}
 use Rattle.wording.specs.declared.written.WrittenCall.TheVariants.{Change}

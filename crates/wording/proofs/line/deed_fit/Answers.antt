@@ -1,6 +1,5 @@
 -- `deed_fit` is `deed_fit`, test by test.
 use mathlib.Core.Path.{sym, ◌∙◌}
-use borrow.Author.Rules.{rules}
 use borrow.Author.Tests.{eq-eqb, ne_eqb}
 use Rattle.base.proofs.verdicts.Picks.{cond_true, cond_false}
 use Rattle.wording.specs.Line.{deed_fit, BEGIN, COMMIT, CANCEL, SHOW}

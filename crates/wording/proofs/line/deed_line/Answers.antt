@@ -1,6 +1,5 @@
 -- `deed_line` is `deed_line`, put together from its two parts.
 use mathlib.Core.Path.{◌∙◌}
-use borrow.Author.Rules.{rules}
 use Rattle.wording.specs.Line.{call_if}
 use Rattle.wording.proofs.words.Fits.{deed_parts}
 use Rattle.wording.proofs.line.deed_line.Goals as goal

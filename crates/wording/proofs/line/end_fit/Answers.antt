@@ -1,7 +1,6 @@
 -- `end_fit` is `end_fit`, part by part.
 use mathlib.Core.Path.{ap, ◌∙◌}
 use mathlib.Core.Bool.{Bool}
-use borrow.Author.Rules.{rules}
 use Rattle.wording.specs.declared.line.Wanted.TheVariants.{Nothing}
 use Rattle.wording.specs.Line.{end_fit, fit_unless, is_end}
 use Rattle.wording.proofs.line.end_fit.Goals as goal

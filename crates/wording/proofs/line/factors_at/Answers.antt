@@ -1,5 +1,4 @@
 -- `factors_at` is `factors_at`, part by part.
-use borrow.Author.Rules.{rules}
 use Rattle.wording.specs.Line.{factors_at}
 use Rattle.wording.proofs.line.factors_at.Goals as goal
 

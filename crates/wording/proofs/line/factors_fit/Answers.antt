@@ -1,5 +1,4 @@
 -- `factors_fit` is `factors_fit`, part by part.
-use borrow.Author.Rules.{rules}
 use Rattle.wording.specs.Line.{factors_fit}
 use Rattle.wording.proofs.line.factors_fit.Goals as goal
 

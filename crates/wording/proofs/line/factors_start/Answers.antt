@@ -1,5 +1,4 @@
 -- `factors_start` is `factors_start`, and at most 14.
-use borrow.Author.Rules.{rules}
 use Rattle.wording.specs.Line.{factors_start}
 use Rattle.wording.proofs.line.factors_start.Goals as goal
 

@@ -1,7 +1,6 @@
 -- `fit_unless` is `fit_unless`: the word at place k is counted k + 1.
 use mathlib.Core.Path.{sym, ◌∙◌}
 use native.Mathlib.Numerals.{add-one}
-use borrow.Author.Rules.{rules}
 use Rattle.base.proofs.verdicts.Picks.{cond_false}
 use Rattle.wording.specs.declared.line.Fit.TheVariants.{Good, Wrong}
 use Rattle.wording.proofs.line.fit_unless.Goals as goal

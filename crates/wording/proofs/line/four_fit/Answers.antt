@@ -1,5 +1,4 @@
 -- `four_fit` is `four_fit`, part by part.
-use borrow.Author.Rules.{rules}
 use Rattle.wording.specs.Line.{four_fit}
 use Rattle.wording.proofs.line.four_fit.Goals as goal
 

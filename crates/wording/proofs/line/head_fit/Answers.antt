@@ -1,5 +1,4 @@
 -- `head_fit` is `head_fit`, part by part.
-use borrow.Author.Rules.{rules}
 use Rattle.wording.specs.Line.{head_fit}
 use Rattle.wording.proofs.line.head_fit.Goals as goal
 

@@ -1,6 +1,5 @@
 -- `is_long_at` is the name of the seventh word.
 use mathlib.Core.Path.{ap, ◌∙◌}
-use borrow.Author.Rules.{rules}
 use Rattle.wording.specs.Line.{is_named, LONG}
 use Rattle.wording.proofs.line.is_long_at.Goals as goal
 

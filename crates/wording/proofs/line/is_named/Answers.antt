@@ -1,6 +1,5 @@
 -- `is_named` is `is_named`, by what the word is.
 use mathlib.Core.Path.{sym, ap}
-use borrow.Author.Rules.{rules}
 use Rattle.wording.specs.Line.{is_named}
 use Rattle.wording.proofs.line.is_named.Goals as goal
 

@@ -1,6 +1,5 @@
 -- `is_whole` is `is_whole`, by what the word is.
 use mathlib.Core.Path.{sym, ap, ◌∙◌}
-use borrow.Author.Rules.{rules}
 use Rattle.wording.specs.Line.{is_whole}
 use Rattle.wording.proofs.line.is_whole.Goals as goal
 

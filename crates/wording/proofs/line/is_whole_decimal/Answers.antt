@@ -1,5 +1,4 @@
 -- `is_whole_decimal` is `is_whole_decimal`, test by test.
-use borrow.Author.Rules.{rules}
 use borrow.Author.Tests.{eq-eqb, ne_eqb}
 use Rattle.wording.proofs.line.is_whole_decimal.Goals as goal
 

@@ -1,6 +1,5 @@
 -- `line_if` is `line_if`, by whether the words fit.
 use mathlib.Core.Path.{sym, ap}
-use borrow.Author.Rules.{rules}
 use Rattle.wording.specs.declared.line.Fit.{Fit}
 use Rattle.wording.specs.Line.{line_if}
 use Rattle.wording.proofs.line.line_if.Goals as goal

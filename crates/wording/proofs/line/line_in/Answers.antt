@@ -1,6 +1,5 @@
 -- `line_in` is `line_in`: the line that the words are.
 use mathlib.Core.Path.{ap, ◌∙◌}
-use borrow.Author.Rules.{rules}
 use Rattle.wording.specs.declared.token.Tokens.{Tokens}
 use Rattle.wording.specs.Token.{token_at}
 use Rattle.wording.specs.Line.{start_line, line_in}

@@ -1,5 +1,4 @@
 -- `model_at` is `model_at`, part by part.
-use borrow.Author.Rules.{rules}
 use Rattle.wording.specs.Line.{model_at}
 use Rattle.wording.proofs.line.model_at.Goals as goal
 

@@ -1,5 +1,4 @@
 -- `model_fit` is `model_fit`, part by part.
-use borrow.Author.Rules.{rules}
 use Rattle.wording.specs.Line.{model_fit}
 use Rattle.wording.proofs.line.model_fit.Goals as goal
 

@@ -1,8 +1,7 @@
 -- `model_start` is `model_start`, and at most 22.
 use Prim.Native.Nat.{◌+◌}
 use native.Mathlib.Omega.{arith}
-use borrow.Author.Rules.{rules}
-use Rattle.wording.specs.Line.{model_start, brings}
+use Rattle.wording.specs.Line.{model_start}
 use Rattle.wording.proofs.words.Fits.{either_most}
 use Rattle.wording.proofs.line.model_start.Goals as goal
 

@@ -1,5 +1,4 @@
 -- `models_fit` is `models_fit`, part by part.
-use borrow.Author.Rules.{rules}
 use Rattle.wording.specs.Line.{models_fit}
 use Rattle.wording.proofs.line.models_fit.Goals as goal
 

@@ -1,7 +1,6 @@
 -- `number_fit` is `number_fit`, part by part.
 use mathlib.Core.Path.{ap, ◌∙◌}
 use mathlib.Core.Bool.{Bool}
-use borrow.Author.Rules.{rules}
 use Rattle.wording.specs.declared.line.Wanted.TheVariants.{Number}
 use Rattle.wording.specs.Line.{number_fit, fit_unless, is_number}
 use Rattle.wording.proofs.line.number_fit.Goals as goal

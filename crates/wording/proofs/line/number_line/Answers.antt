@@ -1,6 +1,6 @@
 -- `number_line` is `number_line`: a whole number fits.
-use mathlib.Core.Path.{◌≡◌, sym, ap, ◌∙◌}
-use Prim.Native.Nat.{ℕ, ◌<◌, ◌^◌}
+use mathlib.Core.Path.{sym, ap, ◌∙◌}
+use Prim.Native.Nat.{◌<◌, ◌^◌}
 use borrow.Author.Rules.{rules}
 use Rattle.base.proofs.verdicts.Picks.{cond_true, cond_false}
 use Rattle.wording.specs.Token.{token_at}

@@ -1,8 +1,7 @@
 -- `open_end` is `open_end`, and at most 24.
 use Prim.Native.Nat.{◌+◌}
 use native.Mathlib.Omega.{arith}
-use borrow.Author.Rules.{rules}
-use Rattle.wording.specs.Line.{open_end, brings}
+use Rattle.wording.specs.Line.{open_end}
 use Rattle.wording.proofs.words.Fits.{either_most}
 use Rattle.wording.proofs.line.open_end.Goals as goal
 

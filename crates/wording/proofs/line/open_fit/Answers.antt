@@ -1,5 +1,4 @@
 -- `open_fit` is `open_fit`, part by part.
-use borrow.Author.Rules.{rules}
 use Rattle.wording.specs.Line.{open_fit}
 use Rattle.wording.proofs.line.open_fit.Goals as goal
 

@@ -1,6 +1,5 @@
 -- `open_line` is an open, if its words fit.
 use mathlib.Core.Path.{◌∙◌}
-use borrow.Author.Rules.{rules}
 use Rattle.wording.specs.declared.line.Line.TheVariants.{Open}
 use Rattle.wording.specs.Line.{line_if}
 use Rattle.wording.proofs.line.open_line.Goals as goal

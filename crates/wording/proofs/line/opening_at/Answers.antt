@@ -1,5 +1,4 @@
 -- `opening_at` is `opening_at`, part by part.
-use borrow.Author.Rules.{rules}
 use Rattle.wording.specs.Line.{opening_at}
 use Rattle.wording.proofs.line.opening_at.Goals as goal
 

@@ -1,7 +1,6 @@
 -- `opening_factors` is `opening_factors`, by whether the line brings them.
 use mathlib.Core.Path.{sym, ap, ◌∙◌}
 use Prim.Native.Nat.{ℕ, ◌+◌}
-use borrow.Author.Rules.{rules}
 use Rattle.base.proofs.verdicts.Picks.{cond_true, cond_false}
 use Rattle.wording.specs.Line.{brings, factors_at, opening_factors, FACTORS}
 use Rattle.wording.proofs.line.opening_factors.Goals as goal

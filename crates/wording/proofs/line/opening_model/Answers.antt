@@ -1,5 +1,4 @@
 -- `opening_model` is `opening_model`, part by part.
-use borrow.Author.Rules.{rules}
 use Rattle.wording.specs.Line.{opening_model}
 use Rattle.wording.proofs.line.opening_model.Goals as goal
 

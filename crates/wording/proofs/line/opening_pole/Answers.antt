@@ -1,7 +1,6 @@
 -- `opening_pole` is `opening_pole`, by whether the line brings one.
 use mathlib.Core.Path.{sym, ap, ◌∙◌}
 use Prim.Native.Nat.{ℕ, ◌+◌}
-use borrow.Author.Rules.{rules}
 use Rattle.base.proofs.verdicts.Picks.{cond_true, cond_false}
 use Rattle.wording.specs.Line.{brings, pole_at, opening_pole, POLE}
 use Rattle.wording.proofs.line.opening_pole.Goals as goal

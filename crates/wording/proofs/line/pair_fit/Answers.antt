@@ -1,5 +1,4 @@
 -- `pair_fit` is `pair_fit`, part by part.
-use borrow.Author.Rules.{rules}
 use Rattle.wording.specs.Line.{pair_fit}
 use Rattle.wording.proofs.line.pair_fit.Goals as goal
 

@@ -1,5 +1,4 @@
 -- `pole_at` is `pole_at`, part by part.
-use borrow.Author.Rules.{rules}
 use Rattle.wording.specs.Line.{pole_at}
 use Rattle.wording.proofs.line.pole_at.Goals as goal
 

@@ -1,5 +1,4 @@
 -- `pole_fit` is `pole_fit`, part by part.
-use borrow.Author.Rules.{rules}
 use Rattle.wording.specs.Line.{pole_fit}
 use Rattle.wording.proofs.line.pole_fit.Goals as goal
 

@@ -1,8 +1,7 @@
 -- `pole_start` is `pole_start`, and at most 19.
 use Prim.Native.Nat.{◌+◌}
 use native.Mathlib.Omega.{arith}
-use borrow.Author.Rules.{rules}
-use Rattle.wording.specs.Line.{pole_start, brings}
+use Rattle.wording.specs.Line.{pole_start}
 use Rattle.wording.proofs.words.Fits.{either_most}
 use Rattle.wording.proofs.line.pole_start.Goals as goal
 

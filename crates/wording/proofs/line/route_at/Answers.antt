@@ -1,5 +1,4 @@
 -- `route_at` is `route_at`, part by part.
-use borrow.Author.Rules.{rules}
 use Rattle.wording.specs.Line.{route_at}
 use Rattle.wording.proofs.line.route_at.Goals as goal
 

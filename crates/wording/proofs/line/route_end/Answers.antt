@@ -1,7 +1,6 @@
 -- `route_end` is `route_end`, and at most seven places on.
 use Prim.Native.Nat.{◌+◌}
 use native.Mathlib.Omega.{arith}
-use borrow.Author.Rules.{rules}
 use Rattle.wording.specs.Line.{route_end}
 use Rattle.wording.proofs.words.Fits.{either_most}
 use Rattle.wording.proofs.line.route_end.Goals as goal

@@ -1,5 +1,4 @@
 -- `route_fit` is `route_fit`, part by part.
-use borrow.Author.Rules.{rules}
 use Rattle.wording.specs.Line.{route_fit}
 use Rattle.wording.proofs.line.route_fit.Goals as goal
 

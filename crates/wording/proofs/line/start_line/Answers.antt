@@ -1,6 +1,5 @@
 -- `start_line` is `start_line`, by what the first word is.
 use mathlib.Core.Path.{sym, ap, ◌∙◌}
-use borrow.Author.Rules.{rules}
 use Rattle.wording.specs.Line.{start_line}
 use Rattle.wording.proofs.line.start_line.Goals as goal
 

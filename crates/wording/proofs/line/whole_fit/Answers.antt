@@ -1,7 +1,6 @@
 -- `whole_fit` is `whole_fit`, part by part.
 use mathlib.Core.Path.{ap, ◌∙◌}
 use mathlib.Core.Bool.{Bool}
-use borrow.Author.Rules.{rules}
 use Rattle.wording.specs.declared.line.Wanted.TheVariants.{Whole}
 use Rattle.wording.specs.Line.{whole_fit, fit_unless, is_whole}
 use Rattle.wording.proofs.line.whole_fit.Goals as goal

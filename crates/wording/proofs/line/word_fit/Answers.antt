@@ -1,7 +1,6 @@
 -- `word_fit` is `word_fit`, part by part.
 use mathlib.Core.Path.{ap, ◌∙◌}
 use mathlib.Core.Bool.{Bool}
-use borrow.Author.Rules.{rules}
 use Rattle.wording.specs.declared.line.Wanted.TheVariants.{Word}
 use Rattle.wording.specs.Line.{word_fit, fit_unless, is_named}
 use Rattle.wording.proofs.line.word_fit.Goals as goal

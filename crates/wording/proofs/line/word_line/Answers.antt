@@ -1,6 +1,5 @@
 -- `word_line` is `word_line`: an open, or put together from its two parts.
 use mathlib.Core.Path.{sym, ◌∙◌}
-use borrow.Author.Rules.{rules}
 use borrow.Author.Tests.{eq-eqb, ne_eqb}
 use Rattle.base.proofs.verdicts.Picks.{cond_true}
 use Rattle.wording.specs.Line.{call_if, word_line, OPEN}

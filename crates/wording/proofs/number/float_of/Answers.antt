@@ -1,6 +1,5 @@
 -- `float_of` is `float_of`: `magnitude` has the pattern for either sign, to which the sign's bit is
 -- added.
-use borrow.Author.Rules.{rules}
 use borrow.Author.Tests.{lt-ltb, le-ltb, le-leb, lt-leb}
 use mathlib.Core.Path.{sym, ap, ◌∙◌, subst}
 use mathlib.Core.Bool.{◌&&◌}

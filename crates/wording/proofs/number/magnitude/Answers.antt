@@ -3,12 +3,12 @@
 use mathlib.Core.Path.{◌≡◌, sym, ap, ◌∙◌, subst}
 use Rattle.wording.proofs.number.magnitude.Goals.{then-rest-by, else-rest-by}
 use mathlib.Core.Bool.{cond}
-use Prim.Native.Nat.{ℕ, ◌+◌, ◌-◌, ◌*◌, ◌^◌, ◌<◌}
+use Prim.Native.Nat.{ℕ, ◌+◌, ◌*◌, ◌^◌, ◌<◌}
 use native.Mathlib.Nat.{add-zero}
 use native.Mathlib.Omega.{arith}
 use lib.Dec.{lit≤}
 use lib.Ieee.{binary32, of_bits, round}
-use Rattle.wording.proofs.decimals.Dividing.{same_first, Widened, few, early, wider, Divided, divided, more, turn_zero, turn_one, last, fits, pattern, zero_pattern}
+use Rattle.wording.proofs.decimals.Dividing.{same_first, few, early, wider, Divided, divided, more, turn_zero, turn_one, last, fits, pattern, zero_pattern}
 use Rattle.wording.proofs.number.magnitude.Goals.{In-loop-q}
 use Rattle.wording.proofs.number.magnitude.Goals.{After-to_nearest}
 use Rattle.wording.proofs.number.magnitude.Goals as goal

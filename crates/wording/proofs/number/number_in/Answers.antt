@@ -1,5 +1,4 @@
 -- `number_in` is `number_in`: a sign is passed over, and the rest read (`signed`).
-use borrow.Author.Rules.{rules}
 use borrow.Author.Tests.{eq-eqb, ne_eqb}
 use mathlib.Core.Path.{sym, ◌∙◌}
 use native.Mathlib.Omega.{arith}

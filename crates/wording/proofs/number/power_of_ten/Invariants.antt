@@ -1,9 +1,6 @@
 -- `power_of_ten` is the power, a factor a turn; up to the 17th another factor leaves it in range.
-use mathlib.Core.Path.{◌≡◌, refl, sym, ap, ◌∙◌}
-use Prim.Native.Nat.{◌*◌, ◌-◌, ◌^◌, ◌≤◌}
-use native.Mathlib.Nat.{le_antisymm, pow-suc, pow-le-pow_right}
-use native.Mathlib.Numerals.{add-one}
-use native.Mathlib.Omega.{arith}
+use mathlib.Core.Path.{◌≡◌}
+use Prim.Native.Nat.{◌-◌, ◌^◌, ◌≤◌}
 use Rattle.wording.proofs.number.power_of_ten.Given as goal
 
 abbrev pub invariant-loop-i : goal.invariant-loop-i

@@ -1,12 +1,10 @@
 -- `scan_from` is `scanned`: what is read and the bytes that are left make what the whole makes.
-use borrow.Author.Rules.{rules}
-use mathlib.Core.Path.{◌≡◌, refl, sym, ap, ◌∙◌}
-use Prim.Native.Nat.{◌-◌, ◌≤◌}
+use mathlib.Core.Path.{refl, sym, ap, ◌∙◌}
 use native.Mathlib.Numerals.{add-one}
 use native.Mathlib.Omega.{arith}
-use lib.ListN.{length, drop, drop_of_length-le}
+use lib.ListN.{drop, drop_of_length-le}
 use lib.Seq.{drop-cons}
-use Rattle.wording.specs.Number.{unread, scanned}
+use Rattle.wording.specs.Number.{scanned}
 use Rattle.wording.proofs.number.scan_from.Goals as goal
 
 pub loop-i-init : goal.loop-i-init

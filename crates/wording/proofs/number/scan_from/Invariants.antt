@@ -1,11 +1,7 @@
 -- `scan_from` is `scanned`: what is read and the bytes that are left make what the whole makes.
-use borrow.Author.Rules.{rules}
-use mathlib.Core.Path.{◌≡◌, refl, sym, ap, ◌∙◌}
+use mathlib.Core.Path.{◌≡◌}
 use Prim.Native.Nat.{◌-◌, ◌≤◌}
-use native.Mathlib.Numerals.{add-one}
-use native.Mathlib.Omega.{arith}
-use lib.ListN.{length, drop, drop_of_length-le}
-use lib.Seq.{drop-cons}
+use lib.ListN.{length, drop}
 use Rattle.wording.specs.Number.{unread, scanned}
 use Rattle.wording.proofs.number.scan_from.Given as goal
 

@@ -1,5 +1,4 @@
 -- `to_nearest` is `nearest`, by how twice the rest compares with the divisor.
-use borrow.Author.Rules.{rules}
 use mathlib.Core.Path.{sym}
 use Prim.Native.Nat.{◌*◌}
 use native.Mathlib.Omega.{arith}

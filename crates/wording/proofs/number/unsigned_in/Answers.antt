@@ -1,5 +1,4 @@
 -- `unsigned_in` is `unsigned_in`: what is read byte by byte is the number (`read`).
-use borrow.Author.Rules.{rules}
 use mathlib.Core.Path.{ap, ◌∙◌}
 use Rattle.wording.specs.Number.{number_of}
 use Rattle.wording.proofs.decimals.Reading.{read}

@@ -1,5 +1,4 @@
 -- `with_byte` is `with_byte`, by the kind of the byte.
-use borrow.Author.Rules.{rules}
 use borrow.Author.Tests.{eq-eqb, ne_eqb}
 use mathlib.Core.Path.{sym, ◌∙◌}
 use Rattle.base.proofs.verdicts.Picks.{cond_true, cond_false}

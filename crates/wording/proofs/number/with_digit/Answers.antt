@@ -1,5 +1,4 @@
 -- `with_digit` is `with_digit`, test by test; below 10^17 another digit leaves the digits in range.
-use borrow.Author.Rules.{rules}
 use borrow.Author.Tests.{lt-ltb, le-ltb}
 use mathlib.Core.Path.{◌≡◌, sym, ap, ◌∙◌}
 use mathlib.Core.Bool.{◌&&◌, true, cond}

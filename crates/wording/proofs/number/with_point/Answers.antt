@@ -1,5 +1,4 @@
 -- `with_point` is `with_point`, by its one test.
-use borrow.Author.Rules.{rules}
 use mathlib.Core.Path.{sym, ◌∙◌}
 use Rattle.base.proofs.verdicts.Picks.{cond_true, cond_false}
 use Rattle.wording.specs.Number.{with_point}

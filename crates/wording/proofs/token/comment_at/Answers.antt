@@ -1,10 +1,8 @@
 -- `comment_at` finds what `uncommented` keeps. The loop's invariant: that is the bytes read and what
 -- is kept of those that follow.
-use mathlib.Core.Path.{◌≡◌, refl, sym, ◌∙◌}
-use Prim.Native.Nat.{◌≤◌, ◌-◌}
+use mathlib.Core.Path.{refl, sym, ◌∙◌}
 use borrow.Author.Rules.{rules}
-use lib.ListN.{length}
-use Rattle.wording.proofs.words.Splits.{read_to, comment_starts, comment_later, no_comment}
+use Rattle.wording.proofs.words.Splits.{comment_starts, comment_later, no_comment}
 use Rattle.wording.proofs.token.comment_at.Goals as goal
 
 pub loop-i-init : goal.loop-i-init

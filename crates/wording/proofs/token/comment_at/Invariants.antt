@@ -1,10 +1,9 @@
 -- `comment_at` finds what `uncommented` keeps. The loop's invariant: that is the bytes read and what
 -- is kept of those that follow.
-use mathlib.Core.Path.{◌≡◌, refl, sym, ◌∙◌}
+use mathlib.Core.Path.{◌≡◌}
 use Prim.Native.Nat.{◌≤◌, ◌-◌}
-use borrow.Author.Rules.{rules}
 use lib.ListN.{length}
-use Rattle.wording.proofs.words.Splits.{read_to, comment_starts, comment_later, no_comment}
+use Rattle.wording.proofs.words.Splits.{read_to}
 use Rattle.wording.proofs.token.comment_at.Given as goal
 
 abbrev pub invariant-loop-i : goal.invariant-loop-i

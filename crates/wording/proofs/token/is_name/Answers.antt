@@ -1,11 +1,9 @@
 -- `is_name` compares letter by letter. The loop's invariant: what is left to compare decides the
 -- whole.
-use mathlib.Core.Path.{◌≡◌, refl, sym, ap, ◌∙◌}
-use Prim.Native.Nat.{◌≤◌, ◌-◌}
+use mathlib.Core.Path.{refl, sym, ap, ◌∙◌}
 use borrow.Author.Rules.{rules}
 use lib.Dec.{eqb}
-use lib.ListN.{length}
-use Rattle.wording.proofs.words.Names.{left, name_ends, letter_differs, letter_next, word_ends}
+use Rattle.wording.proofs.words.Names.{name_ends, letter_differs, letter_next, word_ends}
 use Rattle.wording.proofs.token.is_name.Goals as goal
 
 pub loop-i-init : goal.loop-i-init

@@ -1,11 +1,9 @@
 -- `is_name` compares letter by letter. The loop's invariant: what is left to compare decides the
 -- whole.
-use mathlib.Core.Path.{◌≡◌, refl, sym, ap, ◌∙◌}
+use mathlib.Core.Path.{◌≡◌}
 use Prim.Native.Nat.{◌≤◌, ◌-◌}
-use borrow.Author.Rules.{rules}
-use lib.Dec.{eqb}
 use lib.ListN.{length}
-use Rattle.wording.proofs.words.Names.{left, name_ends, letter_differs, letter_next, word_ends}
+use Rattle.wording.proofs.words.Names.{left}
 use Rattle.wording.proofs.token.is_name.Given as goal
 
 abbrev pub invariant-loop-i : goal.invariant-loop-i

@@ -1,6 +1,5 @@
 -- `letter` is `get_or`: past the end that is the blank.
 use mathlib.Core.Path.{sym}
-use borrow.Author.Rules.{rules}
 use lib.ListN.{get_or-eq_default}
 use Rattle.wording.proofs.words.Names.{any_default}
 use Rattle.wording.proofs.token.letter.Goals as goal

@@ -1,5 +1,4 @@
 -- The source's names are those of specs/Token.antt, by computation over the whole table.
-use borrow.Author.Rules.{rules}
 use Rattle.wording.proofs.words.Names.{row_name}
 use Rattle.wording.proofs.token.name.Goals as goal
 

@@ -1,9 +1,8 @@
 -- `name_in` tries name after name where the word begins with a small letter, as they all do. The loop's
 -- invariant: what is left to try decides the whole.
-use mathlib.Core.Path.{◌≡◌, refl, sym, ◌∙◌}
+use mathlib.Core.Path.{◌≡◌}
 use Prim.Native.Nat.{◌≤◌, ◌-◌}
-use borrow.Author.Rules.{rules}
-use Rattle.wording.proofs.words.Names.{no_name, untried, named, name_next, none_left}
+use Rattle.wording.proofs.words.Names.{untried}
 use Rattle.wording.proofs.token.name_in.Given as goal
 
 abbrev pub invariant-loop-k : goal.invariant-loop-k

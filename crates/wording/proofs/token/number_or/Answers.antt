@@ -1,6 +1,5 @@
 -- `number_or` is `number_or`, by the case that the number is.
 use mathlib.Core.Path.{sym, ap}
-use borrow.Author.Rules.{rules}
 use Rattle.wording.specs.Token.{number_or}
 use Rattle.wording.proofs.token.number_or.Goals as goal
 

@@ -1,5 +1,4 @@
 -- `token_at` is `token_at`.
-use borrow.Author.Rules.{rules}
 use Rattle.wording.specs.Token.{token_at}
 use Rattle.wording.proofs.token.token_at.Goals as goal
 

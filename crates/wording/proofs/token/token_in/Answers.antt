@@ -1,6 +1,5 @@
 -- `token_in` is `token_of`, by what the name is.
 use mathlib.Core.Path.{sym, ap, ◌∙◌}
-use borrow.Author.Rules.{rules}
 use Rattle.wording.specs.declared.token.Token.{Token}
 use Rattle.wording.specs.Token.{number_or, name_or, token_of}
 use Rattle.wording.proofs.token.token_in.Goals as goal

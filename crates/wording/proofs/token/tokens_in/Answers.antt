@@ -2,7 +2,6 @@
 use mathlib.Core.Path.{sym, ap, ◌∙◌}
 use mathlib.Core.List.{List, []}
 use Prim.Native.Nat.{ℕ}
-use borrow.Author.Rules.{rules}
 use lib.Seq.{length-take-le}
 use Rattle.wording.specs.Token.{words_from, first_tokens, tokens_of}
 use Rattle.wording.proofs.token.tokens_in.Goals as goal

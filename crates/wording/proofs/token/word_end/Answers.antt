@@ -1,9 +1,6 @@
 -- `word_end` goes on to the first blank. The loop's invariant: the bytes so far are letters of the word.
 use mathlib.Core.Path.{sym, ◌∙◌}
-use Prim.Native.Nat.{◌-◌}
-use borrow.Author.Rules.{rules}
-use lib.ListN.{length}
-use Rattle.wording.proofs.words.Splits.{Letters, word_begins, goes_on, blank_ends, line_ends}
+use Rattle.wording.proofs.words.Splits.{word_begins, goes_on, blank_ends, line_ends}
 use Rattle.wording.proofs.token.word_end.Goals as goal
 
 pub loop-i-init : goal.loop-i-init

@@ -1,13 +1,11 @@
 -- `words_in` puts word after word. The loop's invariant: the words so far and those to come are all
 -- words.
-use mathlib.Core.Path.{◌≡◌, sym, ap, ◌∙◌}
+use mathlib.Core.Path.{ap, ◌∙◌}
 use Rattle.wording.proofs.token.words_in.Goals.{then-at-end+else-n-eq-WORDS, else-at-end}
-use Prim.Native.Nat.{ℕ, ◌+◌, ◌-◌}
 use native.Mathlib.Omega.{arith}
-use borrow.Author.Rules.{rules}
-use lib.ListN.{length, set}
+use lib.ListN.{set}
 use Rattle.wording.specs.declared.token.Token.{Token}
-use Rattle.wording.proofs.words.Splits.{Filled, filled, Read, nothing_read, no_word, word_read, slots_full, all_read}
+use Rattle.wording.proofs.words.Splits.{nothing_read, no_word, word_read, slots_full, all_read}
 use Rattle.wording.proofs.token.words_in.Goals as goal
 
 pub loop-at-init : goal.loop-at-init

@@ -1,13 +1,8 @@
 -- `words_in` puts word after word. The loop's invariant: the words so far and those to come are all
 -- words.
-use mathlib.Core.Path.{◌≡◌, sym, ap, ◌∙◌}
-use mathlib.Core.Logic.{⊎_elim}
-use Prim.Native.Nat.{ℕ, ◌+◌, ◌-◌}
-use native.Mathlib.Omega.{arith}
-use borrow.Author.Rules.{rules}
-use lib.ListN.{length, set}
-use Rattle.wording.specs.declared.token.Token.{Token}
-use Rattle.wording.proofs.words.Splits.{Filled, filled, Read, nothing_read, no_word, word_read, slots_full, all_read}
+use Prim.Native.Nat.{◌-◌}
+use lib.ListN.{length}
+use Rattle.wording.proofs.words.Splits.{filled, Read}
 use Rattle.wording.proofs.token.words_in.Given as goal
 
 abbrev pub invariant-loop-at : goal.invariant-loop-at

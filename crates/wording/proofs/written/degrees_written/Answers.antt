@@ -1,5 +1,4 @@
 -- `degrees_written` is `degrees_written`.
-use borrow.Author.Rules.{rules}
 use Rattle.wording.proofs.written.degrees_written.Goals as goal
 
 pub returns : goal.returns

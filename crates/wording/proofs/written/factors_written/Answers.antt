@@ -1,5 +1,4 @@
 -- `factors_written` is `factors_written`, field by field.
-use borrow.Author.Rules.{rules}
 use Rattle.wording.specs.Written.{factors_written}
 use Rattle.wording.proofs.written.factors_written.Goals as goal
 

@@ -1,5 +1,4 @@
 -- `inputs_written` is `inputs_written`, field by field.
-use borrow.Author.Rules.{rules}
 use Rattle.wording.specs.Written.{inputs_written}
 use Rattle.wording.proofs.written.inputs_written.Goals as goal
 

@@ -1,5 +1,4 @@
 -- `pole_written` is `pole_written`, field by field.
-use borrow.Author.Rules.{rules}
 use Rattle.wording.specs.Written.{pole_written}
 use Rattle.wording.proofs.written.pole_written.Goals as goal
 

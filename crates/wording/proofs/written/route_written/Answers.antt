@@ -1,5 +1,4 @@
 -- `route_written` is `route_written`, field by field.
-use borrow.Author.Rules.{rules}
 use Rattle.wording.specs.Written.{route_written}
 use Rattle.wording.proofs.written.route_written.Goals as goal
 

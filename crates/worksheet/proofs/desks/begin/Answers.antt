@@ -1,5 +1,4 @@
 -- `begin` is `begin_of`: its check and its worksheet are the definition's, call by call.
-use borrow.Author.Rules.{rules}
 use mathlib.Core.Path.{◌∙◌, ap, ap₂}
 use Rattle.base.specs.Refusal.{◌then◌}
 use Rattle.worksheet.specs.Desks.{closed_check, begin_check, begin_of}

@@ -1,5 +1,4 @@
 -- `cancel` is `cancel_of`: its check and its worksheet are the definition's, call by call.
-use borrow.Author.Rules.{rules}
 use mathlib.Core.Path.{◌∙◌, ap, ap₂}
 use Rattle.base.specs.Refusal.{◌then◌}
 use Rattle.worksheet.specs.Desks.{draft_check, cancel_check, cancel_of}

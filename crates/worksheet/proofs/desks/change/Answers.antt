@@ -1,5 +1,4 @@
 -- `change` is `change_of`: its check and its worksheet are the definition's, call by call.
-use borrow.Author.Rules.{rules}
 use mathlib.Core.Path.{◌∙◌, ap, ap₂}
 use Rattle.worksheet.specs.declared.desks.Draft.{Draft}
 use Rattle.base.specs.Refusal.{◌then◌}

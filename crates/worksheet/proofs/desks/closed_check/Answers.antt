@@ -1,5 +1,4 @@
 -- `closed_check` is `closed_check`, by the draft's three cases.
-use borrow.Author.Rules.{rules}
 use mathlib.Core.Path.{sym, ap}
 use Rattle.worksheet.specs.Desks.{closed_check}
 use Rattle.worksheet.proofs.desks.closed_check.Goals as goal

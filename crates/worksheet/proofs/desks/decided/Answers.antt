@@ -1,5 +1,4 @@
 -- `decided` is `outcome`, by the verdict's two cases.
-use borrow.Author.Rules.{rules}
 use mathlib.Core.Path.{sym, ap}
 use Rattle.base.specs.declared.refusal.Verdict.{Verdict}
 use Rattle.worksheet.specs.Desks.{outcome}

@@ -1,5 +1,4 @@
 -- `desk_check` is `desk_check`, by what `is_desk` and `refuse_unless` ensure.
-use borrow.Author.Rules.{rules}
 use Rattle.worksheet.specs.Desks.{desk_check}
 use Rattle.base.proofs.verdicts.Refusals.{by_test}
 use Rattle.worksheet.proofs.desks.desk_check.Goals as goal

@@ -1,5 +1,4 @@
 -- `draft_at` is `draft_at`, test by test from the last desk, by what `pick` ensures.
-use borrow.Author.Rules.{rules}
 use Rattle.worksheet.specs.Desks.{draft_at}
 use Rattle.worksheet.proofs.desks.draft_at.Goals as goal
 

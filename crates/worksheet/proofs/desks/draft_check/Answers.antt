@@ -1,5 +1,4 @@
 -- `draft_check` is `draft_check`, by the draft's three cases.
-use borrow.Author.Rules.{rules}
 use mathlib.Core.Path.{sym, ap}
 use Rattle.worksheet.specs.Desks.{draft_check}
 use Rattle.worksheet.proofs.desks.draft_check.Goals as goal

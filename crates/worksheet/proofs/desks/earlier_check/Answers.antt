@@ -1,5 +1,4 @@
 -- `earlier_check` is `earlier_check`, by whether there is an earlier set.
-use borrow.Author.Rules.{rules}
 use mathlib.Core.Path.{sym, ap}
 use Rattle.worksheet.specs.Desks.{earlier_check}
 use Rattle.worksheet.proofs.desks.earlier_check.Goals as goal

@@ -1,5 +1,4 @@
 -- `edited_draft` is `edited_draft`, by the draft's three cases, its inputs by what `apply` ensures.
-use borrow.Author.Rules.{rules}
 use mathlib.Core.Path.{sym, ap, ◌∙◌}
 use Rattle.worksheet.specs.declared.desks.Draft.{Draft}
 use Rattle.worksheet.specs.declared.desks.Draft.TheVariants.{Fresh, Stale}

@@ -1,5 +1,4 @@
 -- `fresh_check` is `fresh_check`, by the draft's three cases.
-use borrow.Author.Rules.{rules}
 use mathlib.Core.Path.{sym, ap}
 use Rattle.worksheet.specs.Desks.{fresh_check}
 use Rattle.worksheet.proofs.desks.fresh_check.Goals as goal

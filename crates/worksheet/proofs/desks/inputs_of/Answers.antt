@@ -1,5 +1,4 @@
 -- `inputs_of` is `inputs_of`, by the draft's three cases.
-use borrow.Author.Rules.{rules}
 use mathlib.Core.Path.{sym, ap}
 use Rattle.worksheet.specs.declared.desks.Draft.{Draft}
 use Rattle.worksheet.specs.Desks.{inputs_of}

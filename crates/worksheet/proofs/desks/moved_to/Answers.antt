@@ -1,5 +1,4 @@
 -- `moved_to` is `moved_to`, desk by desk, by what `stale` ensures.
-use borrow.Author.Rules.{rules}
 use Rattle.worksheet.specs.Desks.{moved_to}
 use Rattle.worksheet.proofs.desks.moved_to.Goals as goal
 

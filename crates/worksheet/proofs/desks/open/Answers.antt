@@ -1,5 +1,4 @@
 -- `open` is `open_of`: the verdict on the inputs and a fresh worksheet, by what its calls ensure.
-use borrow.Author.Rules.{rules}
 use Rattle.worksheet.specs.Desks.{open_of}
 use Rattle.worksheet.proofs.desks.open.Goals as goal
 

@@ -1,5 +1,4 @@
 -- `opened` is `opened_of`: the inputs of the words, opened, by what `inputs_in` and `open` ensure.
-use borrow.Author.Rules.{rules}
 use mathlib.Core.Path.{ap, ◌∙◌}
 use Rattle.worksheet.specs.Desks.{open_of, opened_of}
 use Rattle.worksheet.proofs.desks.opened.Goals as goal

@@ -1,5 +1,4 @@
 -- `set_of` is `set_of`, by whether there is an earlier set.
-use borrow.Author.Rules.{rules}
 use mathlib.Core.Path.{sym, ap}
 use Rattle.worksheet.specs.declared.desks.Earlier.{Earlier}
 use Rattle.worksheet.specs.Desks.{set_of}

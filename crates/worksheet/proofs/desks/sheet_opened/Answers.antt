@@ -1,5 +1,4 @@
 -- `sheet_opened` is `sheet_opened_of`: the inputs of the words, opened, by what its calls ensure.
-use borrow.Author.Rules.{rules}
 use mathlib.Core.Path.{ap, ◌∙◌}
 use Rattle.worksheet.specs.Desks.{open_of, sheet_opened_of}
 use Rattle.worksheet.proofs.desks.sheet_opened.Goals as goal

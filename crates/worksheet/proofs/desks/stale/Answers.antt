@@ -1,5 +1,4 @@
 -- `stale` is `stale_of`, by the draft's three cases.
-use borrow.Author.Rules.{rules}
 use mathlib.Core.Path.{sym, ap}
 use Rattle.worksheet.specs.Desks.{stale_of}
 use Rattle.worksheet.proofs.desks.stale.Goals as goal

@@ -1,5 +1,4 @@
 -- `take_back` is `take_back_of`: its check and its worksheet are the definition's, call by call.
-use borrow.Author.Rules.{rules}
 use mathlib.Core.Path.{◌∙◌, ap}
 use Rattle.maps.specs.declared.inputs.Inputs.{Inputs}
 use Rattle.worksheet.specs.declared.desks.Earlier.TheVariants.{Nothing}

@@ -1,5 +1,4 @@
 -- `with_draft` is `with_draft`, desk by desk, by what `pick` ensures.
-use borrow.Author.Rules.{rules}
 use Rattle.worksheet.specs.Desks.{with_draft}
 use Rattle.worksheet.proofs.desks.with_draft.Goals as goal
 

@@ -1,5 +1,4 @@
 -- `apply` is `edited`, by the edit's seven cases, each by what its call ensures.
-use borrow.Author.Rules.{rules}
 use mathlib.Core.Path.{sym, ap, ◌∙◌}
 use Rattle.worksheet.specs.Inputs.{edited}
 use Rattle.worksheet.specs.declared.inputs.Edit.{Edit}

@@ -1,5 +1,4 @@
 -- `edit_check` is `edit_check`, by the edit's seven cases, each by what its call ensures.
-use borrow.Author.Rules.{rules}
 use mathlib.Core.Path.{sym, ap, ◌∙◌}
 use Rattle.worksheet.specs.Inputs.{edit_check}
 use Rattle.worksheet.proofs.inputs.edit_check.Goals as goal

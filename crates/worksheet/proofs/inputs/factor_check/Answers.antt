@@ -1,5 +1,4 @@
 -- `factor_check` is `factor_check`: the ends of the range are the decimals, by computation.
-use borrow.Author.Rules.{rules}
 use lib.Ieee.{of_bits, round}
 use Rattle.base.specs.Single.{decimal}
 use Rattle.worksheet.specs.Inputs.{factor_check}

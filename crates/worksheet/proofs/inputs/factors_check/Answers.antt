@@ -1,5 +1,4 @@
 -- `factors_check` is `factors_check`: each verdict is its definition's, by what the calls ensure.
-use borrow.Author.Rules.{rules}
 use Rattle.worksheet.specs.Inputs.{factors_check}
 use Rattle.worksheet.proofs.inputs.factors_check.Goals as goal
 

@@ -1,5 +1,4 @@
 -- `flag_check` is `flag_check`, by what `is_bit` and `refuse_unless` ensure.
-use borrow.Author.Rules.{rules}
 use Rattle.worksheet.specs.Inputs.{flag_check}
 use Rattle.base.proofs.verdicts.Refusals.{by_test}
 use Rattle.worksheet.proofs.inputs.flag_check.Goals as goal

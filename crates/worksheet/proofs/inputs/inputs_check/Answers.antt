@@ -1,5 +1,4 @@
 -- `inputs_check` is `inputs_check`: each verdict is its definition's, by what the calls ensure.
-use borrow.Author.Rules.{rules}
 use mathlib.Core.Path.{ap₂, ◌∙◌}
 use Rattle.base.specs.Refusal.{◌then◌}
 use Rattle.worksheet.specs.Inputs.{inputs_check}

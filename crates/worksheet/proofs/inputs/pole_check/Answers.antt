@@ -1,5 +1,4 @@
 -- `pole_check` is `pole_check`: each verdict is its definition's, by what the calls ensure.
-use borrow.Author.Rules.{rules}
 use Rattle.worksheet.specs.Inputs.{pole_check}
 use Rattle.worksheet.proofs.inputs.pole_check.Goals as goal
 

@@ -1,5 +1,4 @@
 -- `route_check` is `route_check`: each verdict is its definition's, by what the calls ensure.
-use borrow.Author.Rules.{rules}
 use Rattle.worksheet.specs.Inputs.{route_check}
 use Rattle.worksheet.proofs.inputs.route_check.Goals as goal
 

@@ -1,5 +1,4 @@
 -- `sunspot_check` is `sunspot_check`: the ends of the range are the decimals, by computation.
-use borrow.Author.Rules.{rules}
 use lib.Ieee.{of_bits, round}
 use Rattle.base.specs.Single.{decimal}
 use Rattle.worksheet.specs.Inputs.{sunspot_check}

@@ -1,5 +1,4 @@
 -- `make` is the `step` of its call, answer and buffer, by the call's six cases.
-use borrow.Author.Rules.{rules}
 use mathlib.Core.Path.{refl, ap, ◌∙◌}
 use Rattle.worksheet.specs.declared.desks.Outcome.{Outcome}
 use Rattle.worksheet.specs.Journal.{step_of, step}

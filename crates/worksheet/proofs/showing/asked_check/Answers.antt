@@ -1,5 +1,4 @@
 -- `asked_check` is `asked_check`, by whether the worksheet is asked for.
-use borrow.Author.Rules.{rules}
 use mathlib.Core.Path.{◌∙◌, ap, ap₂}
 use Rattle.base.specs.Refusal.{◌then◌}
 use Rattle.worksheet.specs.Desks.{draft_check}

@@ -1,6 +1,5 @@
 -- `drawn` answers `drawn_of` and leaves `drawn_buffer`, by the buffer's length, and then by what the
 -- figures answered.
-use borrow.Author.Rules.{rules}
 use mathlib.Core.Path.{sym, ◌∙◌}
 use Rattle.worksheet.proofs.checks.Showings.{drawn_unfit, drawn_points, drawn_refused}
 use Rattle.worksheet.proofs.showing.drawn.Goals as goal

@@ -1,6 +1,5 @@
 -- `drawn_year` answers `drawn_of` and leaves `drawn_buffer` over the year's own parts: by the buffer's
 -- length, by what the year file and the model's part refuse, and then as `drawn` over the two parts.
-use borrow.Author.Rules.{rules}
 use mathlib.Core.Path.{sym, ap₂, ◌∙◌}
 use Rattle.base.specs.Refusal.{◌then◌}
 use Rattle.worksheet.proofs.checks.Showings.{drawn_unfit, year_drawn, year_withheld}

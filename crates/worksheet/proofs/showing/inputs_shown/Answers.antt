@@ -1,5 +1,4 @@
 -- `inputs_shown` is `inputs_shown`, by whether the worksheet is asked for.
-use borrow.Author.Rules.{rules}
 use mathlib.Core.Path.{◌∙◌, ap}
 use Rattle.worksheet.specs.declared.desks.Draft.{Draft}
 use Rattle.worksheet.specs.Desks.{inputs_of}

@@ -2,10 +2,9 @@
 use borrow.Author.Rules.{rules}
 use mathlib.Core.Path.{◌≡◌, refl, sym, ap, ◌∙◌}
 use mathlib.Core.List.{List}
-use Prim.Native.Nat.{ℕ, ◌+◌, ◌≤◌, ◌-◌}
 use native.Mathlib.Omega.{arith}
-use lib.ListN.{length, get_or, set}
-use lib.Ieee.{Float, nan}
+use lib.ListN.{set}
+use lib.Ieee.{Float}
 use Rattle.base.specs.Fill.{fill}
 use Rattle.base.proofs.lists.Fills.{fill_first}
 use Rattle.maps.proofs.lists.Written.{elements}

@@ -1,13 +1,8 @@
 -- `put` fills the buffer with the figures, by the loop's invariant that the first k are put.
-use borrow.Author.Rules.{rules}
-use mathlib.Core.Path.{◌≡◌, refl, sym, ap, ◌∙◌}
-use mathlib.Core.List.{List}
-use Prim.Native.Nat.{ℕ, ◌+◌, ◌≤◌, ◌-◌}
-use native.Mathlib.Omega.{arith}
-use lib.ListN.{length, get_or, set}
-use lib.Ieee.{Float, nan}
+use mathlib.Core.Path.{◌≡◌}
+use Prim.Native.Nat.{◌≤◌, ◌-◌}
+use lib.ListN.{length}
 use Rattle.base.specs.Fill.{fill}
-use Rattle.base.proofs.lists.Fills.{fill_first}
 use Rattle.maps.proofs.lists.Written.{elements}
 use Rattle.worksheet.proofs.showing.put.Given as goal
 

@@ -1,6 +1,5 @@
 -- `show` answers `show_of` and leaves `show_buffer`, by what is judged: refused, or the figures of
 -- the inputs shown.
-use borrow.Author.Rules.{rules}
 use Rattle.worksheet.proofs.checks.Showings.{show_refused, show_accepted}
 use Rattle.worksheet.proofs.showing.show.Goals as goal
 

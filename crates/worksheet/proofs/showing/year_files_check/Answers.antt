@@ -1,6 +1,5 @@
 -- `year_files_check` is `year_files_check`: the two words' verdict, the year's, then that of the two
 -- parts, by what its calls ensure.
-use borrow.Author.Rules.{rules}
 use mathlib.Core.Path.{ap₂, ◌∙◌}
 use Rattle.base.specs.Refusal.{◌then◌}
 use Rattle.worksheet.proofs.checks.Showings.{year_files_law}

@@ -1,5 +1,5 @@
 -- `number` is the first of what `report` gives.
-use Rattle.std.proofs.Common.{ℕ, ap, rules}
+use Rattle.std.proofs.Common.{ℕ, ap}
 use Rattle.base.proofs.refusal.Refusal.number.Goals as goal
 
 pub returns : goal.returns

@@ -1,5 +1,5 @@
 -- `place` is the second of what `report` gives.
-use Rattle.std.proofs.Common.{ℕ, ap, rules}
+use Rattle.std.proofs.Common.{ℕ, ap}
 use Rattle.base.proofs.refusal.Refusal.place.Goals as goal
 
 pub returns : goal.returns

@@ -1,6 +1,6 @@
 -- `report` gives what `report_of` says of each case: each arm is told which constructor the refusal
 -- is.
-use Rattle.std.proofs.Common.{sym, ap, rules}
+use Rattle.std.proofs.Common.{sym, ap}
 use Rattle.base.specs.Refusal.{report_of}
 use Rattle.base.proofs.refusal.Refusal.report.Goals as goal
 

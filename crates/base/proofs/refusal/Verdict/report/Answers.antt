@@ -1,5 +1,5 @@
 -- `report` of a check's answer is `verdict_report`: 0 and 0, or what the refusal reports.
-use Rattle.std.proofs.Common.{sym, ap, ◌∙◌, rules}
+use Rattle.std.proofs.Common.{sym, ap, ◌∙◌}
 use Rattle.base.specs.Refusal.{verdict_report}
 use Rattle.base.proofs.refusal.Verdict.report.Goals as goal
 

@@ -1,6 +1,5 @@
 -- `after_shift` is `after_shift`: its calls are rewritten by what they ensure, and the literals are
 -- the decimals.
-use Rattle.std.proofs.Common.{rules}
 use lib.Ieee.{of_bits, round}
 use Rattle.base.specs.Single.{decimal}
 use Rattle.maps.specs.Clocks.{after_shift}

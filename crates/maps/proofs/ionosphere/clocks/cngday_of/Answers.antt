@@ -1,6 +1,6 @@
 -- `cngday_of` is `cngday_of`: both whole numbers are the definition's (`signed_word`), and the
 -- literals are the decimals.
-use Rattle.std.proofs.Common.{◌≡◌, ℤ, ◌+ℤ◌, ◌∙◌, rules}
+use Rattle.std.proofs.Common.{◌≡◌, ℤ, ◌+ℤ◌, ◌∙◌}
 use lib.Ieee.{binary32, of_int, of_bits, round}
 use Rattle.base.specs.Single.{decimal}
 use Rattle.maps.specs.Clocks.{cngday_of}

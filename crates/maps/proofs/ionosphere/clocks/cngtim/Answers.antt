@@ -1,5 +1,4 @@
 -- `cngtim` is `moved_of`: its calls are rewritten by what they ensure.
-use Rattle.std.proofs.Common.{rules}
 use Rattle.maps.specs.Clocks.{moved_of}
 use Rattle.maps.proofs.ionosphere.clocks.cngtim.Goals as goal
 

@@ -1,6 +1,6 @@
 -- `cngtim_of` is `cngtim_of`, by whether the longitude is 0: if not, its calls are rewritten by what
 -- they ensure.
-use Rattle.std.proofs.Common.{sym, rules}
+use Rattle.std.proofs.Common.{sym}
 use lib.Ieee.{of_bits, round}
 use Rattle.base.specs.Single.{decimal}
 use Rattle.base.proofs.verdicts.Picks.{cond_true, cond_false}

@@ -1,5 +1,5 @@
 -- `fisw_of` is `fisw_of`, by the direction's two cases.
-use Rattle.std.proofs.Common.{sym, ap, rules}
+use Rattle.std.proofs.Common.{sym, ap}
 use lib.Ieee.{of_bits, round, neg}
 use Rattle.base.specs.Single.{decimal, minus_decimal}
 use Rattle.maps.specs.Clocks.{fisw_of}

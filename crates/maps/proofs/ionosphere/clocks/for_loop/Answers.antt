@@ -1,5 +1,5 @@
 -- `for_loop` is `for_loop`: the two arms of its branch meet in the time that is raised or not.
-use Rattle.std.proofs.Common.{◌≡◌, cond, sym, rules}
+use Rattle.std.proofs.Common.{◌≡◌, cond, sym}
 use lib.Ieee.{lt, of_bits, round}
 use Rattle.base.specs.Single.{◌⊕◌, ◌⊖◌, ◌⊗◌, decimal}
 use Rattle.base.proofs.verdicts.Picks.{cond_true, cond_false}

@@ -1,5 +1,4 @@
 -- `geotim` is `times_of`: its calls are rewritten by what they ensure.
-use Rattle.std.proofs.Common.{rules}
 use Rattle.maps.specs.Clocks.{times_of}
 use Rattle.maps.proofs.ionosphere.clocks.geotim.Goals as goal
 

@@ -1,5 +1,4 @@
 -- `geotim_clck` is `local_time_of`: its calls are rewritten by what they ensure.
-use Rattle.std.proofs.Common.{rules}
 use Rattle.maps.specs.Clocks.{local_time_of}
 use Rattle.maps.proofs.ionosphere.clocks.geotim_clck.Goals as goal
 

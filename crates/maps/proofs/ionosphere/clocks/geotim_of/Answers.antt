@@ -1,5 +1,5 @@
 -- `geotim_of` is `geotim_of`, by whether the hour is local, and by what its calls ensure.
-use Rattle.std.proofs.Common.{Bool, sym, ap, rules}
+use Rattle.std.proofs.Common.{Bool, sym, ap}
 use Rattle.maps.specs.Clocks.{geotim_of}
 use Rattle.maps.proofs.ionosphere.clocks.geotim_of.Goals as goal
 

@@ -1,5 +1,4 @@
 -- `hours_check` is `hours_check`: each verdict is its definition's, by what the calls ensure.
-use Rattle.std.proofs.Common.{rules}
 use Rattle.maps.specs.Clocks.{hours_check}
 use Rattle.maps.proofs.ionosphere.clocks.hours_check.Goals as goal
 

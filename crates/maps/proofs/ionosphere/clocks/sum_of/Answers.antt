@@ -1,6 +1,6 @@
 -- `sum_of` is the `f32` nearest to the sum: the sum fits an `i64` (`sum_fits`), and its `f64`,
 -- narrowed, is its `f32` (`sum_narrow`).
-use Rattle.std.proofs.Common.{ap, ◌∙◌, rules}
+use Rattle.std.proofs.Common.{ap, ◌∙◌}
 use Rattle.base.specs.Number.{narrow_of}
 use Rattle.maps.proofs.sums.WholeSums.{wide, sum_fits, sum_narrow}
 use Rattle.maps.proofs.ionosphere.clocks.sum_of.Goals as goal

@@ -1,5 +1,4 @@
 -- `time_at` is `time_at`: its calls are rewritten by what they ensure.
-use Rattle.std.proofs.Common.{rules}
 use Rattle.maps.specs.Clocks.{time_at}
 use Rattle.maps.proofs.ionosphere.clocks.time_at.Goals as goal
 

@@ -1,5 +1,5 @@
 -- `times_if` answers the hours or the refusal that the verdict says: by the verdict's two cases.
-use Rattle.std.proofs.Common.{sym, ap, rules}
+use Rattle.std.proofs.Common.{sym, ap}
 use Rattle.base.specs.declared.refusal.Verdict.{Verdict}
 use Rattle.base.specs.Refusal.{unless_refused}
 use Rattle.maps.specs.declared.ionosphere.clocks.Times.TheVariants.{Hours, Refused as NoTimes}

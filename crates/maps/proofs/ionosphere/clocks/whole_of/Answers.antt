@@ -1,5 +1,5 @@
 -- `whole_of` is `whole_of`: to a whole number and back, by what `to_i32` and `from_i32` ensure.
-use Rattle.std.proofs.Common.{ap, ◌∙◌, rules}
+use Rattle.std.proofs.Common.{ap, ◌∙◌}
 use lib.Ieee.{binary32, of_int}
 use Rattle.maps.specs.Clocks.{whole_of}
 use Rattle.maps.proofs.sums.WholeSums.{signed_word}

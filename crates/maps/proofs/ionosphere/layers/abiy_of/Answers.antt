@@ -1,5 +1,4 @@
 -- `abiy_of` is its expression, with the literals as decimals.
-use Rattle.std.proofs.Common.{rules}
 use lib.Ieee.{round, neg, of_bits}
 use Rattle.base.specs.Single.{decimal, minus_decimal}
 use Rattle.maps.specs.Layers.{abiy_of}

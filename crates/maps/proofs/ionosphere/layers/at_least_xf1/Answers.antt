@@ -1,5 +1,4 @@
 -- `at_least_xf1` is `max` of the ratio and the literal.
-use Rattle.std.proofs.Common.{rules}
 use lib.Ieee.{round, of_bits}
 use Rattle.base.specs.Single.{decimal}
 use Rattle.maps.specs.Layers.{at_least_xf1}

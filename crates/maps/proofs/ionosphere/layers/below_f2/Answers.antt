@@ -1,5 +1,4 @@
 -- `below_f2` is `min` in one field.
-use Rattle.std.proofs.Common.{rules}
 use lib.Ieee.{round, of_bits}
 use Rattle.base.specs.Single.{decimal}
 use Rattle.maps.specs.Layers.{below_f2}

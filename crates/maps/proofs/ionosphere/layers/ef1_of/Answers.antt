@@ -1,5 +1,4 @@
 -- `ef1_of` hands one zenith angle, its cosine and one `zenmax` to both layers and on.
-use Rattle.std.proofs.Common.{rules}
 use Rattle.maps.specs.Layers.{ef1_of}
 use Rattle.maps.proofs.ionosphere.layers.ef1_of.Goals as goal
 

@@ -1,5 +1,5 @@
 -- `gamma6_of` picks by the map's value against 0.36.
-use Rattle.std.proofs.Common.{sym, rules}
+use Rattle.std.proofs.Common.{sym}
 use lib.Ieee.{round, of_bits}
 use Rattle.base.specs.Single.{decimal}
 use Rattle.maps.specs.Layers.{gamma6_of}

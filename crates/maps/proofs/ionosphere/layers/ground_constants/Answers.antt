@@ -1,6 +1,6 @@
 -- `ground_constants` brings the longitude into 0 to 360, where the arms of its branch meet, and
 -- reads the map there.
-use Rattle.std.proofs.Common.{◌≡◌, cond, sym, rules}
+use Rattle.std.proofs.Common.{◌≡◌, cond, sym}
 use lib.Ieee.{lt, round, of_bits}
 use Rattle.base.specs.Single.{◌⊕◌, decimal}
 use Rattle.base.specs.Angle.{degrees_of}

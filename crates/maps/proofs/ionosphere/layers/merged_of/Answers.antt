@@ -1,5 +1,5 @@
 -- `merged_of` picks by whether twilight is near.
-use Rattle.std.proofs.Common.{sym, rules}
+use Rattle.std.proofs.Common.{sym}
 use lib.Ieee.{round, of_bits}
 use Rattle.base.specs.Single.{decimal}
 use Rattle.maps.specs.Layers.{merged_of}

@@ -1,5 +1,5 @@
 -- `monthly_of` reads each number at its place, which computes from the tables' shapes.
-use Rattle.std.proofs.Common.{ℕ, ◌+◌, ◌*◌, ◌<◌, ◌≤◌, T, List, lit<, lit≤, rules}
+use Rattle.std.proofs.Common.{ℕ, ◌+◌, ◌*◌, ◌<◌, ◌≤◌, T, List, lit<, lit≤}
 use lib.Ieee.Scale.{finite}
 use Rattle.base.specs.Words.{float_at}
 use Rattle.base.specs.Tables.{start_of, words_of, anew, bnew, achi, bchi, abmap}

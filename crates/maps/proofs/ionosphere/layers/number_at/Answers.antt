@@ -1,5 +1,5 @@
 -- `number_at` is `float_at`: a word that is finite tells its number.
-use Rattle.std.proofs.Common.{sym, ap, ◌∙◌, rules}
+use Rattle.std.proofs.Common.{sym, ap, ◌∙◌}
 use Rattle.base.proofs.layout.FirstWords.{number_in, told_number, told_always}
 use Rattle.maps.proofs.ionosphere.layers.number_at.Goals as goal
 

@@ -1,6 +1,6 @@
 -- `rat_of` turns the zenith angle round before noon, where the arms of its first branch meet, and
 -- picks by the map's value against 2.
-use Rattle.std.proofs.Common.{◌≡◌, cond, sym, rules}
+use Rattle.std.proofs.Common.{◌≡◌, cond, sym}
 use lib.Ieee.{neg, lt, round, of_bits}
 use Rattle.base.specs.Single.{◌⊖◌, decimal}
 use Rattle.maps.specs.Layers.{rat_of}

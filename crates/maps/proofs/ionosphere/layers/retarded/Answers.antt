@@ -1,5 +1,5 @@
 -- `retarded` picks by whether there is an F1 layer.
-use Rattle.std.proofs.Common.{sym, rules}
+use Rattle.std.proofs.Common.{sym}
 use lib.Ieee.{round, of_bits}
 use Rattle.base.specs.Single.{decimal}
 use Rattle.maps.specs.Layers.{retarded_of}

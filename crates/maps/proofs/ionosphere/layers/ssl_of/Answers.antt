@@ -1,5 +1,4 @@
 -- `ssl_of` is its expression in degrees, then radians.
-use Rattle.std.proofs.Common.{rules}
 use lib.Ieee.{round, of_bits}
 use Rattle.base.specs.Single.{decimal}
 use Rattle.maps.specs.Layers.{ssl_of}

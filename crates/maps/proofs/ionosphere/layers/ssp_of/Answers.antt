@@ -1,5 +1,5 @@
 -- `ssp_of` picks by which latitude is farther.
-use Rattle.std.proofs.Common.{sym, rules}
+use Rattle.std.proofs.Common.{sym}
 use lib.Ieee.{round, of_bits}
 use Rattle.base.specs.Single.{decimal}
 use Rattle.maps.specs.Layers.{ssp_of}

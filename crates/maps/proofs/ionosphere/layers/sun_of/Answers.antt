@@ -1,6 +1,6 @@
 -- `sun_of` is `sun_of`, by whether there is such a month: the source's table is the digits of
 -- specs/Layers.antt, by computation over the whole table.
-use Rattle.std.proofs.Common.{◌≡◌, ◌-◌, List, [], ◌∷◌, map, get_or, sym, ◌∙◌, arith, rules, eq-eqb, ne_eqb}
+use Rattle.std.proofs.Common.{◌≡◌, ◌-◌, List, [], ◌∷◌, map, get_or, sym, ◌∙◌, arith, eq-eqb, ne_eqb}
 use lib.ListN.{get_or-map, get_or-eq_default}
 use lib.Ieee.{Float, nan, round, of_bits, div}
 use Rattle.base.specs.Single.{decimal, minus_decimal}

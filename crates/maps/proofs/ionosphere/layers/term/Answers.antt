@@ -1,5 +1,4 @@
 -- `term` is its two words' numbers.
-use Rattle.std.proofs.Common.{rules}
 use Rattle.maps.proofs.ionosphere.layers.term.Goals as goal
 
 pub returns : goal.returns

@@ -1,5 +1,4 @@
 -- `timvar_of` composes its callees as the definition does.
-use Rattle.std.proofs.Common.{rules}
 use Rattle.maps.specs.Layers.{timvar_of}
 use Rattle.maps.proofs.ionosphere.layers.timvar_of.Goals as goal
 

@@ -1,5 +1,5 @@
 -- `twilight` picks by two tests, after which each field is the definition's.
-use Rattle.std.proofs.Common.{sym, ◌∙◌, rules}
+use Rattle.std.proofs.Common.{sym, ◌∙◌}
 use lib.Ieee.{round, of_bits}
 use Rattle.base.specs.Single.{decimal}
 use Rattle.maps.specs.Layers.{twilight_of}

@@ -1,5 +1,4 @@
 -- `zenith` is its expression.
-use Rattle.std.proofs.Common.{rules}
 use Rattle.maps.specs.Layers.{zenith_of}
 use Rattle.maps.proofs.ionosphere.layers.zenith.Goals as goal
 

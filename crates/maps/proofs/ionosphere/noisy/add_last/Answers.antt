@@ -1,6 +1,6 @@
 -- `add_last` changes each of the first lm elements: the loop's invariant is that it has changed the
 -- first j.
-use Rattle.std.proofs.Common.{◌≡◌, ◌-◌, ◌≤◌, refl, arith, rules}
+use Rattle.std.proofs.Common.{◌≡◌, refl, arith, rules}
 use Rattle.base.specs.Single.{◌⊕◌}
 use Rattle.base.specs.Fill.{fill}
 use Rattle.maps.specs.Noisy.{in_plane, each}

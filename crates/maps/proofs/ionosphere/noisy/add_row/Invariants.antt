@@ -1,10 +1,8 @@
 -- `add_row` changes each of the first lm elements: the loop's invariant is that it has changed the
 -- first j.
-use Rattle.std.proofs.Common.{◌≡◌, ◌-◌, ◌≤◌, refl, arith, rules}
+use Rattle.std.proofs.Common.{◌≡◌, ◌-◌, ◌≤◌}
 use Rattle.base.specs.Single.{◌⊕◌, ◌⊗◌}
-use Rattle.base.specs.Fill.{fill}
 use Rattle.maps.specs.Noisy.{in_plane, each}
-use Rattle.maps.proofs.lists.Refills.{each_turn}
 use Rattle.maps.proofs.ionosphere.noisy.add_row.Given as goal
 
 abbrev pub invariant-loop-j : goal.invariant-loop-j

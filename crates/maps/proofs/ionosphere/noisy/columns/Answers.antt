@@ -1,8 +1,8 @@
 -- `columns` is `columns_of`. The loop's invariant: each column has the sum of its first k rows.
-use Rattle.std.proofs.Common.{◌≡◌, ◌-◌, ◌≤◌, arith, rules}
+use Rattle.std.proofs.Common.{◌≡◌, arith, rules}
 use lib.Ieee.{round, of_bits}
 use Rattle.base.specs.Single.{decimal}
-use Rattle.maps.proofs.sums.NoisySums.{rows_in, rows_start, rows_turn, rows_end}
+use Rattle.maps.proofs.sums.NoisySums.{rows_start, rows_turn, rows_end}
 use Rattle.maps.proofs.ionosphere.noisy.columns.Goals as goal
 
 pub loop-k-init : goal.loop-k-init

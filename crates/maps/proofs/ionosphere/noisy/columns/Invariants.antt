@@ -1,8 +1,6 @@
 -- `columns` is `columns_of`. The loop's invariant: each column has the sum of its first k rows.
-use Rattle.std.proofs.Common.{◌≡◌, ◌-◌, ◌≤◌, arith, rules}
-use lib.Ieee.{round, of_bits}
-use Rattle.base.specs.Single.{decimal}
-use Rattle.maps.proofs.sums.NoisySums.{rows_in, rows_start, rows_turn, rows_end}
+use Rattle.std.proofs.Common.{◌≡◌, ◌-◌, ◌≤◌}
+use Rattle.maps.proofs.sums.NoisySums.{rows_in}
 use Rattle.maps.proofs.ionosphere.noisy.columns.Given as goal
 
 abbrev pub invariant-loop-k : goal.invariant-loop-k

@@ -1,7 +1,7 @@
 -- `latitude_sum` is `latitude_sum`. The loop's invariant: the sum is that of k columns, and s and c
 -- are the turn k.
-use Rattle.std.proofs.Common.{◌≡◌, ◌-◌, ◌≤◌, get_or, refl, add-one, arith, rules}
-use lib.Ieee.{nan, round, of_bits}
+use Rattle.std.proofs.Common.{◌≡◌, refl, add-one, arith, rules}
+use lib.Ieee.{round, of_bits}
 use Rattle.base.specs.Single.{decimal}
 use Rattle.maps.specs.Noisy.{turn_of, latitude_sum}
 use Rattle.maps.proofs.ionosphere.noisy.latitude_sum.Goals as goal

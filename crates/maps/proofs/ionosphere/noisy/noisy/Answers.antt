@@ -1,5 +1,5 @@
 -- `noisy` picks the limits of the two series by the map; the two waves are those of `noisy_sum`.
-use Rattle.std.proofs.Common.{sym, rules}
+use Rattle.std.proofs.Common.{sym}
 use lib.Ieee.{round, of_bits}
 use Rattle.base.specs.Single.{decimal}
 use Rattle.maps.specs.Noisy.{noisy_sum, noisy_of}

@@ -1,6 +1,6 @@
 -- `noisy_sum` is the latitude series over the columns: of the two arrays the series take what was
 -- filled.
-use Rattle.std.proofs.Common.{ap, rules}
+use Rattle.std.proofs.Common.{ap}
 use lib.Ieee.{Float}
 use Rattle.base.specs.Single.{◌⊕◌, ◌⊗◌}
 use Rattle.maps.proofs.sums.NoisySums.{latitude_of_law}

@@ -1,6 +1,6 @@
 -- `sines` is `sx_of`. The loop's invariant: the first k sines are filled, and s and c are the turn
 -- k.
-use Rattle.std.proofs.Common.{◌≡◌, ◌-◌, ◌≤◌, refl, add-one, arith, rules}
+use Rattle.std.proofs.Common.{◌≡◌, refl, add-one, arith, rules}
 use lib.Ieee.{round, of_bits}
 use Rattle.base.specs.Single.{decimal}
 use Rattle.base.specs.Fill.{fill}

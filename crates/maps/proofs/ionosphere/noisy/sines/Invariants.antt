@@ -1,11 +1,8 @@
 -- `sines` is `sx_of`. The loop's invariant: the first k sines are filled, and s and c are the turn
 -- k.
-use Rattle.std.proofs.Common.{◌≡◌, ◌-◌, ◌≤◌, refl, add-one, arith, rules}
-use lib.Ieee.{round, of_bits}
-use Rattle.base.specs.Single.{decimal}
+use Rattle.std.proofs.Common.{◌≡◌, ◌-◌, ◌≤◌}
 use Rattle.base.specs.Fill.{fill}
-use Rattle.maps.specs.Noisy.{turn_of, sx_of}
-use Rattle.maps.proofs.lists.Refills.{fill_turn}
+use Rattle.maps.specs.Noisy.{turn_of}
 use Rattle.maps.proofs.ionosphere.noisy.sines.Given as goal
 
 abbrev pub invariant-loop-k : goal.invariant-loop-k

@@ -1,5 +1,4 @@
 -- `wave_of` is a sine and a cosine, by what the two calls ensure.
-use Rattle.std.proofs.Common.{rules}
 use Rattle.maps.proofs.ionosphere.noisy.wave_of.Goals as goal
 
 pub returns : goal.returns

@@ -1,15 +1,9 @@
 -- `basis` fills the array along the ladder. The loop's invariant: what is left to fill from here
 -- gives what `filled_of` gives, and what is left of the ladder climbs.
-use Rattle.std.proofs.Common.{◌≡◌, ℕ, suc, ◌+◌, ◌-◌, ◌*◌, ◌%◌, ◌<◌, ◌≤◌, ◌⊎◌, List, get_or, sym, refl, ap, ◌∙◌, subst, inl, inr, ⊎_elim, arith, rules, eq-eqb, ne_eqb}
-use lib.Ieee.{Float, nan}
-use Rattle.base.specs.Fill.{fill, tabulate}
+use Rattle.std.proofs.Common.{◌≡◌, ℕ, ◌-◌, ◌≤◌, List}
+use lib.Ieee.{Float}
 use Rattle.base.specs.Index.{map_word, Climbs}
-use Rattle.base.proofs.lists.Fills.{run_at}
-use Rattle.base.proofs.ladder.Indexing.{climbs_cases}
-use Rattle.base.proofs.verdicts.Picks.{cond_true, cond_false}
-use Rattle.maps.specs.Virtim.{GoodTable}
-use Rattle.maps.specs.Versy.{sx_power, cos_wave, sin_wave, wave_at, waves_of, rung_of, harmonic_of, geographic_of, zeros, filled_from, filled_of}
-use Rattle.maps.proofs.sums.GeographicFunctions.{even_wave, odd_wave, rung_harmonic, filled_closed}
+use Rattle.maps.specs.Versy.{waves_of, filled_from, filled_of}
 use Rattle.maps.proofs.ionosphere.versy.basis.Given as goal
 
 -- before the word j + 1

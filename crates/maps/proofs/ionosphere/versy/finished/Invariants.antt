@@ -1,10 +1,7 @@
 -- `finished` is `gamma_of`. The loop's invariant: gamma is the sum of the terms 0 to k, before it is
 -- narrowed.
-use Rattle.std.proofs.Common.{◌≡◌, ℕ, ◌+◌, ◌-◌, ◌≤◌, sym, ap, ◌∙◌, arith, rules}
-use lib.Ieee.{Float}
-use Rattle.base.specs.Number.{narrow_of}
-use Rattle.maps.specs.Versy.{elements, sum_of, gamma_of}
-use Rattle.maps.proofs.sums.MapSeries.{sum_next, gamma_narrowed}
+use Rattle.std.proofs.Common.{◌≡◌, ◌-◌, ◌≤◌}
+use Rattle.maps.specs.Versy.{elements, sum_of}
 use Rattle.maps.proofs.ionosphere.versy.finished.Given as goal
 
 abbrev pub invariant-loop-k : goal.invariant-loop-k

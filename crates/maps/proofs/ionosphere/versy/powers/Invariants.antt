@@ -1,11 +1,9 @@
 -- `powers` fills in `sx_power`. The loop's invariant: the powers 1 to n - 1 stand in their places,
 -- after 1.0, and the power is the n-th.
-use Rattle.std.proofs.Common.{◌≡◌, ℕ, zero, suc, ◌+◌, ◌-◌, ◌<◌, ◌≤◌, List, set, sym, refl, ap, ◌∙◌, add-one, arith, rules}
-use lib.Ieee.{Float, round, of_bits}
-use Rattle.base.specs.Double.{◌⊗◌, fraction}
+use Rattle.std.proofs.Common.{◌≡◌, ℕ, ◌+◌, ◌-◌, ◌≤◌, List}
+use lib.Ieee.{Float}
 use Rattle.base.specs.Fill.{fill}
 use Rattle.maps.specs.Versy.{sx_power}
-use Rattle.maps.proofs.sums.GeographicFunctions.{fill_then, fill_more}
 use Rattle.maps.proofs.ionosphere.versy.powers.Given as goal
 
 pub record Raised (sx : Float) (k : ℕ) (g₀ g : List Float) (power : Float) (n : ℕ) : Type 0 where

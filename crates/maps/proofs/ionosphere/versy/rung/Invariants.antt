@@ -1,12 +1,9 @@
 -- `rung` fills in `rung_of`. The loop's invariant: the places before k are filled, an even number of
 -- them, and the cosine and the sine are the next two.
-use Rattle.std.proofs.Common.{◌≡◌, ℕ, suc, ◌+◌, ◌-◌, ◌/◌, ◌%◌, ◌<◌, ◌≤◌, List, set, sym, refl, ap, ◌∙◌, arith, rules, eq-eqb, ne_eqb}
+use Rattle.std.proofs.Common.{◌≡◌, ℕ, ◌+◌, ◌-◌, ◌/◌, ◌%◌, ◌≤◌, List}
 use lib.Ieee.{Float}
-use Rattle.base.specs.Double.{◌⊗◌}
 use Rattle.base.specs.Fill.{fill}
-use Rattle.base.proofs.verdicts.Picks.{cond_true, cond_false}
 use Rattle.maps.specs.Versy.{raised, rung_of}
-use Rattle.maps.proofs.sums.GeographicFunctions.{fill_then}
 use Rattle.maps.proofs.ionosphere.versy.rung.Given as goal
 
 pub record Made (sx c s : Float) (below end : ℕ) (g₀ g : List Float) (cosine sine : Float) (k : ℕ) : Type 0 where

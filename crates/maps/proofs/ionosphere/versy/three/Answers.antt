@@ -1,10 +1,10 @@
 -- `three` is `three_at`: each array is filled with its map's geographic functions, and the series
 -- read them up to their last terms.
-use Rattle.std.proofs.Common.{◌≡◌, ℕ, ◌+◌, ◌<◌, ◌≤◌, List, get_or, refl, ap, ◌∙◌, arith, rules}
+use Rattle.std.proofs.Common.{◌≡◌, ℕ, ◌+◌, ◌<◌, ◌≤◌, List, refl, ap, ◌∙◌, arith}
 use lib.Ieee.{Float, round, of_bits}
 use Rattle.base.specs.Double.{fraction}
 use Rattle.base.specs.Fill.{tabulate}
-use Rattle.base.specs.Index.{map_word, rows, harmonics, GoodIndex}
+use Rattle.base.specs.Index.{map_word}
 use Rattle.base.proofs.lists.Fills.{run_at}
 use Rattle.base.proofs.ladder.Ladders.{limits}
 use Rattle.maps.specs.declared.ionosphere.versy.Triple.{Triple}

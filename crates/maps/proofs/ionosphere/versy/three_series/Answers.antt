@@ -1,6 +1,6 @@
 -- `three_series` is `three_of`: three sums as far as the shortest, two of them further, each
 -- finished alone, by where the maps' coefficients start and end in AB.
-use Rattle.std.proofs.Common.{◌≡◌, ℕ, ◌+◌, ◌-◌, ◌<◌, ◌≤◌, List, get_or, ap, ◌∙◌, le_trans, arith, rules}
+use Rattle.std.proofs.Common.{◌≡◌, ℕ, ◌+◌, ◌-◌, ◌<◌, ◌≤◌, List, get_or, ap, ◌∙◌, le_trans, arith}
 use lib.Ieee.{Float}
 use Rattle.base.specs.Index.{map_word}
 use Rattle.base.specs.Blend.{IC}

@@ -1,8 +1,8 @@
 -- `together` is `sums_of`. The loop's invariant: each of the three sums has the terms 0 to k.
-use Rattle.std.proofs.Common.{◌≡◌, ℕ, ◌+◌, ◌-◌, ◌≤◌, sym, ap, ◌∙◌, arith, rules}
+use Rattle.std.proofs.Common.{◌≡◌, ap, ◌∙◌, arith, rules}
 use lib.Ieee.{Float}
 use Rattle.base.specs.Double.{◌⊗◌}
-use Rattle.maps.specs.Versy.{elements, sum_of, sums_of}
+use Rattle.maps.specs.Versy.{elements, sum_of}
 use Rattle.maps.proofs.sums.MapSeries.{sum_next}
 use Rattle.maps.proofs.ionosphere.versy.together.Goals as goal
 

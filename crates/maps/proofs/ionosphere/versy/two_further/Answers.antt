@@ -1,7 +1,6 @@
 -- `two_further` has the sums to `last`. The loop's invariant: each of the two sums has the terms 0
 -- to k.
-use Rattle.std.proofs.Common.{◌≡◌, ℕ, ◌+◌, ◌-◌, ◌≤◌, ap, ◌∙◌, arith, rules}
-use lib.Ieee.{Float}
+use Rattle.std.proofs.Common.{◌≡◌, ap, ◌∙◌, arith, rules}
 use Rattle.maps.specs.Versy.{elements, sum_of}
 use Rattle.maps.proofs.sums.MapSeries.{sum_next}
 use Rattle.maps.proofs.ionosphere.versy.two_further.Goals as goal

@@ -1,6 +1,6 @@
 -- `versy` is `gammas_of`: two triples of maps over the same waves, the sine being the dip's, and for
 -- the E map the latitude's.
-use Rattle.std.proofs.Common.{◌≡◌, ℕ, List, refl, ap, ◌∙◌, rules}
+use Rattle.std.proofs.Common.{◌≡◌, ℕ, List, refl, ap, ◌∙◌}
 use lib.Ieee.{Float}
 use Rattle.base.specs.Elementary.{sin_of}
 use Rattle.maps.specs.declared.ionosphere.versy.Gammas.{Gammas}

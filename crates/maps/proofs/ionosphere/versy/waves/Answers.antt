@@ -1,6 +1,6 @@
 -- `waves` is `waves_of`. The loop's invariant: the array is filled up to i, cx and t are those of
 -- the harmonic j, and i + 2 is 2 * j.
-use Rattle.std.proofs.Common.{◌≡◌, ℕ, zero, suc, ◌+◌, ◌-◌, ◌*◌, ◌<◌, ◌≤◌, List, length, set, replicate, pos, sym, refl, ap, ◌∙◌, add-one, arith, rules, ne_eqb}
+use Rattle.std.proofs.Common.{◌≡◌, ℕ, zero, suc, ◌+◌, ◌<◌, ◌≤◌, List, set, replicate, pos, sym, refl, ap, ◌∙◌, add-one, arith, rules, ne_eqb}
 use lib.ListN.{length-replicate}
 use lib.Ieee.{Float, binary32, binary64, of_int, mul, of_bits}
 use Rattle.base.specs.Double.{◌⊗◌}

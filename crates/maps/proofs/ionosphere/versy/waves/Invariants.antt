@@ -1,15 +1,9 @@
 -- `waves` is `waves_of`. The loop's invariant: the array is filled up to i, cx and t are those of
 -- the harmonic j, and i + 2 is 2 * j.
-use Rattle.std.proofs.Common.{◌≡◌, ℕ, zero, suc, ◌+◌, ◌-◌, ◌*◌, ◌<◌, ◌≤◌, List, length, set, replicate, pos, sym, refl, ap, ◌∙◌, add-one, arith, rules, ne_eqb}
-use lib.ListN.{length-replicate}
-use lib.Ieee.{Float, binary32, binary64, of_int, mul, of_bits}
-use Rattle.base.specs.Double.{◌⊗◌}
-use Rattle.base.specs.Elementary.{sin_of, cos_of}
+use Rattle.std.proofs.Common.{◌≡◌, ℕ, ◌+◌, ◌-◌, ◌*◌, ◌≤◌, List}
+use lib.Ieee.{Float}
 use Rattle.base.specs.Fill.{fill}
-use Rattle.base.proofs.lists.Fills.{fill_first, fill_all}
-use Rattle.base.proofs.verdicts.Picks.{cond_false}
-use Rattle.maps.specs.Versy.{cx_of, t_of, cos_wave, sin_wave, wave_at, waves_of}
-use Rattle.maps.proofs.sums.GeographicFunctions.{even_wave, odd_wave}
+use Rattle.maps.specs.Versy.{cx_of, t_of, wave_at}
 use Rattle.maps.proofs.ionosphere.versy.waves.Given as goal
 
 pub record Made (gob clg wide : Float) (out₀ out : List Float) (cx t : Float) (j i : ℕ) : Type 0 where

@@ -1,5 +1,5 @@
 -- `first_row` is the table's number less one: none of the six is 0.
-use Rattle.std.proofs.Common.{◌≤◌, get_or, lit≤, rules}
+use Rattle.std.proofs.Common.{◌≤◌, get_or, lit≤}
 use Rattle.base.specs.Blend.{IC}
 use Rattle.base.proofs.ladder.Ladders.{six}
 use Rattle.maps.proofs.ionosphere.virtim.first_row.Goals as goal

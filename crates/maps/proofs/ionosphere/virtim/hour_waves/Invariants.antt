@@ -1,14 +1,9 @@
 -- `hour_waves` is `hour_waves`. The loop's invariant: each array is filled with the waves up to jb,
 -- and the cosine and the sine are the wave jb.
-use Rattle.std.proofs.Common.{◌≡◌, ℕ, ◌+◌, ◌-◌, ◌<◌, ◌≤◌, List, length, set, sym, refl, ap, ◌∙◌, add-one, arith, rules}
-use lib.Ieee.{Float, round, of_bits}
-use Rattle.base.specs.declared.angle.Radians.{Radians}
-use Rattle.base.specs.Single.{◌⊕◌, ◌⊖◌, ◌⊗◌, decimal}
+use Rattle.std.proofs.Common.{◌≡◌, ℕ, ◌-◌, ◌≤◌, List}
+use lib.Ieee.{Float}
 use Rattle.base.specs.Fill.{fill}
-use Rattle.base.proofs.lists.Fills.{fill_first, fill_all}
-use Rattle.base.specs.Elementary.{sin32_of, cos32_of}
-use Rattle.maps.specs.declared.ionosphere.virtim.Waves.{Waves}
-use Rattle.maps.specs.Virtim.{time_of, wave_of, hour_wave, hour_waves}
+use Rattle.maps.specs.Virtim.{wave_of}
 use Rattle.maps.proofs.ionosphere.virtim.hour_waves.Given as goal
 
 pub record Made (c0 s0 : Float) (c₀ s₀ c s : List Float) (cosine sine : Float) (jb : ℕ) : Type 0 where

@@ -1,10 +1,10 @@
 -- `time_map` is `time_map_of`. The loop's invariant: the rows of the map before `row` are filled in. By
 -- its rule the table has the place where the definition has the row's series start.
-use Rattle.std.proofs.Common.{◌≡◌, ℕ, ◌+◌, ◌-◌, ◌*◌, ◌<◌, ◌≤◌, List, get_or, set, sym, ap, ◌∙◌, arith, rules}
+use Rattle.std.proofs.Common.{◌≡◌, ℕ, ◌+◌, ◌-◌, ◌*◌, ◌<◌, ◌≤◌, List, get_or, set, sym, ap, ◌∙◌, arith}
 use lib.Ieee.{Float}
 use Rattle.base.specs.Fill.{fill}
 use Rattle.base.specs.Index.{map_word}
-use Rattle.base.specs.Blend.{IA, IB, IC}
+use Rattle.base.specs.Blend.{IA, IB}
 use Rattle.base.proofs.ladder.Ladders.{limits}
 use Rattle.base.proofs.ladder.Indexing.{VirtimInside, reads_inside}
 use Rattle.base.proofs.lists.Fills.{fill_next}
