@@ -3,7 +3,7 @@
 // 15 words, the calls and the wanted text.
 ghost use Rattle.std.specs.Prelude.{◌≡◌, ◌+◌, ◌<◌, ◌≤◌, length};
 
-use crate::files::{CALLS, WANTED, bytes, next, next_size, opened};
+use crate::files::{CALLS, WANTED, bytes, next, next_size};
 use crate::wanted::say;
 use base::month_file::{MONTH_FILE, RECORD};
 use base::refusal::Verdict;
@@ -13,6 +13,9 @@ use listing::call::{Read, START, YEAR_START, call_in, operation_in, size_of};
 use listing::turn::answered;
 use maps::inputs::{FIELD_BYTES, SHEET_BYTES};
 use packing::YEAR_MOST;
+use std::io::Read as Input;
+use std::rt::Files;
+use system::{opened, read_full};
 use tally::{Tally, counted, none, print_line};
 use worksheet::desks;
 use worksheet::desks::{Outcome, Worksheet};
@@ -174,20 +177,20 @@ fn words_size(lent: Lent) -> usize
 }
 
 // The next journal of the file.
-fn is_journal(fd: i32, lent: Lent, files: &[u8], month: &[u8], start: u32) -> bool {
+fn is_journal(file: &mut impl Input, lent: Lent, files: &[u8], month: &[u8], start: u32) -> bool {
     let from = 0usize;
     let n = words_size(lent);
-    let words = bytes(fd, n);
-    let c = next_size(fd);
+    let words = bytes(file, n);
+    let c = next_size(file);
     if c > CALLS {
         return false;
     }
-    let calls = bytes(fd, c);
-    let o = next_size(fd);
+    let calls = bytes(file, c);
+    let o = next_size(file);
     if o > WANTED {
         return false;
     }
-    let text = bytes(fd, o);
+    let text = bytes(file, o);
     is_replay(
         &words[from..n],
         &calls[from..c],
@@ -199,76 +202,69 @@ fn is_journal(fd: i32, lent: Lent, files: &[u8], month: &[u8], start: u32) -> bo
     )
 }
 
-fn replay_all(fd: i32) {
+fn replay_all(file: &mut impl Input) {
     let mut t = none();
-    let mut left = next(fd);
+    let count = next(file);
     let mut record = [0u8; RECORD];
-    io::read_full(fd, &mut record);
+    read_full(file, &mut record);
     let mut month = [0u8; MONTH_FILE];
-    io::read_full(fd, &mut month);
-    while left > 0 {
-        t = counted(t, is_journal(fd, Lent::Pair, &record, &month, START));
-        left -= 1;
+    read_full(file, &mut month);
+    for _ in 0..count {
+        t = counted(t, is_journal(file, Lent::Pair, &record, &month, START));
     }
     print_line(b"journals", t);
 }
 
 // The journals over a year file, whose bytes are the file's next.
-fn replay_over(fd: i32, t: Tally, year: &mut [u8]) -> Tally
+fn replay_over(file: &mut impl Input, t: Tally, year: &mut [u8]) -> Tally
     requires { length year.old ≤ 1048576 }
 {
-    io::read_full(fd, year);
+    read_full(file, year);
     let start = YEAR_START + year.len() as u32;
     let mut t = t;
-    let mut left = next(fd);
-    while left > 0 {
-        t = counted(t, is_journal(fd, Lent::Year, year, b"", start));
-        left -= 1;
+    let count = next(file);
+    for _ in 0..count {
+        t = counted(t, is_journal(file, Lent::Year, year, b"", start));
     }
     t
 }
 
 // The journals over the next year file, which is read into a buffer.
-fn replay_in(fd: i32, t: Tally, year: &mut [u8]) -> Tally
+fn replay_in(file: &mut impl Input, t: Tally, year: &mut [u8]) -> Tally
     requires { length year.old ≤ 1048576 }
 {
-    let size = next_size(fd);
+    let size = next_size(file);
     if year.len() < size {
         return counted(t, false);
     }
-    replay_over(fd, t, &mut year[..size])
+    replay_over(file, t, &mut year[..size])
 }
 
 // Of a reference to an array the length is known to a proof, where that of so large an array in a
 // local is not.
-fn replay_with(fd: i32, t: Tally, year: &mut [u8; YEAR_MOST]) -> Tally {
-    replay_in(fd, t, year)
+fn replay_with(file: &mut impl Input, t: Tally, year: &mut [u8; YEAR_MOST]) -> Tally {
+    replay_in(file, t, year)
 }
 
-fn replay_next(fd: i32, t: Tally) -> Tally {
+fn replay_next(file: &mut impl Input, t: Tally) -> Tally {
     let mut year = [0u8; YEAR_MOST];
-    replay_with(fd, t, &mut year)
+    replay_with(file, t, &mut year)
 }
 
-fn replay_years(fd: i32) {
+fn replay_years(file: &mut impl Input) {
     let mut t = none();
-    let mut left = next(fd);
-    while left > 0 {
-        t = replay_next(fd, t);
-        left -= 1;
+    let count = next(file);
+    for _ in 0..count {
+        t = replay_next(file, t);
     }
     print_line(b"journals over a year", t);
 }
 
-pub fn replay() {
-    let fd = opened(b"journals.bin");
-    if fd >= 0 {
-        replay_all(fd);
-        libc::close(fd);
+pub fn replay(rt: &impl Files) {
+    if let Some(mut file) = opened(rt, b"journals.bin") {
+        replay_all(&mut file);
     }
-    let fd = opened(b"year-journals.bin");
-    if fd >= 0 {
-        replay_years(fd);
-        libc::close(fd);
+    if let Some(mut file) = opened(rt, b"year-journals.bin") {
+        replay_years(&mut file);
     }
 }

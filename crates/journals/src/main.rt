@@ -8,8 +8,8 @@ mod pages;
 mod sheets;
 mod wanted;
 
-fn main() {
-    journal::replay();
-    sheets::replay();
-    pages::replay();
+fn main(rt: HostRuntime) {
+    journal::replay(&rt);
+    sheets::replay(&rt);
+    pages::replay(&rt);
 }

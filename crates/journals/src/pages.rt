@@ -2,13 +2,16 @@
 // page the file has the number of its pair, the 14 words and the wanted text.
 ghost use Rattle.std.specs.Prelude.{◌≤◌};
 
-use crate::files::{WANTED, bytes, next, next_size, opened};
+use crate::files::{WANTED, bytes, next, next_size};
 use crate::sheets::{PAIR, part};
 use crate::wanted::say;
 use base::month_file::{MONTH_FILE, RECORD};
 use listing::page::PAGE;
 use listing::sheet::page_answer;
 use maps::inputs::SHEET_BYTES;
+use std::io::Read;
+use std::rt::Files;
+use system::{opened, read_full};
 use tally::{counted, none, print_line};
 
 // Three pairs of files.
@@ -23,40 +26,37 @@ fn is_text(words: &[u8; SHEET_BYTES], pair: &[u8], wanted: &[u8]) -> bool {
 }
 
 // The next page of the file.
-fn is_page(fd: i32, pairs: &[u8; PAIRS]) -> bool {
-    let k = next_size(fd);
+fn is_page(file: &mut impl Read, pairs: &[u8; PAIRS]) -> bool {
+    let k = next_size(file);
     let mut words = [0u8; SHEET_BYTES];
-    io::read_full(fd, &mut words);
-    let o = next_size(fd);
+    read_full(file, &mut words);
+    let o = next_size(file);
     if k > 2 {
         return false;
     }
     if o > WANTED {
         return false;
     }
-    let text = bytes(fd, o);
+    let text = bytes(file, o);
     let pair = part(pairs, k * PAIR, k * PAIR + PAIR);
     is_text(&words, pair, part(&text, 0, o))
 }
 
-fn replay_all(fd: i32) {
+fn replay_all(file: &mut impl Read) {
     let mut t = none();
     // The number of pairs, three.
-    next(fd);
+    next(file);
     let mut pairs = [0u8; PAIRS];
-    io::read_full(fd, &mut pairs);
-    let mut left = next(fd);
-    while left > 0 {
-        t = counted(t, is_page(fd, &pairs));
-        left -= 1;
+    read_full(file, &mut pairs);
+    let count = next(file);
+    for _ in 0..count {
+        t = counted(t, is_page(file, &pairs));
     }
     print_line(b"pages", t);
 }
 
-pub fn replay() {
-    let fd = opened(b"pages.bin");
-    if fd >= 0 {
-        replay_all(fd);
-        libc::close(fd);
+pub fn replay(rt: &impl Files) {
+    if let Some(mut file) = opened(rt, b"pages.bin") {
+        replay_all(&mut file);
     }
 }

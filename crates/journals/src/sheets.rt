@@ -3,12 +3,15 @@
 // and the wanted text.
 ghost use Rattle.std.specs.Prelude.{◌≤◌};
 
-use crate::files::{WANTED, bytes, next, next_size, opened};
+use crate::files::{WANTED, bytes, next, next_size};
 use crate::wanted::say;
 use base::month_file::{MONTH_FILE, RECORD};
 use listing::answer::ANSWER;
 use listing::sheet::sheet_answer;
 use maps::inputs::SHEET_BYTES;
+use std::io::Read;
+use std::rt::Files;
+use system::{opened, read_full};
 use tally::{counted, none, print_line};
 
 // The bytes of a record and its month file, and of the longest input: the words, the two files and
@@ -45,43 +48,40 @@ fn is_answer(input: &[u8], wanted: &[u8]) -> bool {
 }
 
 // An input with the next bytes of a file from a on and before e.
-fn filled(fd: i32, input: [u8; INPUT], a: usize, e: usize) -> [u8; INPUT]
+fn filled(file: &mut impl Read, input: [u8; INPUT], a: usize, e: usize) -> [u8; INPUT]
     requires a_le_e { a ≤ e }
     requires e_bound { e ≤ 47512 }
 {
     let mut input = input;
-    io::read_full(fd, &mut input[a..e]);
+    read_full(file, &mut input[a..e]);
     input
 }
 
-fn skip(fd: i32, n: usize)
+fn skip(file: &mut impl Read, n: usize)
     requires { n ≤ 7904 }
 {
     let mut over = [0u8; RECORD];
     let a = 0usize;
-    io::read_full(fd, &mut over[a..n]);
+    read_full(file, &mut over[a..n]);
 }
 
 // An input with the first r bytes of the record after its words, then the month file. They are read
 // anew from the file's start, where they follow its first word.
-fn with_files(input: [u8; INPUT], r: usize) -> [u8; INPUT]
+fn with_files(rt: &impl Files, input: [u8; INPUT], r: usize) -> [u8; INPUT]
     requires { r ≤ 7904 }
 {
-    let fd = opened(b"sheets-in.bin");
-    if fd < 0 {
+    let Some(mut file) = opened(rt, b"sheets-in.bin") else {
         return input;
-    }
-    skip(fd, 4);
-    let with_record = filled(fd, input, SHEET_BYTES, SHEET_BYTES + r);
-    skip(fd, RECORD - r);
-    let whole = filled(
-        fd,
+    };
+    skip(&mut file, 4);
+    let with_record = filled(&mut file, input, SHEET_BYTES, SHEET_BYTES + r);
+    skip(&mut file, RECORD - r);
+    filled(
+        &mut file,
         with_record,
         SHEET_BYTES + r,
         SHEET_BYTES + MONTH_FILE + r,
-    );
-    libc::close(fd);
-    whole
+    )
 }
 
 // An input with a byte of its month file changed, where there is such a byte.
@@ -96,39 +96,36 @@ fn with_change(input: [u8; INPUT], r: usize, changed: usize, b: u8) -> [u8; INPU
 }
 
 // The next case of the file. Past its month file an input has aa.
-fn is_case(fd: i32) -> bool {
-    let words = filled(fd, [0xaau8; INPUT], 0, SHEET_BYTES);
-    let r = next_size(fd);
+fn is_case(rt: &impl Files, file: &mut impl Read) -> bool {
+    let words = filled(file, [0xaau8; INPUT], 0, SHEET_BYTES);
+    let r = next_size(file);
     // The month file's length, which the whole length gives.
-    next(fd);
-    let changed = next_size(fd);
-    let b = (next(fd) % 256) as u8;
-    let n = next_size(fd);
-    let o = next_size(fd);
+    next(file);
+    let changed = next_size(file);
+    let b = (next(file) % 256) as u8;
+    let n = next_size(file);
+    let o = next_size(file);
     if r > RECORD || o > WANTED {
         return false;
     }
-    let text = bytes(fd, o);
-    let input = with_change(with_files(words, r), r, changed, b);
+    let text = bytes(file, o);
+    let input = with_change(with_files(rt, words, r), r, changed, b);
     is_answer(part(&input, 0, n), part(&text, 0, o))
 }
 
-fn replay_all(fd: i32) {
+fn replay_all(rt: &impl Files, file: &mut impl Read) {
     let mut t = none();
-    let mut left = next(fd);
+    let count = next(file);
     let mut over = [0u8; PAIR];
-    io::read_full(fd, &mut over);
-    while left > 0 {
-        t = counted(t, is_case(fd));
-        left -= 1;
+    read_full(file, &mut over);
+    for _ in 0..count {
+        t = counted(t, is_case(rt, file));
     }
     print_line(b"sheets", t);
 }
 
-pub fn replay() {
-    let fd = opened(b"sheets-in.bin");
-    if fd >= 0 {
-        replay_all(fd);
-        libc::close(fd);
+pub fn replay(rt: &impl Files) {
+    if let Some(mut file) = opened(rt, b"sheets-in.bin") {
+        replay_all(rt, &mut file);
     }
 }

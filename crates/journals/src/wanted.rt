@@ -5,17 +5,9 @@
 pub const WRONG: usize = 0xffff_ffff_ffff_ffff;
 
 pub fn say(wanted: &[u8], at: usize, text: &[u8]) -> usize {
-    let mut at = at;
-    let mut i: usize = 0;
-    while i < text.len() {
-        if at >= wanted.len() {
-            return WRONG;
-        }
-        if wanted[at] != text[i] {
-            return WRONG;
-        }
-        at += 1;
-        i += 1;
+    if at <= wanted.len() && wanted[at..].starts_with(text) {
+        at + text.len()
+    } else {
+        WRONG
     }
-    at
 }

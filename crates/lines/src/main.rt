@@ -8,7 +8,8 @@ mod words;
 
 use reading::say_all;
 
-fn main() {
+fn main(rt: HostRuntime) {
+    let mut input = rt.stdin();
     let mut buffer = io::large_buffer();
-    say_all(&mut buffer);
+    say_all(&mut input, &mut buffer);
 }

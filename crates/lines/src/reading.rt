@@ -1,9 +1,9 @@
-// Standard input line by line, in a buffer of fixed size. A line ends with a newline: bytes after
+// An input line by line, in a buffer of fixed size. A line ends with a newline: bytes after
 // the last one are no line.
 ghost use Rattle.std.specs.Prelude.{◌≡◌, ◌+◌, ◌≤◌, ◌<◌, length};
 
 use crate::saying::{say_line, say_long};
-use libc::STDIN_FILENO;
+use std::io::Read;
 
 // A line with its newline fits, unless it is too long.
 const CHUNK: usize = 65536;
@@ -25,40 +25,37 @@ fn line_end(buffer: &[u8], from: usize, to: usize) -> usize
     requires { (from ≤ to) × (to ≤ length buffer.now) }
     ensures { (from ≤ result) × (result ≤ to) }
 {
-    let mut i = from;
-    while i < to {
+    for i in from..to {
         if buffer[i] == b'\n' {
             return i;
         }
-        i += 1;
     }
-    i
+    to
 }
 
 // Moves the bytes of a line that is not whole yet to the start of the buffer.
 fn shift(buffer: &mut [u8], from: usize, to: usize)
     requires { (from ≤ to) × (to ≤ length buffer.old) }
 {
-    let mut i = from;
-    while i < to {
-        buffer[i - from] = buffer[i];
-        i += 1;
-    }
+    buffer.copy_within(from..to, 0);
 }
 
 // Reads once behind the first n bytes, and gives the number of bytes that came.
-fn fill(buffer: &mut [u8], n: usize) -> usize
+fn fill(input: &mut impl Read, buffer: &mut [u8], n: usize) -> usize
     requires { n ≤ length buffer.old }
     ensures { n + result ≤ length buffer.old }
 {
-    read_once(&mut buffer[n..])
+    read_once(input, &mut buffer[n..])
 }
 
-fn read_once(rest: &mut [u8]) -> usize
+// None where the input has ended or the read fails.
+fn read_once(input: &mut impl Read, rest: &mut [u8]) -> usize
     ensures { result ≤ length rest.new }
 {
-    let got = libc::read(STDIN_FILENO, rest);
-    io::count(got, rest)
+    match input.read(rest) {
+        Ok(n) => n,
+        Err(_) => 0,
+    }
 }
 
 // Of a line whose start was dropped only that is said.
@@ -97,14 +94,14 @@ fn kept(n: usize) -> usize
 }
 
 // No line is whole: more is read.
-fn fill_turn(p: Place, buffer: &mut [u8; CHUNK]) -> Place
+fn fill_turn(p: Place, input: &mut impl Read, buffer: &mut [u8; CHUNK]) -> Place
     requires { (p.from ≤ p.to) × (p.to ≤ 65536) }
     ensures { (result.from ≤ result.to) × (result.to ≤ 65536) × (result.lines ≡ p.lines) }
 {
     shift(buffer, p.from, p.to);
     let n = p.to - p.from;
     let start = kept(n);
-    let size = fill(buffer, start);
+    let size = fill(input, buffer, start);
     Place {
         lines: p.lines,
         from: 0,
@@ -114,7 +111,7 @@ fn fill_turn(p: Place, buffer: &mut [u8; CHUNK]) -> Place
     }
 }
 
-fn turn(p: Place, buffer: &mut [u8; CHUNK]) -> Place
+fn turn(p: Place, input: &mut impl Read, buffer: &mut [u8; CHUNK]) -> Place
     requires { (p.from ≤ p.to) × (p.to ≤ 65536) × (p.lines < 1099511627776) }
     ensures { (result.from ≤ result.to) × (result.to ≤ 65536) × (result.lines ≤ p.lines + 1) }
 {
@@ -122,7 +119,7 @@ fn turn(p: Place, buffer: &mut [u8; CHUNK]) -> Place
     if end < p.to {
         return line_turn(p, buffer, end);
     }
-    fill_turn(p, buffer)
+    fill_turn(p, input, buffer)
 }
 
 fn begun() -> Place
@@ -139,12 +136,12 @@ fn begun() -> Place
 
 // Says what each line is. Nothing says that the input ends, so the turns are counted down from a
 // number that no run uses up.
-pub(crate) fn say_all(buffer: &mut [u8; CHUNK]) {
+pub(crate) fn say_all(input: &mut impl Read, buffer: &mut [u8; CHUNK]) {
     let mut p = begun();
     let mut turns: u64 = 0x100_0000_0000;
     while turns > 0 {
         turns -= 1;
-        p = turn(p, buffer);
+        p = turn(p, input, buffer);
         if !p.going {
             return;
         }

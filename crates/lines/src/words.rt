@@ -15,17 +15,10 @@ fn join(out: &mut [u8], n: usize, piece: &[u8]) -> usize
     requires { n ≤ length out.old }
     ensures { IsPrefixLen result out.new }
 {
-    let mut at = n;
-    let mut i: usize = 0;
-    while i < piece.len() {
-        if at >= out.len() {
-            return at;
-        }
-        out[at] = piece[i];
-        at += 1;
-        i += 1;
-    }
-    at
+    let size = piece.len().min(out.len() - n);
+    let end = n + size;
+    out[n..end].copy_from_slice(&piece[..size]);
+    end
 }
 
 // Eight digits and what stands behind them.
@@ -46,12 +39,9 @@ fn join_words(out: &mut [u8], n: usize, words: &[u32]) -> usize
     ensures { IsPrefixLen result out.new }
 {
     let mut at = n;
-    let mut k: usize = 0;
-    while k < words.len() {
-        let w = words[k];
-        k += 1;
-        let behind = if k < words.len() { b' ' } else { b'\n' };
-        at = join_word(out, at, w, behind);
+    for k in 0..words.len() {
+        let behind = if k + 1 < words.len() { b' ' } else { b'\n' };
+        at = join_word(out, at, words[k], behind);
     }
     at
 }

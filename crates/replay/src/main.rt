@@ -3,20 +3,21 @@
 #![tactic(auto)]
 
 use replaying::{over_pair, over_year};
+use std::rt::Env;
+use system::{STDERR, arg_count, is_arg};
 
 // Whether the first argument is `year`.
-fn is_year() -> bool {
-    let mut word = [0u8; 5];
-    let n = os::arg(1, &mut word);
-    n == 4 && word[0] == b'y' && word[1] == b'e' && word[2] == b'a' && word[3] == b'r'
+fn is_year(env: &impl Env) -> bool {
+    is_arg(env, 1, b"year")
 }
 
-fn main() {
-    if os::arg_count() < 2 {
+fn main(rt: HostRuntime) {
+    let count = arg_count(&rt);
+    if count < 2 {
         over_pair();
-    } else if os::arg_count() == 2 && is_year() {
+    } else if count == 2 && is_year(&rt) {
         over_year();
     } else {
-        io::write_all(libc::STDERR_FILENO, b"usage: replay [year] < INPUT\n");
+        io::write_all(STDERR, b"usage: replay [year] < INPUT\n");
     }
 }

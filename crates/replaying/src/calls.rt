@@ -4,8 +4,8 @@ ghost use Rattle.base.specs.Words.{word_at};
 ghost use Rattle.listing.specs.Calls.{operation_in, call_in};
 
 use base::words::word;
-use libc::STDIN_FILENO;
 use listing::call::{Read, call_in, operation_in, size_of};
+use system::STDIN;
 use worksheet::showing::Lent;
 
 // What is read, and its size in bytes.
@@ -28,7 +28,7 @@ fn rest_call(operation: u32) -> Next
     let mut s = [0u8; 24];
     let from: usize = 0;
     let n = size_of(operation);
-    let got = io::read_full(STDIN_FILENO, &mut s[from..n]);
+    let got = io::read_full(STDIN, &mut s[from..n]);
     let read = if got < n {
         Read::Bad
     } else {
@@ -51,7 +51,7 @@ pub fn next_call(lent: Lent) -> Next
     ensures { result.size ≤ 28 }
 {
     let mut head = [0u8; 4];
-    let got = io::read_full(STDIN_FILENO, &mut head);
+    let got = io::read_full(STDIN, &mut head);
     if got == 0 {
         return Next {
             read: Read::End,

@@ -15,12 +15,12 @@ use base::month_file::{MONTH_FILE, RECORD};
 use base::refusal::Verdict;
 use base::words::word;
 use calls::next_call;
-use libc::{STDIN_FILENO, STDOUT_FILENO};
 use listing::answer::{ANSWER, stopped_text, verdict_text};
 use listing::call::{Read, START, YEAR_START};
 use listing::turn::answered;
 use maps::inputs::{FIELD_BYTES, SHEET_BYTES};
 use packing::YEAR_MOST;
+use system::{STDIN, STDOUT};
 use worksheet::desks::{Worksheet, opened, sheet_opened};
 use worksheet::journal::Call;
 use worksheet::showing::Lent;
@@ -32,7 +32,7 @@ fn answer(w: Worksheet, call: Call, lent: Lent, a: &[u8], b: &[u8]) -> Worksheet
     let mut text = [0u8; ANSWER];
     let turn = answered(w, call, lent, a, b, &mut text);
     let n = turn.size;
-    io::write_all(STDOUT_FILENO, &text[..n]);
+    io::write_all(STDOUT, &text[..n]);
     turn.sheet
 }
 
@@ -40,7 +40,7 @@ fn answer(w: Worksheet, call: Call, lent: Lent, a: &[u8], b: &[u8]) -> Worksheet
 fn stop(at: u64) {
     let mut text = [0u8; ANSWER];
     let n = stopped_text(at, &mut text);
-    io::write_all(STDOUT_FILENO, &text[..n]);
+    io::write_all(STDOUT, &text[..n]);
 }
 
 // Call by call, of which the first starts at `start`: the worksheet is always the one that the calls
@@ -76,7 +76,7 @@ fn answer_all(w: Worksheet, lent: Lent, a: &[u8], b: &[u8], start: u32) -> Works
 fn refuse(verdict: Verdict) {
     let mut text = [0u8; ANSWER];
     let n = verdict_text(verdict, &mut text);
-    io::write_all(STDOUT_FILENO, &text[..n]);
+    io::write_all(STDOUT, &text[..n]);
 }
 
 fn replay_pair(words: &[u8], f2: &[u8], file: &[u8]) {
@@ -96,9 +96,9 @@ pub fn over_pair() {
     let mut words = [0u8; SHEET_BYTES];
     let mut record = [0u8; RECORD];
     let mut month = [0u8; MONTH_FILE];
-    let a = io::read_full(STDIN_FILENO, &mut words);
-    let b = io::read_full(STDIN_FILENO, &mut record);
-    let c = io::read_full(STDIN_FILENO, &mut month);
+    let a = io::read_full(STDIN, &mut words);
+    let b = io::read_full(STDIN, &mut record);
+    let c = io::read_full(STDIN, &mut month);
     replay_pair(&words[..a], &record[..b], &month[..c]);
 }
 
@@ -107,7 +107,7 @@ fn replay_into(w: Worksheet, year: &mut [u8])
     requires { length year.old ≤ 1048576 }
 {
     let mut head = [0u8; 4];
-    let got = io::read_full(STDIN_FILENO, &mut head);
+    let got = io::read_full(STDIN, &mut head);
     if got < 4 {
         return;
     }
@@ -116,7 +116,7 @@ fn replay_into(w: Worksheet, year: &mut [u8])
         stop(FIELD_BYTES as u64);
         return;
     }
-    let n = io::read_full(STDIN_FILENO, &mut year[..size]);
+    let n = io::read_full(STDIN, &mut year[..size]);
     if n < size {
         return;
     }
@@ -144,7 +144,7 @@ fn year_size(head: &[u8; 4]) -> usize
 // input ends. The open is judged before anything else is looked at.
 pub fn over_year() {
     let mut words = [0u8; FIELD_BYTES];
-    let n = io::read_full(STDIN_FILENO, &mut words);
+    let n = io::read_full(STDIN, &mut words);
     let o = opened(&words[..n]);
     let verdict = o.answer;
     match verdict {

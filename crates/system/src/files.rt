@@ -1,8 +1,9 @@
 // Files by name. A name is given as bytes, and std takes names that are UTF-8 alone: another is
 // refused as such.
-ghost use Rattle.std.specs.Prelude.{◌≡◌, ◌↔◌, IsOk, IfOk, IsUtf8};
+ghost use Rattle.std.specs.Prelude.{◌≡◌, ◌↔◌, IsOk, IfOk, OnOk, IsUtf8};
 ghost use Rattle.io.specs.Counts.{IsPrefixLen};
 
+use crate::errors::fail;
 use std::fs::OpenOptions;
 use std::io::Read;
 use std::rt::Files;
@@ -23,12 +24,27 @@ fn name_text(name: &[u8]) -> io::Result<&str>
 }
 
 // Opens a file for reading.
-pub fn open_read<R: Files>(files: &R, name: &[u8]) -> io::Result<R::File> {
+pub fn open_read<R: Files>(files: &R, name: &[u8]) -> io::Result<R::File>
+    ensures { OnOk result (IsUtf8 name.now) }
+{
     OpenOptions::new().read(true).open(files, name_text(name)?)
 }
 
+// The file of this name, open for reading; where it cannot be, that is said.
+pub fn opened<R: Files>(files: &R, name: &[u8]) -> Option<R::File> {
+    match open_read(files, name) {
+        Ok(file) => Some(file),
+        Err(error) => {
+            fail(name, &error);
+            None
+        }
+    }
+}
+
 // Opens a file for reading and writing and leaves its bytes as they are.
-pub fn open_update<R: Files>(files: &R, name: &[u8]) -> io::Result<R::File> {
+pub fn open_update<R: Files>(files: &R, name: &[u8]) -> io::Result<R::File>
+    ensures { OnOk result (IsUtf8 name.now) }
+{
     OpenOptions::new()
         .read(true)
         .write(true)
@@ -36,14 +52,18 @@ pub fn open_update<R: Files>(files: &R, name: &[u8]) -> io::Result<R::File> {
 }
 
 // Opens a file for appending: what is written lands at its end, wherever that is by then.
-pub fn open_append<R: Files>(files: &R, name: &[u8]) -> io::Result<R::File> {
+pub fn open_append<R: Files>(files: &R, name: &[u8]) -> io::Result<R::File>
+    ensures { OnOk result (IsUtf8 name.now) }
+{
     OpenOptions::new()
         .append(true)
         .open(files, name_text(name)?)
 }
 
 // Makes a file and opens it for writing; where the name is taken, by a link too, that is an error.
-pub fn create<R: Files>(files: &R, name: &[u8]) -> io::Result<R::File> {
+pub fn create<R: Files>(files: &R, name: &[u8]) -> io::Result<R::File>
+    ensures { OnOk result (IsUtf8 name.now) }
+{
     OpenOptions::new()
         .write(true)
         .create_new(true)
@@ -51,7 +71,9 @@ pub fn create<R: Files>(files: &R, name: &[u8]) -> io::Result<R::File> {
 }
 
 // Takes a file's name away.
-pub fn remove(files: &impl Files, name: &[u8]) -> io::Result<()> {
+pub fn remove(files: &impl Files, name: &[u8]) -> io::Result<()>
+    ensures { OnOk result (IsUtf8 name.now) }
+{
     fs::remove_file(files, name_text(name)?)
 }
 

@@ -11,6 +11,6 @@ mod streams;
 
 pub use arguments::{arg, arg_count, argument, is_arg};
 pub use errors::{error_text, fail, is_invalid, is_missing, is_taken};
-pub use files::{create, is_link, open_append, open_read, open_update, read_full, remove};
+pub use files::{create, is_link, open_append, open_read, open_update, opened, read_full, remove};
 pub use process::{host_name, process_number, rest};
 pub use streams::{STDERR, STDIN, STDOUT, print};

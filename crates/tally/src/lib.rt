@@ -4,8 +4,7 @@
 
 ghost use Rattle.std.specs.Prelude.{◌≡◌, ◌+◌, ◌%◌, ◌^◌, if◌then◌else◌};
 
-// POSIX has 1 for standard output.
-const STDOUT_FILENO: i32 = 1;
+use system::STDOUT;
 
 #[derive(Clone, Copy)]
 pub struct Tally {
@@ -29,7 +28,7 @@ pub fn counted(t: Tally, right: bool) -> Tally
     ensures compared { result.compared ≡ (t.compared + 1) % 2 ^ 64 }
     ensures differ { result.differ ≡ (if right then t.differ else (t.differ + 1) % 2 ^ 64) }
 {
-    let compared = std::num::wrapping_add_u64(t.compared, 1);
+    let compared = t.compared.wrapping_add(1);
     if right {
         return Tally {
             compared,
@@ -38,22 +37,21 @@ pub fn counted(t: Tally, right: bool) -> Tally
     }
     Tally {
         compared,
-        differ: std::num::wrapping_add_u64(t.differ, 1),
+        differ: t.differ.wrapping_add(1),
     }
 }
 
 // The end of a line, after its name. What is written no contract can say.
 pub fn print(t: Tally) {
-    let fd = STDOUT_FILENO;
-    io::write_all(fd, b" ");
-    io::print_decimal(fd, t.compared);
-    io::write_all(fd, b" compared, ");
-    io::print_decimal(fd, t.differ);
-    io::write_all(fd, b" differ\n");
+    io::write_all(STDOUT, b" ");
+    io::print_decimal(STDOUT, t.compared);
+    io::write_all(STDOUT, b" compared, ");
+    io::print_decimal(STDOUT, t.differ);
+    io::write_all(STDOUT, b" differ\n");
 }
 
 // A line with its name. What is written no contract can say.
 pub fn print_line(name: &[u8], t: Tally) {
-    io::write_all(STDOUT_FILENO, name);
+    io::write_all(STDOUT, name);
     print(t);
 }

@@ -7,6 +7,9 @@ use base::refusal::Refusal;
 use base::words;
 use maps::ionosphere::clocks;
 use maps::ionosphere::clocks::{Direction, LocalTime, Moved, Times};
+use std::io::Read;
+use std::rt::Files;
+use system::{opened, read_full};
 use tally::{Tally, counted, none, print_line};
 
 fn degrees(row: &[u8], at: usize) -> Degrees {
@@ -65,48 +68,45 @@ fn is_local_time(row: &[u8; 20]) -> bool {
 }
 
 // The next row of each section; a row that is cut is wrong.
-fn next_shift(fd: i32) -> bool {
+fn next_shift(file: &mut impl Read) -> bool {
     let mut row = [0u8; 28];
-    let got = io::read_full(fd, &mut row);
+    let got = read_full(file, &mut row);
     got == 28 && is_shift(&row)
 }
 
-fn next_hour(fd: i32) -> bool {
+fn next_hour(file: &mut impl Read) -> bool {
     let mut row = [0u8; 36];
-    let got = io::read_full(fd, &mut row);
+    let got = read_full(file, &mut row);
     got == 36 && is_hour(&row)
 }
 
-fn next_local_time(fd: i32) -> bool {
+fn next_local_time(file: &mut impl Read) -> bool {
     let mut row = [0u8; 20];
-    let got = io::read_full(fd, &mut row);
+    let got = read_full(file, &mut row);
     got == 20 && is_local_time(&row)
 }
 
-fn is_next(fd: i32, section: u32) -> bool {
+fn is_next(file: &mut impl Read, section: u32) -> bool {
     match section {
-        0 => next_shift(fd),
-        1 => next_hour(fd),
-        _ => next_local_time(fd),
+        0 => next_shift(file),
+        1 => next_hour(file),
+        _ => next_local_time(file),
     }
 }
 
-fn rows(fd: i32, section: u32) -> Tally {
+fn rows(file: &mut impl Read, section: u32) -> Tally {
     let mut t = none();
-    let mut left = files::next(fd);
-    while left > 0 {
-        t = counted(t, is_next(fd, section));
-        left -= 1;
+    let count = files::next(file);
+    for _ in 0..count {
+        t = counted(t, is_next(file, section));
     }
     t
 }
 
-pub fn replay() {
-    let fd = files::opened(b"clocks.bin");
-    if fd >= 0 {
-        print_line(b"cngtim", rows(fd, 0));
-        print_line(b"geotim", rows(fd, 1));
-        print_line(b"geotim_clck", rows(fd, 2));
-        libc::close(fd);
+pub fn replay(rt: &impl Files) {
+    if let Some(mut file) = opened(rt, b"clocks.bin") {
+        print_line(b"cngtim", rows(&mut file, 0));
+        print_line(b"geotim", rows(&mut file, 1));
+        print_line(b"geotim_clck", rows(&mut file, 2));
     }
 }

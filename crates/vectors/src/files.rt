@@ -10,12 +10,15 @@ use base::month_file::{MONTH_FILE, RECORD, month_file_check, month_record, month
 use base::number;
 use base::refusal::Verdict;
 use base::words::{TableWord, integer, table_word, word};
+use std::io::Read;
+use std::rt::Files;
+use system::{opened, read_full};
 use tally::{Tally, counted, none, print_line};
 
 // The next word of a file; 0 where it has ended.
-pub fn next(fd: i32) -> u32 {
+pub fn next(file: &mut impl Read) -> u32 {
     let mut four = [0u8; 4];
-    io::read_full(fd, &mut four);
+    read_full(file, &mut four);
     word(&four, 0)
 }
 
@@ -23,24 +26,15 @@ pub fn index(w: u32) -> usize {
     w as usize
 }
 
-// A file's bytes, as many as the buffer takes; false where there is no such file.
-pub fn load(path: &[u8], buf: &mut [u8]) -> bool {
-    let fd = opened(path);
-    if fd < 0 {
-        return false;
+// A file's bytes, as many as the buffer takes; false where there is no such file, which is said.
+pub fn load(rt: &impl Files, path: &[u8], buf: &mut [u8]) -> bool {
+    match opened(rt, path) {
+        Some(mut file) => {
+            read_full(&mut file, buf);
+            true
+        }
+        None => false,
     }
-    io::read_full(fd, buf);
-    libc::close(fd);
-    true
-}
-
-// A file's descriptor. Where there is no such file that is said, and nothing is compared.
-pub fn opened(path: &[u8]) -> i32 {
-    let fd = os::open_read(path);
-    if fd < 0 {
-        os::fail(path);
-    }
-    fd
 }
 
 pub fn is_report(v: Verdict, wanted: u32, place: u32) -> bool {
@@ -61,12 +55,12 @@ fn walk(month: &[u8; 38616], len: usize) -> Verdict {
 }
 
 // One damaged month file: cut to a length, with one byte changed.
-fn is_walk(fd: i32, month: [u8; 38616]) -> bool {
-    let len = index(next(fd));
-    let at = index(next(fd));
-    let b = (next(fd) % 256) as u8;
-    let number = next(fd);
-    let place = next(fd);
+fn is_walk(file: &mut impl Read, month: [u8; 38616]) -> bool {
+    let len = index(next(file));
+    let at = index(next(file));
+    let b = (next(file) % 256) as u8;
+    let number = next(file);
+    let place = next(file);
     let mut damaged = month;
     if at < 38616 {
         damaged[at] = b;
@@ -74,12 +68,10 @@ fn is_walk(fd: i32, month: [u8; 38616]) -> bool {
     is_report(walk(&damaged, len), number, place)
 }
 
-fn walks(fd: i32, month: [u8; 38616]) -> Tally {
+fn walks(file: &mut impl Read, month: [u8; 38616]) -> Tally {
     let mut t = none();
-    let mut k: u32 = 0;
-    while k < 2204 {
-        t = counted(t, is_walk(fd, month));
-        k += 1;
+    for _ in 0..2204u32 {
+        t = counted(t, is_walk(file, month));
     }
     t
 }
@@ -97,23 +89,21 @@ fn is_part(s: &[u8], start: usize, part: &[u8], accepted: bool) -> bool {
         && word(part, RECORD - 4) == word(s, start + RECORD - 4)
 }
 
-fn is_record(fd: i32, daw: &[u8]) -> bool {
-    let len = index(next(fd));
-    let month = next(fd);
-    let number = next(fd);
-    let place = next(fd);
-    let start = index(next(fd));
+fn is_record(file: &mut impl Read, daw: &[u8]) -> bool {
+    let len = index(next(file));
+    let month = next(file);
+    let number = next(file);
+    let place = next(file);
+    let start = index(next(file));
     let s = cut(daw, len);
     is_report(month_record_check(s, month), number, place)
         && is_part(s, start, month_record(s, month), number == 0)
 }
 
-fn records(fd: i32, daw: &[u8]) -> Tally {
+fn records(file: &mut impl Read, daw: &[u8]) -> Tally {
     let mut t = none();
-    let mut k: u32 = 0;
-    while k < 450 {
-        t = counted(t, is_record(fd, daw));
-        k += 1;
+    for _ in 0..450u32 {
+        t = counted(t, is_record(file, daw));
     }
     t
 }
@@ -123,20 +113,18 @@ fn checked(month: &[u8; 244]) -> Verdict {
 }
 
 // An index table, in its place in a month file that ends with it.
-fn is_index(fd: i32) -> bool {
+fn is_index(file: &mut impl Read) -> bool {
     let mut month = [0u8; 244];
-    io::read_full(fd, &mut month[4..244]);
-    let number = next(fd);
-    let place = next(fd);
+    read_full(file, &mut month[4..244]);
+    let number = next(file);
+    let place = next(file);
     is_report(checked(&month), number, place)
 }
 
-fn indexes(fd: i32) -> Tally {
+fn indexes(file: &mut impl Read) -> Tally {
     let mut t = none();
-    let mut k: u32 = 0;
-    while k < 3160 {
-        t = counted(t, is_index(fd));
-        k += 1;
+    for _ in 0..3160u32 {
+        t = counted(t, is_index(file));
     }
     t
 }
@@ -150,24 +138,20 @@ fn is_word(w: TableWord, wanted: u32) -> bool {
 }
 
 // The n words of tables from `at` on.
-fn floats(fd: i32, s: &[u8], at: usize, n: usize, t: Tally) -> Tally {
+fn floats(file: &mut impl Read, s: &[u8], at: usize, n: usize, t: Tally) -> Tally {
     let mut t = t;
-    let mut k: usize = 0;
-    while k < n {
+    for k in 0..n {
         let place = std::num::wrapping_add_usize(at, std::num::wrapping_add_usize(k, k));
         let place = std::num::wrapping_add_usize(place, std::num::wrapping_add_usize(k, k));
-        t = counted(t, is_word(table_word(s, place), next(fd)));
-        k += 1;
+        t = counted(t, is_word(table_word(s, place), next(file)));
     }
     t
 }
 
-fn integers(fd: i32, month: &[u8], t: Tally) -> Tally {
+fn integers(file: &mut impl Read, month: &[u8], t: Tally) -> Tally {
     let mut t = t;
-    let mut k: usize = 0;
-    while k < 60 {
-        t = counted(t, integer(month, 4 + 4 * k) == number::signed(next(fd)));
-        k += 1;
+    for k in 0..60usize {
+        t = counted(t, integer(month, 4 + 4 * k) == number::signed(next(file)));
     }
     t
 }
@@ -178,115 +162,126 @@ const BODIES: [usize; 8] = [2796, 1332, 882, 792, 480, 1782, 1100, 396];
 const STARTS: [usize; 8] = [252, 11444, 16780, 20316, 23492, 25420, 32556, 36964];
 
 // Every word of a pair, as the Rust reads it.
-fn words(fd: i32, record: &[u8], month: &[u8]) -> Tally {
-    let mut t = integers(fd, month, floats(fd, record, 0, 1976, none()));
-    let mut k: usize = 0;
-    while k < 8 {
-        t = floats(fd, month, STARTS[k], BODIES[k], t);
-        k += 1;
+fn words(file: &mut impl Read, record: &[u8], month: &[u8]) -> Tally {
+    let t = floats(file, record, 0, 1976, none());
+    let mut t = integers(file, month, t);
+    for k in 0..8usize {
+        t = floats(file, month, STARTS[k], BODIES[k], t);
     }
     t
 }
 
 // The blended coefficients of a pair at the next sunspot number. The array is lent with what no map
 // has, so that a refusal would count.
-fn cofions(fd: i32, record: &[u8], month: &[u8], ssn: f32, t: Tally) -> Tally {
+fn cofions(file: &mut impl Read, record: &[u8], month: &[u8], ssn: f32, t: Tally) -> Tally {
     let mut all = [-12345.0f32; COFION];
     cofion(record, month, ssn, &mut all);
     let mut t = t;
-    let mut k: usize = 0;
-    while k < COFION {
-        t = counted(t, is_float(all[k], next(fd)));
-        k += 1;
+    for k in 0..COFION {
+        t = counted(t, is_float(all[k], next(file)));
     }
     t
 }
 
-fn heights(fd: i32, month: &[u8], ssn: f32, t: Tally) -> Tally {
+fn heights(file: &mut impl Read, month: &[u8], ssn: f32, t: Tally) -> Tally {
     let mut all = [-12345.0f32; PLANE];
     hmym(month, ssn, &mut all);
     let mut t = t;
-    let mut k: usize = 0;
-    while k < PLANE {
-        t = counted(t, is_float(all[k], next(fd)));
-        k += 1;
+    for k in 0..PLANE {
+        t = counted(t, is_float(all[k], next(file)));
     }
     t
 }
 
-fn blends(fd: i32, record: &[u8], month: &[u8], t: Tally) -> Tally {
+fn blends(file: &mut impl Read, record: &[u8], month: &[u8], t: Tally) -> Tally {
     let mut t = t;
-    let mut k: u32 = 0;
-    while k < 15 {
-        let ssn = number::float32(next(fd));
-        t = heights(fd, month, ssn, cofions(fd, record, month, ssn, t));
-        k += 1;
+    for _ in 0..15u32 {
+        let ssn = number::float32(next(file));
+        t = cofions(file, record, month, ssn, t);
+        t = heights(file, month, ssn, t);
     }
     t
 }
 
-fn replay_walks(fd: i32) {
+fn replay_walks(rt: &impl Files, file: &mut impl Read) {
     let mut month = [0xaau8; 38616];
-    if load(b"calm.month", &mut month) {
-        print_line(b"walks", walks(fd, month));
+    if load(rt, b"calm.month", &mut month) {
+        print_line(b"walks", walks(file, month));
     }
 }
 
-fn replay_records(fd: i32) {
+fn replay_records(rt: &impl Files, file: &mut impl Read) {
     let mut daw = [0u8; 15808];
-    if load(b"calm.daw", &mut daw) {
-        print_line(b"records", records(fd, &daw));
+    if load(rt, b"calm.daw", &mut daw) {
+        print_line(b"records", records(file, &daw));
     }
 }
 
 // One pair of files against the next answers of words.bin and, where its words are all finite, of
 // blends.bin.
 fn replay_pair(
+    rt: &impl Files,
     daw_path: &[u8],
     month_path: &[u8],
-    words_fd: i32,
+    words_file: &mut impl Read,
     are_finite: bool,
-    blends_fd: i32,
+    blends_file: &mut impl Read,
 ) {
     let mut daw = [0u8; 15808];
     let mut month = [0u8; MONTH_FILE];
-    if !load(daw_path, &mut daw) {
+    if !load(rt, daw_path, &mut daw) {
         return;
     }
-    if !load(month_path, &mut month) {
+    if !load(rt, month_path, &mut month) {
         return;
     }
     let record = month_record(&daw, 2);
-    print_line(b"words", words(words_fd, record, &month));
+    print_line(b"words", words(words_file, record, &month));
     if are_finite {
-        print_line(b"blends", blends(blends_fd, record, &month, none()));
+        print_line(b"blends", blends(blends_file, record, &month, none()));
     }
 }
 
-fn replay_pairs(words_fd: i32, blends_fd: i32) {
-    replay_pair(b"calm.daw", b"calm.month", words_fd, true, blends_fd);
-    replay_pair(b"wild.daw", b"wild.month", words_fd, false, blends_fd);
-    replay_pair(b"huge.daw", b"huge.month", words_fd, true, blends_fd);
+fn replay_pairs(rt: &impl Files, words_file: &mut impl Read, blends_file: &mut impl Read) {
+    replay_pair(
+        rt,
+        b"calm.daw",
+        b"calm.month",
+        words_file,
+        true,
+        blends_file,
+    );
+    replay_pair(
+        rt,
+        b"wild.daw",
+        b"wild.month",
+        words_file,
+        false,
+        blends_file,
+    );
+    replay_pair(
+        rt,
+        b"huge.daw",
+        b"huge.month",
+        words_file,
+        true,
+        blends_file,
+    );
 }
 
-pub fn replay() {
-    let walks_fd = opened(b"walks.bin");
-    if 0 <= walks_fd {
-        replay_walks(walks_fd);
+pub fn replay(rt: &impl Files) {
+    if let Some(mut file) = opened(rt, b"walks.bin") {
+        replay_walks(rt, &mut file);
     }
-    let records_fd = opened(b"records.bin");
-    if 0 <= records_fd {
-        replay_records(records_fd);
+    if let Some(mut file) = opened(rt, b"records.bin") {
+        replay_records(rt, &mut file);
     }
-    let indexes_fd = opened(b"indexes.bin");
-    if 0 <= indexes_fd {
-        print_line(b"indexes", indexes(indexes_fd));
+    if let Some(mut file) = opened(rt, b"indexes.bin") {
+        print_line(b"indexes", indexes(&mut file));
     }
-    let words_fd = opened(b"words.bin");
-    let blends_fd = opened(b"blends.bin");
-    if 0 <= words_fd {
-        if 0 <= blends_fd {
-            replay_pairs(words_fd, blends_fd);
-        }
+    let words_file = opened(rt, b"words.bin");
+    let blends_file = opened(rt, b"blends.bin");
+    if let (Some(mut words_file), Some(mut blends_file)) = (words_file, blends_file) {
+        replay_pairs(rt, &mut words_file, &mut blends_file);
     }
 }

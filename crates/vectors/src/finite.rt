@@ -6,6 +6,9 @@ use crate::sheets::{next_month, next_record};
 use base::files::{file_check, files_check};
 use base::month_file::{MONTH_FILE, RECORD};
 use base::words::word;
+use std::io::Read;
+use std::rt::Files;
+use system::{opened, read_full};
 use tally::{Tally, counted, none, print_line};
 
 fn put_byte(s: &mut [u8], at: usize, b: u8) {
@@ -72,38 +75,29 @@ fn is_answered(row: &[u8; 56], record: [u8; RECORD], month: [u8; MONTH_FILE]) ->
     are_answers(row, &record, &month)
 }
 
-fn rows(fd: i32, record: [u8; RECORD], month: [u8; MONTH_FILE]) -> Tally {
+fn rows(file: &mut impl Read, record: [u8; RECORD], month: [u8; MONTH_FILE]) -> Tally {
     let mut t = none();
-    let mut k: u32 = 0;
-    while k < 1478 {
+    for _ in 0..1478u32 {
         let mut row = [0u8; 56];
-        let n = io::read_full(fd, &mut row);
+        let n = read_full(file, &mut row);
         t = counted(t, n == 56 && is_answered(&row, record, month));
-        k += 1;
     }
     t
 }
 
 // The files are the record of month 2, which stands behind that of month 1, and the month file.
-fn replay_rows(fd: i32, daw: i32, file: i32) {
+fn replay_rows(file: &mut impl Read, daw: &mut impl Read, month: &mut impl Read) {
     next_record(daw);
     let record = next_record(daw);
-    let month = next_month(file);
-    print_line(b"finite words", rows(fd, record, month));
+    let month = next_month(month);
+    print_line(b"finite words", rows(file, record, month));
 }
 
-pub fn replay() {
-    let fd = files::opened(b"finite.bin");
-    let daw = files::opened(b"calm.daw");
-    let file = files::opened(b"calm.month");
-    if fd >= 0 {
-        if daw >= 0 {
-            if file >= 0 {
-                replay_rows(fd, daw, file);
-                libc::close(file);
-            }
-            libc::close(daw);
-        }
-        libc::close(fd);
+pub fn replay(rt: &impl Files) {
+    let file = opened(rt, b"finite.bin");
+    let daw = opened(rt, b"calm.daw");
+    let month = opened(rt, b"calm.month");
+    if let (Some(mut file), Some(mut daw), Some(mut month)) = (file, daw, month) {
+        replay_rows(&mut file, &mut daw, &mut month);
     }
 }

@@ -8,6 +8,9 @@ use base::month_file::{MONTH_FILE, RECORD};
 use base::words;
 use maps::ionosphere::hour_maps;
 use maps::ionosphere::starts::AB_ROWS;
+use std::io::Read;
+use std::rt::Files;
+use system::{opened, read_full};
 use tally::{Tally, counted, none, print_line};
 
 // The bytes of a row: the sunspot number, the hour and what is wanted.
@@ -15,12 +18,10 @@ const ROW: usize = 1280;
 
 // Whether the array holds what a row wants.
 fn is_wanted(ab: &[f32; AB_ROWS], row: &[u8; ROW]) -> bool {
-    let mut k = 0usize;
-    while k < AB_ROWS {
+    for k in 0..AB_ROWS {
         if !is_float(ab[k], words::word(row, 8 + 4 * k)) {
             return false;
         }
-        k += 1;
     }
     true
 }
@@ -35,34 +36,30 @@ fn is_hour(row: &[u8; ROW], record: &[u8; RECORD], month: &[u8; MONTH_FILE]) -> 
 }
 
 // A pair of files and the hours worked out from it.
-fn section(fd: i32, t: Tally) -> Tally {
+fn section(file: &mut impl Read, t: Tally) -> Tally {
     let mut t = t;
-    let record = next_record(fd);
-    let month = next_month(fd);
-    let mut left = files::next(fd);
-    while left > 0 {
+    let record = next_record(file);
+    let month = next_month(file);
+    let count = files::next(file);
+    for _ in 0..count {
         let mut row = [0u8; ROW];
-        io::read_full(fd, &mut row);
+        read_full(file, &mut row);
         t = counted(t, is_hour(&row, &record, &month));
-        left -= 1;
     }
     t
 }
 
-fn sections(fd: i32) -> Tally {
+fn sections(file: &mut impl Read) -> Tally {
     let mut t = none();
-    let mut left = files::next(fd);
-    while left > 0 {
-        t = section(fd, t);
-        left -= 1;
+    let count = files::next(file);
+    for _ in 0..count {
+        t = section(file, t);
     }
     t
 }
 
-pub fn replay() {
-    let fd = files::opened(b"hours.bin");
-    if fd >= 0 {
-        print_line(b"hours", sections(fd));
-        libc::close(fd);
+pub fn replay(rt: &impl Files) {
+    if let Some(mut file) = opened(rt, b"hours.bin") {
+        print_line(b"hours", sections(&mut file));
     }
 }

@@ -12,13 +12,13 @@ mod row;
 mod sheets;
 mod tables;
 
-fn main() {
-    numbers::replay();
-    files::replay();
-    finite::replay();
-    routes::replay();
-    hours::replay();
-    sheets::replay();
-    clocks::replay();
-    tables::replay();
+fn main(rt: HostRuntime) {
+    numbers::replay(&rt);
+    files::replay(&rt);
+    finite::replay(&rt);
+    routes::replay(&rt);
+    hours::replay(&rt);
+    sheets::replay(&rt);
+    clocks::replay(&rt);
+    tables::replay(&rt);
 }

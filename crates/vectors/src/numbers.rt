@@ -3,12 +3,14 @@
 // writes them. A row of function 0 holds the name of the function that follows.
 ghost use Rattle.std.specs.Prelude.{◌+◌, ◌^◌, ◌<◌};
 
-use crate::files;
 use crate::row::print_name;
 use base::angle::{Degrees, Radians};
 use base::{constants, elementary, number};
 use maps::geometry;
 use maps::inputs::MagneticPole;
+use std::io::Read;
+use std::rt::Files;
+use system::{opened, read_full};
 use tally::{counted, none, print_line};
 
 fn wide(x: u8) -> u64
@@ -140,39 +142,33 @@ fn is_right(f: u64, w: u64, wanted: u64) -> bool {
 }
 
 // The rows of a file, with a line for each function and one for all.
-fn rows(fd: i32) {
+fn rows(file: &mut impl Read) {
     let mut part = none();
     let mut all = none();
-    let mut left: u64 = 1000000;
-    while left > 0 {
-        left -= 1;
+    for _ in 0..1000000u32 {
         let mut row = [0u8; 24];
-        let got = io::read_full(fd, &mut row);
-        if got < 24 {
-            left = 0;
-        } else {
-            let f = word(&row, 0);
-            if f == 0 {
-                if part.compared > 0 {
-                    tally::print(part);
-                }
-                print_name(&row, 8);
-                part = none();
-            } else {
-                let right = is_right(f, word(&row, 8), word(&row, 16));
-                part = counted(part, right);
-                all = counted(all, right);
+        if read_full(file, &mut row) < 24 {
+            break;
+        }
+        let f = word(&row, 0);
+        if f == 0 {
+            if part.compared > 0 {
+                tally::print(part);
             }
+            print_name(&row, 8);
+            part = none();
+        } else {
+            let right = is_right(f, word(&row, 8), word(&row, 16));
+            part = counted(part, right);
+            all = counted(all, right);
         }
     }
     tally::print(part);
     print_line(b"numbers", all);
 }
 
-pub fn replay() {
-    let fd = files::opened(b"numbers.bin");
-    if fd >= 0 {
-        rows(fd);
-        libc::close(fd);
+pub fn replay(rt: &impl Files) {
+    if let Some(mut file) = opened(rt, b"numbers.bin") {
+        rows(&mut file);
     }
 }

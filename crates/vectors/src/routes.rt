@@ -4,13 +4,15 @@
 // A row that starts with ffffffff holds the name of the routes that follow.
 ghost use Rattle.std.specs.Prelude.{◌+◌, ◌*◌, ◌<◌, ◌≤◌, length};
 
-use crate::files;
 use crate::row::{is_float, is_use, print_name};
 use base::angle::Degrees;
 use base::words;
 use maps::geometry::{ControlPoint, PathGeometry};
 use maps::inputs::MagneticPole;
 use maps::{geometry, magnetic};
+use std::io::Read;
+use std::rt::Files;
+use system::{opened, read_full};
 use tally::{counted, none, print_line};
 
 // The word k of a row.
@@ -119,17 +121,15 @@ fn is_route(row: &[u8]) -> bool {
 }
 
 // The rows of a file, with a line for each group and one for all.
-fn rows(fd: i32) {
+fn rows(file: &mut impl Read) {
     let mut part = none();
     let mut all = none();
-    let mut left: u64 = 100000000;
-    while left > 0 {
-        left -= 1;
+    for _ in 0..100000000u32 {
         let mut row = [0u8; 216];
-        let got = io::read_full(fd, &mut row);
-        if got < 216 {
-            left = 0;
-        } else if is_heading(&row) {
+        if read_full(file, &mut row) < 216 {
+            break;
+        }
+        if is_heading(&row) {
             if part.compared > 0 {
                 tally::print(part);
             }
@@ -153,10 +153,8 @@ fn is_right(row: &[u8; 216]) -> bool {
     is_route(row)
 }
 
-pub fn replay() {
-    let fd = files::opened(b"routes.bin");
-    if fd >= 0 {
-        rows(fd);
-        libc::close(fd);
+pub fn replay(rt: &impl Files) {
+    if let Some(mut file) = opened(rt, b"routes.bin") {
+        rows(&mut file);
     }
 }

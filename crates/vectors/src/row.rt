@@ -2,8 +2,8 @@
 ghost use Rattle.std.specs.Prelude.{◌≤◌, length};
 
 use base::number;
-use libc::STDOUT_FILENO;
 use maps::geometry::Use;
+use system::STDOUT;
 
 // Whether a float has these bits; two NaNs are alike.
 pub fn is_float(x: f32, wanted: u32) -> bool {
@@ -24,22 +24,18 @@ pub fn is_use(u: Use, wanted: u32) -> bool {
 fn name_end(row: &[u8], from: usize) -> usize
     ensures { result ≤ length row.now }
 {
-    let mut i: usize = 0;
-    while i < row.len() {
-        if from <= i {
-            if row[i] == 0 {
-                return i;
-            }
+    for i in from..row.len() {
+        if row[i] == 0 {
+            return i;
         }
-        i += 1;
     }
-    i
+    row.len()
 }
 
 // The name that a row holds from its byte `from` on.
 pub fn print_name(row: &[u8], from: usize) {
     let end = name_end(row, from);
     if from <= end {
-        io::write_all(STDOUT_FILENO, &row[from..end]);
+        io::write_all(STDOUT, &row[from..end]);
     }
 }

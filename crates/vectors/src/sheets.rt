@@ -11,6 +11,9 @@ use maps::figures;
 use maps::figures::{FIGURES, Shown};
 use maps::geometry::{Uses, use_at};
 use maps::inputs::{Factors, Inputs, MagneticPole, Route, inputs_in};
+use std::io::Read;
+use std::rt::Files;
+use system::{opened, read_full};
 use tally::{Tally, counted, none, print_line};
 use worksheet::showing::drawn;
 
@@ -29,12 +32,10 @@ fn word(row: &[u8], k: usize) -> u32
 
 // Whether the buffer holds a row's figures.
 fn is_figures(out: &[f32; FIGURES], row: &[u8]) -> bool {
-    let mut k = 0usize;
-    while k < FIGURES {
+    for k in 0..FIGURES {
         if !is_float(out[k], word(row, 20 + k)) {
             return false;
         }
-        k += 1;
     }
     true
 }
@@ -81,39 +82,37 @@ fn is_sheet(row: &[u8; 684], record: &[u8; RECORD], month: &[u8; MONTH_FILE]) ->
     }
 }
 
-pub fn next_record(fd: i32) -> [u8; RECORD] {
+pub fn next_record(file: &mut impl Read) -> [u8; RECORD] {
     let mut record = [0u8; RECORD];
-    io::read_full(fd, &mut record);
+    read_full(file, &mut record);
     record
 }
 
-pub fn next_month(fd: i32) -> [u8; MONTH_FILE] {
+pub fn next_month(file: &mut impl Read) -> [u8; MONTH_FILE] {
     let mut month = [0u8; MONTH_FILE];
-    io::read_full(fd, &mut month);
+    read_full(file, &mut month);
     month
 }
 
 // A pair of files and the sheets made of it.
-fn section(fd: i32, t: Tally) -> Tally {
+fn section(file: &mut impl Read, t: Tally) -> Tally {
     let mut t = t;
-    let record = next_record(fd);
-    let month = next_month(fd);
-    let mut left = files::next(fd);
-    while left > 0 {
+    let record = next_record(file);
+    let month = next_month(file);
+    let count = files::next(file);
+    for _ in 0..count {
         let mut row = [0u8; 684];
-        io::read_full(fd, &mut row);
+        read_full(file, &mut row);
         t = counted(t, is_sheet(&row, &record, &month));
-        left -= 1;
     }
     t
 }
 
-fn replay_sheets(fd: i32) {
+fn replay_sheets(file: &mut impl Read) {
     let mut t = none();
-    let mut left = files::next(fd);
-    while left > 0 {
-        t = section(fd, t);
-        left -= 1;
+    let count = files::next(file);
+    for _ in 0..count {
+        t = section(file, t);
     }
     print_line(b"sheets", t);
 }
@@ -143,12 +142,10 @@ fn in_range() -> Inputs {
 }
 
 fn is_as_lent(out: &[f32; LARGEST]) -> bool {
-    let mut k = 0usize;
-    while k < LARGEST {
+    for k in 0..LARGEST {
         if out[k] != LENT {
             return false;
         }
-        k += 1;
     }
     true
 }
@@ -170,14 +167,14 @@ fn shown_of(
 }
 
 // Files cut to a length, one byte of the month file changed, and a buffer of some length.
-fn is_refused(fd: i32, record: &[u8; RECORD], month: [u8; MONTH_FILE]) -> bool {
-    let record_length = files::index(files::next(fd));
-    let month_length = files::index(files::next(fd));
-    let at = files::index(files::next(fd));
-    let b = (files::next(fd) % 256) as u8;
-    let size = files::index(files::next(fd));
-    let number = files::next(fd);
-    let place = files::next(fd);
+fn is_refused(file: &mut impl Read, record: &[u8; RECORD], month: [u8; MONTH_FILE]) -> bool {
+    let record_length = files::index(files::next(file));
+    let month_length = files::index(files::next(file));
+    let at = files::index(files::next(file));
+    let b = (files::next(file) % 256) as u8;
+    let size = files::index(files::next(file));
+    let number = files::next(file);
+    let place = files::next(file);
     let mut damaged = month;
     if at < MONTH_FILE {
         damaged[at] = b;
@@ -200,29 +197,24 @@ fn is_refused(fd: i32, record: &[u8; RECORD], month: [u8; MONTH_FILE]) -> bool {
     t.number == number && t.place == place && is_as_lent(&out)
 }
 
-fn replay_refused(fd: i32) {
+fn replay_refused(file: &mut impl Read) {
     let mut t = none();
-    let record = next_record(fd);
-    let month = next_month(fd);
-    let mut left = files::next(fd);
-    while left > 0 {
-        t = counted(t, is_refused(fd, &record, month));
-        left -= 1;
+    let record = next_record(file);
+    let month = next_month(file);
+    let count = files::next(file);
+    for _ in 0..count {
+        t = counted(t, is_refused(file, &record, month));
     }
     print_line(b"refused sheets", t);
 }
 
-pub fn replay() {
-    let fd = files::opened(b"sheets.bin");
-    if fd >= 0 {
-        replay_sheets(fd);
-        libc::close(fd);
+pub fn replay(rt: &impl Files) {
+    if let Some(mut file) = opened(rt, b"sheets.bin") {
+        replay_sheets(&mut file);
     }
-    let fd = files::opened(b"refused-sheets.bin");
-    if fd >= 0 {
+    if let Some(mut file) = opened(rt, b"refused-sheets.bin") {
         // One record that is good and one that is not.
-        replay_refused(fd);
-        replay_refused(fd);
-        libc::close(fd);
+        replay_refused(&mut file);
+        replay_refused(&mut file);
     }
 }

@@ -5,6 +5,9 @@ ghost use Rattle.std.specs.Prelude.{◌≤◌};
 use crate::files;
 use base::month_file::RECORD;
 use base::{tables, words};
+use std::io::Read;
+use std::rt::Files;
+use system::{opened, read_full};
 use tally::{Tally, counted, none, print_line};
 
 // A row's answer: the refusal, the part's place in its file, and its first word in words.bin.
@@ -34,8 +37,7 @@ fn wanted(row: &[u8]) -> Answer {
 
 // Whether a part is what words.bin has from a byte on.
 fn is_part(part: &[u8], all: &[u8; 46384], from: usize) -> bool {
-    let mut k: usize = 0;
-    while k < part.len() {
+    for k in 0..part.len() {
         let at = std::num::wrapping_add_usize(from, k);
         if at >= 46384 {
             return false;
@@ -43,7 +45,6 @@ fn is_part(part: &[u8], all: &[u8; 46384], from: usize) -> bool {
         if part[k] != all[at] {
             return false;
         }
-        k += 1;
     }
     true
 }
@@ -100,45 +101,48 @@ fn is_table(row: &[u8; 40], record: &[u8], month: [u8; 38616], all: &[u8; 46384]
 }
 
 // The next row; one that is cut is wrong.
-fn next_table(fd: i32, record: &[u8], month: [u8; 38616], all: &[u8; 46384]) -> bool {
+fn next_table(file: &mut impl Read, record: &[u8], month: [u8; 38616], all: &[u8; 46384]) -> bool {
     let mut row = [0u8; 40];
-    let got = io::read_full(fd, &mut row);
+    let got = read_full(file, &mut row);
     got == 40 && is_table(&row, record, month, all)
 }
 
-fn rows(fd: i32, record: &[u8], month: [u8; 38616], all: &[u8; 46384]) -> Tally {
+fn rows(file: &mut impl Read, record: &[u8], month: [u8; 38616], all: &[u8; 46384]) -> Tally {
     let mut t = none();
-    let mut left = files::next(fd);
-    while left > 0 {
-        t = counted(t, next_table(fd, record, month, all));
-        left -= 1;
+    let count = files::next(file);
+    for _ in 0..count {
+        t = counted(t, next_table(file, record, month, all));
     }
     t
 }
 
 // One pair of files against the next answers of tables.bin and the next words of words.bin. The
 // record is month 2's; bytes aa follow it and the month file.
-fn replay_pair(daw_path: &[u8], month_path: &[u8], fd: i32, words_fd: i32) {
+fn replay_pair(
+    rt: &impl Files,
+    daw_path: &[u8],
+    month_path: &[u8],
+    file: &mut impl Read,
+    words_file: &mut impl Read,
+) {
     let mut daw = [0xaau8; 15872];
     let mut month = [0xaau8; 38616];
     let mut all = [0u8; 46384];
-    io::read_full(words_fd, &mut all);
-    if !files::load(daw_path, &mut daw) {
+    read_full(words_file, &mut all);
+    if !files::load(rt, daw_path, &mut daw) {
         return;
     }
-    if !files::load(month_path, &mut month) {
+    if !files::load(rt, month_path, &mut month) {
         return;
     }
-    print_line(b"tables", rows(fd, &daw[RECORD..15872], month, &all));
+    print_line(b"tables", rows(file, &daw[RECORD..15872], month, &all));
 }
 
-pub fn replay() {
-    let fd = files::opened(b"tables.bin");
-    let words_fd = files::opened(b"words.bin");
-    if fd >= 0 {
-        if words_fd >= 0 {
-            replay_pair(b"calm.daw", b"calm.month", fd, words_fd);
-            replay_pair(b"wild.daw", b"wild.month", fd, words_fd);
-        }
+pub fn replay(rt: &impl Files) {
+    let file = opened(rt, b"tables.bin");
+    let words_file = opened(rt, b"words.bin");
+    if let (Some(mut file), Some(mut words_file)) = (file, words_file) {
+        replay_pair(rt, b"calm.daw", b"calm.month", &mut file, &mut words_file);
+        replay_pair(rt, b"wild.daw", b"wild.month", &mut file, &mut words_file);
     }
 }

@@ -3,29 +3,24 @@
 #![tactic(auto)]
 
 use base::year::PARTS;
-use libc::STDERR_FILENO;
+use std::rt::Env;
+use system::{STDERR, arg_count, is_arg};
 use yearbook::{check, pack};
 
 // Whether the first argument is `check`.
-fn is_check() -> bool {
-    let mut word = [0u8; 6];
-    let n = os::arg(1, &mut word);
-    n == 5
-        && word[0] == b'c'
-        && word[1] == b'h'
-        && word[2] == b'e'
-        && word[3] == b'c'
-        && word[4] == b'k'
+fn is_check(env: &impl Env) -> bool {
+    is_arg(env, 1, b"check")
 }
 
-fn main() {
-    if os::arg_count() == PARTS + 1 {
-        pack();
-    } else if os::arg_count() == 3 && is_check() {
-        check();
+fn main(rt: HostRuntime) {
+    let count = arg_count(&rt);
+    if count == PARTS + 1 {
+        pack(&rt);
+    } else if count == 3 && is_check(&rt) {
+        check(&rt);
     } else {
         io::write_all(
-            STDERR_FILENO,
+            STDERR,
             b"usage: year JAN FEB MAR APR MAY JUN JUL AUG SEP OCT NOV DEC CCIR URSI > YEAR\n       year check YEAR\n",
         );
     }
