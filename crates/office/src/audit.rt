@@ -19,7 +19,7 @@ use packing::YEAR_MOST;
 use sitting::{Sitting, Stage, hear, pass, waiting};
 use std::io::{Input, Print, Read};
 use std::rt::{Env, Files};
-use system::{arg, open_read, print, read_full};
+use system::{arg, opened, print, read_full};
 use wording::number::{Number, number_in};
 use worksheet::showing::Lent;
 
@@ -413,7 +413,7 @@ fn audit_named(
         audit_over(&mut rt.reader(), rt, b"standard input", line, lent, a, b);
         return;
     }
-    if let Some(mut file) = got(name, open_read(rt, name)) {
+    if let Some(mut file) = opened(rt, name) {
         audit_over(&mut file, rt, name, line, lent, a, b);
     }
 }

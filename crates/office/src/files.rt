@@ -6,7 +6,7 @@ use crate::name::{NAME, argument};
 use packing::YEAR_MOST;
 use std::io::Read;
 use std::rt::{Env, Files};
-use system::{STDERR, open_read, read_full};
+use system::{STDERR, opened, read_full};
 use worksheet::showing::Lent;
 
 // What stands in the buffer: the year file or the record up to `first`, the month file from there
@@ -76,10 +76,10 @@ fn read_open(file: &mut impl Read, name: &[u8], at: usize, buffer: &mut [u8]) ->
     requires { at ≤ length buffer.old }
     ensures { (at ≤ result.end) × (result.end ≤ length buffer.old) }
 {
-    let got = read_at(file, buffer, at);
-    let good = is_whole(file, name, at + got == buffer.len());
+    let size = read_at(file, buffer, at);
+    let good = is_whole(file, name, at + size == buffer.len());
     Got {
-        end: at + got,
+        end: at + size,
         good: good,
     }
 }
@@ -89,7 +89,7 @@ fn read_named(files: &impl Files, name: &[u8], at: usize, buffer: &mut [u8]) -> 
     requires { at ≤ length buffer.old }
     ensures { (at ≤ result.end) × (result.end ≤ length buffer.old) }
 {
-    match got(name, open_read(files, name)) {
+    match opened(files, name) {
         Some(mut file) => read_open(&mut file, name, at, buffer),
         None => nothing(at),
     }

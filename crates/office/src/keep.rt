@@ -1,6 +1,6 @@
 // What `desk say` writes: the line of a call behind the journal's others, and what was cut short
 // into a file beside it.
-ghost use Rattle.std.specs.Prelude.{◌≤◌, ◌<◌, length};
+ghost use Rattle.std.specs.Prelude.{◌≤◌, length};
 
 use crate::failure::{got, is_done};
 use crate::folder::sync_folder;

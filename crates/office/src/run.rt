@@ -1,7 +1,6 @@
 // `desk run`: the answer to each line of a journal.
 ghost use Rattle.std.specs.Prelude.{◌≤◌, length};
 
-use crate::failure::got;
 use crate::files::{Loaded, load};
 use crate::journal::{CHUNK, State, hear_all, long_text, say_cut};
 use crate::name::{NAME, argument, is_dash};
@@ -9,7 +8,7 @@ use listing::spoken::SPOKEN;
 use packing::YEAR_MOST;
 use std::io::{Input, Print, Read};
 use std::rt::{Env, Files};
-use system::{STDERR, open_read, print};
+use system::{STDERR, opened, print};
 use worksheet::showing::Lent;
 
 fn say_long(out: &impl Print, number: u64) {
@@ -55,7 +54,7 @@ fn run_named(rt: &(impl Files + Input + Print), name: &[u8], lent: Lent, a: &[u8
         run_over(&mut rt.reader(), rt, b"standard input", lent, a, b);
         return;
     }
-    if let Some(mut file) = got(name, open_read(rt, name)) {
+    if let Some(mut file) = opened(rt, name) {
         run_over(&mut file, rt, name, lent, a, b);
     }
 }
