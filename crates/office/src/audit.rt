@@ -4,19 +4,22 @@
 ghost use Rattle.std.specs.Prelude.{◌≡◌, ◌≤◌, length};
 ghost use Rattle.io.specs.Counts.{IsPrefixLen};
 
-use crate::files::{Files, load};
-use crate::journal::{CHUNK, is_ended, long_text, say_cut, write};
+use crate::failure::{got, say_unread};
+use crate::files::{Loaded, load};
+use crate::journal::{CHUNK, is_ended, long_text, say_cut};
 use crate::name::{NAME, argument, is_dash};
 use crate::usage::usage;
 use auditing::accounts::{Showing, showing_at};
 use auditing::gathering::{Gathered, gather, line_end};
 use auditing::marks::kept_in;
 use auditing::page::page_part;
-use libc::{STDERR_FILENO, STDIN_FILENO};
 use listing::columns::COLUMNS;
 use listing::spoken::SPOKEN;
 use packing::YEAR_MOST;
 use sitting::{Sitting, Stage, hear, pass, waiting};
+use std::io::{Input, Print, Read};
+use std::rt::{Env, Files};
+use system::{arg, opened, print, read_full};
 use wording::number::{Number, number_in};
 use worksheet::showing::Lent;
 
@@ -26,27 +29,33 @@ const TEXT: usize = 1048576;
 // The most calls up to the line, the open being one.
 const CALLS: usize = 8192;
 
-fn say_many() {
-    write(b"the journal has more calls up to that line than an audit holds, which is 8192\n");
+fn say_many(out: &impl Print) {
+    print(
+        out,
+        b"the journal has more calls up to that line than an audit holds, which is 8192\n",
+    );
 }
 
-fn say_long_text() {
-    if write(b"the journal is longer than an audit holds, which is 1048576 bytes: ") {
-        write(b"audit a copy of it that ends with that line\n");
+fn say_long_text(out: &impl Print) {
+    if print(
+        out,
+        b"the journal is longer than an audit holds, which is 1048576 bytes: ",
+    ) {
+        print(out, b"audit a copy of it that ends with that line\n");
     }
 }
 
 // Says words with a line's number between them.
-fn say_around(before: &[u8], line: usize, after: &[u8]) {
+fn say_around(out: &impl Print, before: &[u8], line: usize, after: &[u8]) {
     let mut digits = [0u8; 20];
     let k = io::decimal(line as u64, &mut digits);
-    if write(before) && write(&digits[..k]) {
-        write(after);
+    if print(out, before) && print(out, &digits[..k]) {
+        print(out, after);
     }
 }
 
-fn say_none(line: usize) {
-    say_around(b"the journal has no line ", line, b"\n");
+fn say_none(out: &impl Print, line: usize) {
+    say_around(out, b"the journal has no line ", line, b"\n");
 }
 
 // ---- the page
@@ -56,6 +65,7 @@ const PARTS: usize = 3 * CALLS;
 
 // Says part k of the page, and gives whether another follows it.
 fn say_part(
+    out: &impl Print,
     text: &[u8],
     line: usize,
     g: Gathered,
@@ -69,15 +79,16 @@ fn say_part(
     b: &[u8],
     k: usize,
 ) -> bool {
-    let mut out = [0u8; COLUMNS];
+    let mut said = [0u8; COLUMNS];
     let part = page_part(
-        text, line, g, marks, numbers, starts, places, size, lent, a, b, k, &mut out,
+        text, line, g, marks, numbers, starts, places, size, lent, a, b, k, &mut said,
     );
     let n = part.size;
-    write(&out[..n]) && !part.last
+    print(out, &said[..n]) && !part.last
 }
 
 fn say_page(
+    out: &impl Print,
     text: &[u8],
     line: usize,
     g: Gathered,
@@ -90,14 +101,12 @@ fn say_page(
     a: &[u8],
     b: &[u8],
 ) {
-    let mut k: usize = 0;
-    while k < PARTS {
+    for k in 0..PARTS {
         if !say_part(
-            text, line, g, marks, numbers, starts, places, size, lent, a, b, k,
+            out, text, line, g, marks, numbers, starts, places, size, lent, a, b, k,
         ) {
             return;
         }
-        k += 1;
     }
 }
 
@@ -125,6 +134,7 @@ fn shown_text(
 
 // The shorter list has no more calls than the journal, so that its places fit.
 fn say_shown(
+    out: &impl Print,
     text: &[u8],
     line: usize,
     g: Gathered,
@@ -138,18 +148,19 @@ fn say_shown(
     let mut places = [0usize; CALLS];
     let size = kept_in(marks, g.count, &mut places);
     say_page(
-        text, line, g, marks, numbers, starts, &places, size, lent, a, b,
+        out, text, line, g, marks, numbers, starts, &places, size, lent, a, b,
     );
 }
 
-fn say_refused(g: Gathered, line: usize, lent: Lent, a: &[u8], b: &[u8]) {
+fn say_refused(out: &impl Print, g: Gathered, line: usize, lent: Lent, a: &[u8], b: &[u8]) {
     let mut said = [0u8; SPOKEN];
     let n = shown_text(g, line, lent, a, b, &mut said);
-    write(&said[..n]);
+    print(out, &said[..n]);
 }
 
-fn say_other(line: usize) {
+fn say_other(out: &impl Print, line: usize) {
     say_around(
+        out,
         b"line ",
         line,
         b" does not show the worksheet: an audit is of a line that says show\n",
@@ -158,6 +169,7 @@ fn say_other(line: usize) {
 
 // The page of a line whose call is the last that was gathered, or why there is none.
 fn audit_line(
+    out: &impl Print,
     text: &[u8],
     line: usize,
     g: Gathered,
@@ -169,9 +181,9 @@ fn audit_line(
     starts: &[usize],
 ) {
     match showing_at(marks, numbers, g.count, line) {
-        Showing::Shown => say_shown(text, line, g, lent, a, b, marks, numbers, starts),
-        Showing::Refused => say_refused(g, line, lent, a, b),
-        Showing::Other => say_other(line),
+        Showing::Shown => say_shown(out, text, line, g, lent, a, b, marks, numbers, starts),
+        Showing::Refused => say_refused(out, g, line, lent, a, b),
+        Showing::Other => say_other(out, line),
     }
 }
 
@@ -206,8 +218,7 @@ fn walk_lines(text: &[u8], k: usize) -> Walk
 {
     let mut s = waiting();
     let mut at = 0;
-    let mut n = 0;
-    while n < k {
+    for n in 0..k {
         let end = line_end(text, at);
         if end - at >= CHUNK {
             return walked(Reach::Long, s, n, at, at);
@@ -221,9 +232,8 @@ fn walk_lines(text: &[u8], k: usize) -> Walk
         }
         s = after;
         at = end + 1;
-        n += 1;
     }
-    walked(Reach::Whole, s, n, at, at)
+    walked(Reach::Whole, s, k, at, at)
 }
 
 fn walked(reach: Reach, s: Sitting, lines: usize, from: usize, to: usize) -> Walk
@@ -239,39 +249,48 @@ fn walked(reach: Reach, s: Sitting, lines: usize, from: usize, to: usize) -> Wal
 }
 
 // Bytes after the last newline are no line, which is said where they may be meant.
-fn say_fewer(w: Walk, line: usize)
+fn say_fewer(out: &impl Print, w: Walk, line: usize)
     requires { w.lines ≤ 1048576 }
 {
     if w.from < w.to {
         say_cut(w.lines as u64 + 1);
     }
-    say_none(line);
+    say_none(out, line);
 }
 
 // What `desk run` says of the line that ends the journal.
-fn say_ended(text: &[u8], w: Walk, lent: Lent, a: &[u8], b: &[u8])
+fn say_ended(out: &impl Print, text: &[u8], w: Walk, lent: Lent, a: &[u8], b: &[u8])
     requires { (w.from ≤ w.to) × (w.to ≤ length text.now) × (w.lines ≤ 1048576) }
 {
     let from = w.from;
     let to = w.to;
     let s = w.sitting;
-    let mut out = [0u8; SPOKEN];
-    let h = hear(s, &text[from..to], w.lines as u64 + 1, lent, a, b, &mut out);
+    let mut said = [0u8; SPOKEN];
+    let h = hear(
+        s,
+        &text[from..to],
+        w.lines as u64 + 1,
+        lent,
+        a,
+        b,
+        &mut said,
+    );
     let n = h.size;
-    write(&out[..n]);
+    print(out, &said[..n]);
 }
 
-fn say_long(lines: usize)
+fn say_long(out: &impl Print, lines: usize)
     requires { lines ≤ 1048576 }
 {
-    let mut out = [0u8; SPOKEN];
-    let n = long_text(lines as u64 + 1, &mut out);
-    write(&out[..n]);
+    let mut said = [0u8; SPOKEN];
+    let n = long_text(lines as u64 + 1, &mut said);
+    print(out, &said[..n]);
 }
 
 // Of what is in the way the first is said, by lines: a call too many, or a line that ends the
 // journal, which is not gathered.
 fn audit_into(
+    out: &impl Print,
     text: &[u8],
     line: usize,
     lent: Lent,
@@ -286,30 +305,31 @@ fn audit_into(
     let w = walk_lines(text, line);
     let g = gather(text, w.lines, lent, a, b, marks, numbers, starts);
     if g.count >= CALLS {
-        say_many();
+        say_many(out);
         return;
     }
     let reach = w.reach;
     match reach {
-        Reach::Whole => audit_line(text, line, g, lent, a, b, marks, numbers, starts),
-        Reach::Fewer => say_fewer(w, line),
-        Reach::Ends => say_ended(text, w, lent, a, b),
-        Reach::Long => say_long(w.lines),
+        Reach::Whole => audit_line(out, text, line, g, lent, a, b, marks, numbers, starts),
+        Reach::Fewer => say_fewer(out, w, line),
+        Reach::Ends => say_ended(out, text, w, lent, a, b),
+        Reach::Long => say_long(out, w.lines),
     }
 }
 
 // The first n bytes of what was read.
-fn audit_text(whole: &[u8], n: usize, line: usize, lent: Lent, a: &[u8], b: &[u8])
+fn audit_text(out: &impl Print, whole: &[u8], n: usize, line: usize, lent: Lent, a: &[u8], b: &[u8])
     requires { (n ≤ length whole.now) × (n ≤ 1048576) }
 {
     if line == 0 {
-        say_none(line);
+        say_none(out, line);
         return;
     }
     let mut marks = [0u64; CALLS];
     let mut numbers = [0usize; CALLS];
     let mut starts = [0usize; CALLS];
     audit_into(
+        out,
         &whole[..n],
         line,
         lent,
@@ -325,39 +345,36 @@ fn audit_text(whole: &[u8], n: usize, line: usize, lent: Lent, a: &[u8], b: &[u8
 
 // Says that there is more of a journal: it does not fit, or, where the buffer is not full, a read
 // before this one has failed.
-fn say_left(name: &[u8], full: bool) {
-    if full {
-        say_long_text();
+fn say_left(out: &impl Print, name: &[u8], full: bool) {
+    if !full {
+        say_unread(name);
         return;
     }
-    io::write_all(STDERR_FILENO, name);
-    io::write_all(
-        STDERR_FILENO,
-        b": it could not be read to its end: try again\n",
-    );
+    say_long_text(out);
 }
 
 // Whether a journal has been read to its end; else what is left, or what failed, is said.
-fn is_held(fd: i32, name: &[u8], full: bool) -> bool {
+fn is_held(input: &mut impl Read, out: &impl Print, name: &[u8], full: bool) -> bool {
     let mut more = [0u8; 1];
-    let left = libc::read(fd, &mut more);
-    if left < 0 {
-        os::fail(name);
+    match got(name, input.read(&mut more)) {
+        Some(0) => true,
+        Some(_) => {
+            say_left(out, name, full);
+            false
+        }
+        None => false,
     }
-    if left > 0 {
-        say_left(name, full);
-    }
-    left == 0
 }
 
-fn read_into(fd: i32, journal: &mut [u8; TEXT]) -> usize
+fn read_into(input: &mut impl Read, journal: &mut [u8; TEXT]) -> usize
     ensures { result ≤ 1048576 }
 {
-    io::read_full(fd, journal)
+    read_full(input, journal)
 }
 
 fn audit_read(
-    fd: i32,
+    input: &mut impl Read,
+    out: &impl Print,
     name: &[u8],
     line: usize,
     lent: Lent,
@@ -365,48 +382,71 @@ fn audit_read(
     b: &[u8],
     journal: &mut [u8; TEXT],
 ) {
-    let n = read_into(fd, journal);
-    if is_held(fd, name, n == TEXT) {
-        audit_text(journal, n, line, lent, a, b);
+    let n = read_into(input, journal);
+    if is_held(input, out, name, n == TEXT) {
+        audit_text(out, journal, n, line, lent, a, b);
     }
 }
 
-fn audit_over(fd: i32, name: &[u8], line: usize, lent: Lent, a: &[u8], b: &[u8]) {
+fn audit_over(
+    input: &mut impl Read,
+    out: &impl Print,
+    name: &[u8],
+    line: usize,
+    lent: Lent,
+    a: &[u8],
+    b: &[u8],
+) {
     let mut journal = [0u8; TEXT];
-    audit_read(fd, name, line, lent, a, b, &mut journal);
+    audit_read(input, out, name, line, lent, a, b, &mut journal);
 }
 
-fn audit_named(name: &[u8], line: usize, lent: Lent, a: &[u8], b: &[u8]) {
+fn audit_named(
+    rt: &(impl Files + Input + Print),
+    name: &[u8],
+    line: usize,
+    lent: Lent,
+    a: &[u8],
+    b: &[u8],
+) {
     if is_dash(name) {
-        audit_over(STDIN_FILENO, b"standard input", line, lent, a, b);
+        audit_over(&mut rt.reader(), rt, b"standard input", line, lent, a, b);
         return;
     }
-    let fd = os::open_read(name);
-    if fd < 0 {
-        os::fail(name);
-        return;
+    if let Some(mut file) = opened(rt, name) {
+        audit_over(&mut file, rt, name, line, lent, a, b);
     }
-    audit_over(fd, name, line, lent, a, b);
-    libc::close(fd);
 }
 
-fn audit_from(f: Files, line: usize, whole: &[u8])
+fn audit_from(rt: &(impl Files + Env + Input + Print), f: Loaded, line: usize, whole: &[u8])
     requires { (f.first ≤ f.all) × (f.all ≤ length whole.now) }
 {
     let first = f.first;
     let all = f.all;
     let lent = f.lent;
     let mut name = [0u8; NAME];
-    let n = argument(2, &mut name);
+    let n = argument(rt, 2, &mut name);
     if n > 0 {
-        audit_named(&name[..n], line, lent, &whole[..first], &whole[first..all]);
+        audit_named(
+            rt,
+            &name[..n],
+            line,
+            lent,
+            &whole[..first],
+            &whole[first..all],
+        );
     }
 }
 
-fn audit_with(pair: bool, line: usize, files: &mut [u8; YEAR_MOST]) {
-    let f = load(pair, files);
+fn audit_with(
+    rt: &(impl Files + Env + Input + Print),
+    pair: bool,
+    line: usize,
+    files: &mut [u8; YEAR_MOST],
+) {
+    let f = load(rt, pair, files);
     if f.good {
-        audit_from(f, line, files);
+        audit_from(rt, f, line, files);
     }
 }
 
@@ -430,21 +470,21 @@ fn asked_by(n: Number) -> Asked {
     }
 }
 
-fn asked_in(i: usize) -> Asked {
+fn asked_in(env: &impl Env, i: usize) -> Asked {
     let mut word = [0u8; NAME];
-    let n = os::arg(i, &mut word);
+    let n = arg(env, i, &mut word);
     asked_by(number_in(&word[..n]))
 }
 
 // Audits the journal that argument 2 names at the line of the last argument, over the year file of
 // argument 3, or over the record and the month file of arguments 3 and 4.
-pub fn audit(pair: bool) {
+pub fn audit(rt: &(impl Files + Env + Input + Print), pair: bool) {
     let last = if pair { 5usize } else { 4usize };
-    let asked = asked_in(last);
+    let asked = asked_in(rt, last);
     if !asked.good {
         usage();
         return;
     }
     let mut files = [0u8; YEAR_MOST];
-    audit_with(pair, asked.line, &mut files);
+    audit_with(rt, pair, asked.line, &mut files);
 }

@@ -1,15 +1,18 @@
 // The files that showings are made from: a year file, or an F2 record and a month file.
-ghost use Rattle.std.specs.Prelude.{◌+◌, ◌≤◌, length};
+ghost use Rattle.std.specs.Prelude.{◌≡◌, ◌+◌, ◌≤◌, length};
 
+use crate::failure::{got, say_unread};
 use crate::name::{NAME, argument};
-use libc::STDERR_FILENO;
 use packing::YEAR_MOST;
+use std::io::Read;
+use std::rt::{Env, Files};
+use system::{STDERR, opened, read_full};
 use worksheet::showing::Lent;
 
 // What stands in the buffer: the year file or the record up to `first`, the month file from there
 // up to `all`.
 #[derive(Clone, Copy)]
-pub(crate) struct Files {
+pub(crate) struct Loaded {
     pub lent: Lent,
     pub first: usize,
     pub all: usize,
@@ -17,33 +20,30 @@ pub(crate) struct Files {
 }
 
 // Whether a file has been read to its end; else what is left, or what failed, is said.
-fn is_whole(fd: i32, name: &[u8], full: bool) -> bool {
+fn is_whole(file: &mut impl Read, name: &[u8], full: bool) -> bool {
     let mut more = [0u8; 1];
-    let left = libc::read(fd, &mut more);
-    if left < 0 {
-        os::fail(name);
+    match got(name, file.read(&mut more)) {
+        Some(0) => true,
+        Some(_) => {
+            say_more(name, full);
+            false
+        }
+        None => false,
     }
-    if left > 0 {
-        say_more(name, full);
-    }
-    left == 0
 }
 
 // Says that there is more of a file: it does not fit, or, where the buffer is not full, a read
 // before this one has failed.
 fn say_more(name: &[u8], full: bool) {
-    io::write_all(STDERR_FILENO, name);
-    if full {
-        io::write_all(
-            STDERR_FILENO,
-            b": too long: desk takes files of at most 1048576 bytes, a pair's together\n",
-        );
-    } else {
-        io::write_all(
-            STDERR_FILENO,
-            b": it could not be read to its end: try again\n",
-        );
+    if !full {
+        say_unread(name);
+        return;
     }
+    io::write_all(STDERR, name);
+    io::write_all(
+        STDERR,
+        b": too long: desk takes files of at most 1048576 bytes, a pair's together\n",
+    );
 }
 
 // Where a file that is read into the buffer ends, and whether it was read whole.
@@ -53,67 +53,76 @@ struct Got {
     good: bool,
 }
 
+// Nothing of a file, which would have begun at the place `at`.
+fn nothing(at: usize) -> Got
+    ensures { result.end ≡ at }
+{
+    Got {
+        end: at,
+        good: false,
+    }
+}
+
 // Reads a file into the buffer from the place `at` on, and gives how many bytes were read.
-fn read_at(fd: i32, buffer: &mut [u8], at: usize) -> usize
+fn read_at(file: &mut impl Read, buffer: &mut [u8], at: usize) -> usize
     requires { at ≤ length buffer.old }
     ensures { at + result ≤ length buffer.old }
 {
-    io::read_full(fd, &mut buffer[at..])
+    read_full(file, &mut buffer[at..])
 }
 
-// The file of this name, into the buffer from the place `at` on.
-fn read_named(name: &[u8], at: usize, buffer: &mut [u8]) -> Got
+// An open file, into the buffer from the place `at` on.
+fn read_open(file: &mut impl Read, name: &[u8], at: usize, buffer: &mut [u8]) -> Got
     requires { at ≤ length buffer.old }
     ensures { (at ≤ result.end) × (result.end ≤ length buffer.old) }
 {
-    let fd = os::open_read(name);
-    if fd < 0 {
-        os::fail(name);
-        return Got {
-            end: at,
-            good: false,
-        };
-    }
-    let got = read_at(fd, buffer, at);
-    let good = is_whole(fd, name, at + got == buffer.len());
-    libc::close(fd);
+    let size = read_at(file, buffer, at);
+    let good = is_whole(file, name, at + size == buffer.len());
     Got {
-        end: at + got,
+        end: at + size,
         good: good,
     }
 }
 
+// The file of this name, into the buffer from the place `at` on.
+fn read_named(files: &impl Files, name: &[u8], at: usize, buffer: &mut [u8]) -> Got
+    requires { at ≤ length buffer.old }
+    ensures { (at ≤ result.end) × (result.end ≤ length buffer.old) }
+{
+    match opened(files, name) {
+        Some(mut file) => read_open(&mut file, name, at, buffer),
+        None => nothing(at),
+    }
+}
+
 // The file that argument i names, into the buffer from the place `at` on.
-fn read_file(i: usize, at: usize, buffer: &mut [u8]) -> Got
+fn read_file(rt: &(impl Files + Env), i: usize, at: usize, buffer: &mut [u8]) -> Got
     requires { at ≤ length buffer.old }
     ensures { (at ≤ result.end) × (result.end ≤ length buffer.old) }
 {
     let mut name = [0u8; NAME];
-    let n = argument(i, &mut name);
+    let n = argument(rt, i, &mut name);
     if n == 0 {
-        return Got {
-            end: at,
-            good: false,
-        };
+        return nothing(at);
     }
-    read_named(&name[..n], at, buffer)
+    read_named(rt, &name[..n], at, buffer)
 }
 
-fn load_pair(buffer: &mut [u8]) -> Files
+fn load_pair(rt: &(impl Files + Env), buffer: &mut [u8]) -> Loaded
     ensures { (result.first ≤ result.all) × (result.all ≤ length buffer.old) }
 {
-    let a = read_file(3, 0, buffer);
+    let a = read_file(rt, 3, 0, buffer);
     let first = a.end;
     if !a.good {
-        return Files {
+        return Loaded {
             lent: Lent::Pair,
             first: first,
             all: first,
             good: false,
         };
     }
-    let b = read_file(4, first, buffer);
-    Files {
+    let b = read_file(rt, 4, first, buffer);
+    Loaded {
         lent: Lent::Pair,
         first: first,
         all: b.end,
@@ -121,11 +130,11 @@ fn load_pair(buffer: &mut [u8]) -> Files
     }
 }
 
-fn load_year(buffer: &mut [u8]) -> Files
+fn load_year(rt: &(impl Files + Env), buffer: &mut [u8]) -> Loaded
     ensures { (result.first ≤ result.all) × (result.all ≤ length buffer.old) }
 {
-    let a = read_file(3, 0, buffer);
-    Files {
+    let a = read_file(rt, 3, 0, buffer);
+    Loaded {
         lent: Lent::Year,
         first: a.end,
         all: a.end,
@@ -135,11 +144,11 @@ fn load_year(buffer: &mut [u8]) -> Files
 
 // The year file that argument 3 names, or, where a pair is meant, the record and the month file
 // that it and the next one name.
-pub(crate) fn load(pair: bool, buffer: &mut [u8; YEAR_MOST]) -> Files
+pub(crate) fn load(rt: &(impl Files + Env), pair: bool, buffer: &mut [u8; YEAR_MOST]) -> Loaded
     ensures { (result.first ≤ result.all) × (result.all ≤ 1048576) }
 {
     if pair {
-        return load_pair(buffer);
+        return load_pair(rt, buffer);
     }
-    load_year(buffer)
+    load_year(rt, buffer)
 }

@@ -3,14 +3,19 @@
 ghost use Rattle.std.specs.Prelude.{◌≡◌, ◌+◌, ◌≤◌, ◌<◌, length};
 ghost use Rattle.io.specs.Counts.{IsPrefixLen};
 
+use crate::failure::got;
 use crate::name::join;
-use libc::{STDERR_FILENO, STDOUT_FILENO};
 use listing::spoken::SPOKEN;
 use sitting::{Sitting, Stage, hear, pass, waiting};
+use std::io::{Print, Read};
+use system::{STDERR, print};
 use worksheet::showing::Lent;
 
 // A line of a journal has fewer bytes than this.
 pub(crate) const CHUNK: usize = 65536;
+
+// More turns of reading or answering than any run takes.
+const TURNS: u64 = 0x100_0000_0000;
 
 #[derive(Clone, Copy)]
 pub(crate) enum State {
@@ -62,24 +67,20 @@ fn line_end(buffer: &[u8], from: usize, to: usize) -> usize
     requires { (from ≤ to) × (to ≤ length buffer.now) }
     ensures { (from ≤ result) × (result ≤ to) }
 {
-    let mut i = from;
-    while i < to {
+    for i in from..to {
         if buffer[i] == b'\n' {
             return i;
         }
-        i += 1;
     }
-    i
+    to
 }
 
 // Moves the bytes of a line that is not whole yet to the start of the buffer.
 fn shift(buffer: &mut [u8], from: usize, to: usize)
     requires { (from ≤ to) × (to ≤ length buffer.old) }
 {
-    let mut i = from;
-    while i < to {
+    for i in from..to {
         buffer[i - from] = buffer[i];
-        i += 1;
     }
 }
 
@@ -91,45 +92,31 @@ struct Filled {
 }
 
 // Reads once; where that fails it is said.
-fn read_once(fd: i32, name: &[u8], rest: &mut [u8]) -> Filled
+fn read_once(input: &mut impl Read, name: &[u8], rest: &mut [u8]) -> Filled
     ensures { result.size ≤ length rest.new }
 {
-    let got = libc::read(fd, rest);
-    let size = io::count(got, rest);
-    if got < 0 {
-        os::fail(name);
-        return Filled {
-            size: size,
-            state: State::Failed,
-        };
-    }
-    if size == 0 {
-        return Filled {
-            size: size,
+    match got(name, input.read(rest)) {
+        Some(0) => Filled {
+            size: 0,
             state: State::Done,
-        };
-    }
-    Filled {
-        size: size,
-        state: State::Going,
+        },
+        Some(size) => Filled {
+            size: size,
+            state: State::Going,
+        },
+        None => Filled {
+            size: 0,
+            state: State::Failed,
+        },
     }
 }
 
 // Reads behind the first n bytes.
-fn fill(fd: i32, name: &[u8], buffer: &mut [u8], n: usize) -> Filled
+fn fill(input: &mut impl Read, name: &[u8], buffer: &mut [u8], n: usize) -> Filled
     requires { n ≤ length buffer.old }
     ensures { n + result.size ≤ length buffer.old }
 {
-    read_once(fd, name, &mut buffer[n..])
-}
-
-// Whether all of it could be written to standard output; else what failed is said.
-pub(crate) fn write(text: &[u8]) -> bool {
-    let done = io::write_all(STDOUT_FILENO, text);
-    if !done {
-        os::fail(b"standard output");
-    }
-    done
+    read_once(input, name, &mut buffer[n..])
 }
 
 // What a line leaves, and whether what is said of it could be written.
@@ -139,12 +126,20 @@ struct Next {
     good: bool,
 }
 
-fn spoken_line(s: Sitting, line: &[u8], number: u64, lent: Lent, a: &[u8], b: &[u8]) -> Next {
+fn spoken_line(
+    out: &impl Print,
+    s: Sitting,
+    line: &[u8],
+    number: u64,
+    lent: Lent,
+    a: &[u8],
+    b: &[u8],
+) -> Next {
     let mut text = [0u8; SPOKEN];
     let h = hear(s, line, number, lent, a, b, &mut text);
     let n = h.size;
     let after = h.sitting;
-    let good = write(&text[..n]);
+    let good = print(out, &text[..n]);
     Next {
         sitting: after,
         good: good,
@@ -194,6 +189,7 @@ fn moved_on(v: Ran, after: Sitting, end: usize) -> Ran
 }
 
 fn next_line(
+    out: &impl Print,
     s: Sitting,
     line: &[u8],
     number: u64,
@@ -203,13 +199,22 @@ fn next_line(
     b: &[u8],
 ) -> Next {
     if speak {
-        return spoken_line(s, line, number, lent, a, b);
+        return spoken_line(out, s, line, number, lent, a, b);
     }
     silent_line(s, line)
 }
 
 // The line up to `end` is answered, aloud or not, and leaves a sitting, unless it ends the journal.
-fn line_turn(v: Ran, buffer: &[u8], end: usize, speak: bool, lent: Lent, a: &[u8], b: &[u8]) -> Ran
+fn line_turn(
+    out: &impl Print,
+    v: Ran,
+    buffer: &[u8],
+    end: usize,
+    speak: bool,
+    lent: Lent,
+    a: &[u8],
+    b: &[u8],
+) -> Ran
     requires from_le_end { (v.from ≤ end) × (end < v.to) × (v.to ≤ 65536) }
     requires lines_bound { (v.lines < 1099511627776) × (v.bytes < 72057594037927936) }
     requires to_in_bounds { v.to ≤ length buffer.now }
@@ -218,7 +223,16 @@ fn line_turn(v: Ran, buffer: &[u8], end: usize, speak: bool, lent: Lent, a: &[u8
 {
     let from = v.from;
     let before = v.sitting;
-    let next = next_line(before, &buffer[from..end], v.lines + 1, speak, lent, a, b);
+    let next = next_line(
+        out,
+        before,
+        &buffer[from..end],
+        v.lines + 1,
+        speak,
+        lent,
+        a,
+        b,
+    );
     if !next.good {
         return placed(v, from, end, State::Failed);
     }
@@ -230,7 +244,7 @@ fn line_turn(v: Ran, buffer: &[u8], end: usize, speak: bool, lent: Lent, a: &[u8
 }
 
 // No line is whole: more is read.
-fn fill_turn(v: Ran, fd: i32, name: &[u8], buffer: &mut [u8; CHUNK]) -> Ran
+fn fill_turn(v: Ran, input: &mut impl Read, name: &[u8], buffer: &mut [u8; CHUNK]) -> Ran
     requires { (v.from ≤ v.to) × (v.to ≤ 65536) }
     ensures from_le_to { (result.from ≤ result.to) × (result.to ≤ 65536) }
     ensures lines_value { (result.lines ≡ v.lines) × (result.bytes ≡ v.bytes) }
@@ -240,14 +254,15 @@ fn fill_turn(v: Ran, fd: i32, name: &[u8], buffer: &mut [u8; CHUNK]) -> Ran
     if n == CHUNK {
         return placed(v, 0, n, State::Long);
     }
-    let filled = fill(fd, name, buffer, n);
+    let filled = fill(input, name, buffer, n);
     let state = filled.state;
     placed(v, 0, n + filled.size, state)
 }
 
 fn turn(
+    input: &mut impl Read,
+    out: &impl Print,
     v: Ran,
-    fd: i32,
     name: &[u8],
     speak: bool,
     lent: Lent,
@@ -262,9 +277,9 @@ fn turn(
 {
     let end = line_end(buffer, v.from, v.to);
     if end < v.to {
-        return line_turn(v, buffer, end, speak, lent, a, b);
+        return line_turn(out, v, buffer, end, speak, lent, a, b);
     }
-    fill_turn(v, fd, name, buffer)
+    fill_turn(v, input, name, buffer)
 }
 
 fn begun() -> Ran
@@ -281,10 +296,10 @@ fn begun() -> Ran
 }
 
 // Line by line, up to one that ends the journal, each answered on standard output or, without
-// `speak`, in silence. Nothing says that the input ends, so the turns are counted down from a
-// number that no run uses up.
+// `speak`, in silence. Nothing says that the input ends, so the turns are counted.
 pub(crate) fn hear_all(
-    fd: i32,
+    input: &mut impl Read,
+    out: &impl Print,
     name: &[u8],
     speak: bool,
     lent: Lent,
@@ -296,10 +311,8 @@ pub(crate) fn hear_all(
     ensures lines_bound { (result.lines ≤ 1099511627776) × (result.bytes ≤ 72057594037927936) }
 {
     let mut v = begun();
-    let mut turns: u64 = 0x100_0000_0000;
-    while turns > 0 {
-        turns -= 1;
-        v = turn(v, fd, name, speak, lent, a, b, buffer);
+    for _turn in 0..TURNS {
+        v = turn(input, out, v, name, speak, lent, a, b, buffer);
         let state = v.state;
         if !is_going(state) {
             return v;
@@ -321,8 +334,8 @@ pub(crate) fn long_text(number: u64, out: &mut [u8; SPOKEN]) -> usize
 
 // Says that the journal's last line was cut short.
 pub(crate) fn say_cut(number: u64) {
-    io::write_all(STDERR_FILENO, b"line ");
-    io::print_decimal(STDERR_FILENO, number);
-    io::write_all(STDERR_FILENO, b" was cut short, by a stop or a full disk: ");
-    io::write_all(STDERR_FILENO, b"it has no end, and is no call\n");
+    io::write_all(STDERR, b"line ");
+    io::print_decimal(STDERR, number);
+    io::write_all(STDERR, b" was cut short, by a stop or a full disk: ");
+    io::write_all(STDERR, b"it has no end, and is no call\n");
 }

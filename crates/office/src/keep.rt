@@ -1,112 +1,99 @@
 // What `desk say` writes: the line of a call behind the journal's others, and what was cut short
 // into a file beside it.
-ghost use Rattle.std.specs.Prelude.{◌≤◌, ◌<◌, length};
+ghost use Rattle.std.specs.Prelude.{◌≤◌, length};
 
+use crate::failure::{got, is_done};
 use crate::folder::sync_folder;
 use crate::journal::say_cut;
 use crate::name::{NAME, beside};
-use libc::{ENOENT, STDERR_FILENO};
 use listing::written::{WRITTEN, line_text};
+use std::fs::OpenFile;
+use std::io::{Error, Seek, SeekFrom, Write};
+use std::rt::Files;
+use system::{STDERR, create, fail, is_missing, open_append, open_update};
 use wording::line::line_in;
 
-// The journal open for reading and writing, made where it is missing; less than 0 where it cannot
-// be, which is said.
-pub(crate) fn open_journal(name: &[u8]) -> i32 {
-    let fd = os::open_update(name);
-    if fd >= 0 {
-        return fd;
-    }
-    if os::errno() != ENOENT {
-        os::fail(name);
-        return fd;
-    }
-    make_journal(name)
+// The journal open for reading and writing, made where it is missing; none where it cannot be,
+// which is said.
+pub(crate) fn open_journal<R: Files>(files: &R, name: &[u8]) -> Option<R::File> {
+    got(name, open_or_make(files, name))
 }
 
-fn make_journal(name: &[u8]) -> i32 {
-    let made = os::create(name);
-    if made < 0 {
-        os::fail(name);
-        return made;
+fn open_or_make<R: Files>(files: &R, name: &[u8]) -> Result<R::File, Error> {
+    match open_update(files, name) {
+        Err(error) if is_missing(&error) => {
+            create(files, name)?;
+            open_update(files, name)
+        }
+        open => open,
     }
-    libc::close(made);
-    let fd = os::open_update(name);
-    if fd < 0 {
-        os::fail(name);
-    }
-    fd
 }
 
-// Closes a file; where something failed, that is said first.
-fn closed(fd: i32, name: &[u8], good: bool) -> bool {
-    if !good {
-        os::fail(name);
-    }
-    libc::close(fd);
-    good
+// Puts bytes and a newline behind what an open file has, and on its device.
+fn put(file: &mut (impl Write + OpenFile), bytes: &[u8]) -> Result<(), Error> {
+    file.write_all(bytes)?;
+    file.write_all(b"\n")?;
+    file.sync_all()
 }
 
-// Puts bytes and a newline behind what an open file has, and gives whether they are on its device;
-// what failed is said.
-fn put(fd: i32, name: &[u8], bytes: &[u8]) -> bool {
-    let good = io::write_all(fd, bytes) && io::write_all(fd, b"\n") && libc::fsync(fd) == 0;
-    closed(fd, name, good)
+fn put_new(files: &impl Files, name: &[u8], bytes: &[u8]) -> Result<(), Error> {
+    let mut made = create(files, name)?;
+    put(&mut made, bytes)
 }
 
-// The same of a file by its name; one that is missing is made, and its name put on its device too.
-fn put_aside(name: &[u8], bytes: &[u8]) -> bool {
-    let fd = os::open_append(name);
-    if fd >= 0 {
-        return put(fd, name, bytes);
+// The same of a file by its name, and whether it is done; what failed is said. One that is missing
+// is made, and its name put on its device too.
+fn put_aside(files: &impl Files, name: &[u8], bytes: &[u8]) -> bool {
+    match open_append(files, name) {
+        Ok(mut file) => is_done(name, put(&mut file, bytes)),
+        Err(error) if is_missing(&error) => {
+            is_done(name, put_new(files, name, bytes)) && sync_folder(files, name)
+        }
+        Err(error) => {
+            fail(name, &error);
+            false
+        }
     }
-    if os::errno() != ENOENT {
-        os::fail(name);
-        return false;
-    }
-    let made = os::create(name);
-    if made < 0 {
-        os::fail(name);
-        return false;
-    }
-    put(made, name, bytes) && sync_folder(name)
 }
 
-// Whether the journal could be cut to so many bytes, and that is on its device; else what failed is
-// said.
-fn cut_back(fd: i32, name: &[u8], bytes: u64) -> bool
-    requires { bytes ≤ 72057594037927936 }
-{
-    let good = libc::ftruncate(fd, bytes as i64) == 0 && libc::fsync(fd) == 0;
-    if !good {
-        os::fail(name);
-    }
-    good
+// Cuts the journal to so many bytes, on its device.
+fn cut(journal: &impl OpenFile, bytes: u64) -> Result<(), Error> {
+    journal.set_len(bytes)?;
+    journal.sync_all()
 }
 
 // Whether the journal still has so many bytes, as when it was read; else that is said. It is another
 // than that where somebody deleted our lock, or wrote without one.
-fn is_as_read(fd: i32, name: &[u8], bytes: u64) -> bool
-    requires { bytes < 144115188075855872 }
-{
-    if libc::lseek(fd, 0, libc::SEEK_END) == bytes as i64 {
-        return true;
+fn is_as_read(journal: &mut impl Seek, name: &[u8], bytes: u64) -> bool {
+    if let Ok(size) = journal.seek(SeekFrom::End(0)) {
+        if size == bytes {
+            return true;
+        }
     }
-    io::write_all(STDERR_FILENO, name);
+    io::write_all(STDERR, name);
     io::write_all(
-        STDERR_FILENO,
+        STDERR,
         b": the journal was changed while it was read: say the call again\n",
     );
     false
 }
 
 // Takes what was cut short off the journal's end, once it is put aside in a file beside it.
-pub(crate) fn set_aside(fd: i32, name: &[u8], bytes: u64, cut: &[u8]) -> bool
-    requires { (bytes ≤ 72057594037927936) × (length cut.now ≤ 65536) }
+pub(crate) fn set_aside<R: Files>(
+    files: &R,
+    journal: &mut R::File,
+    name: &[u8],
+    bytes: u64,
+    rest: &[u8],
+) -> bool
+    requires { (bytes ≤ 72057594037927936) × (length rest.now ≤ 65536) }
 {
-    let size = cut.len() as u64;
+    let size = rest.len() as u64;
     let mut aside = [0u8; NAME];
     let n = beside(name, b".cut", &mut aside);
-    is_as_read(fd, name, bytes + size) && put_aside(&aside[..n], cut) && cut_back(fd, name, bytes)
+    is_as_read(journal, name, bytes + size)
+        && put_aside(files, &aside[..n], rest)
+        && is_done(name, cut(journal, bytes))
 }
 
 // Says that line `number` was cut short, and where it was put aside.
@@ -114,9 +101,9 @@ pub(crate) fn say_aside(name: &[u8], number: u64) {
     let mut aside = [0u8; NAME];
     let n = beside(name, b".cut", &mut aside);
     say_cut(number);
-    io::write_all(STDERR_FILENO, b"it was put aside in ");
-    io::write_all(STDERR_FILENO, &aside[..n]);
-    io::write_all(STDERR_FILENO, b"\n");
+    io::write_all(STDERR, b"it was put aside in ");
+    io::write_all(STDERR, &aside[..n]);
+    io::write_all(STDERR, b"\n");
 }
 
 // What came of a call.
@@ -134,30 +121,29 @@ pub(crate) enum Fate {
     Unsure,
 }
 
-// Whether a line could be put at the journal's end, wherever that is, and is on its device; else
-// what failed is said.
-fn append(name: &[u8], line: &[u8]) -> bool {
-    let fd = os::open_append(name);
-    if fd < 0 {
-        os::fail(name);
-        return false;
-    }
-    let good = io::write_all(fd, line) && libc::fsync(fd) == 0;
-    closed(fd, name, good)
+// Puts a line at the journal's end, wherever that is, and on its device.
+fn append(files: &impl Files, name: &[u8], line: &[u8]) -> Result<(), Error> {
+    let mut journal = open_append(files, name)?;
+    journal.write_all(line)?;
+    journal.sync_all()
 }
 
 // Puts a line behind the journal's first bytes, which are all of it. Where it cannot be on its
 // device the journal is cut back to them.
-fn append_or_cut(fd: i32, name: &[u8], bytes: u64, line: &[u8]) -> Fate
-    requires { bytes ≤ 72057594037927936 }
-{
-    if !is_as_read(fd, name, bytes) {
+fn append_or_cut<R: Files>(
+    files: &R,
+    journal: &mut R::File,
+    name: &[u8],
+    bytes: u64,
+    line: &[u8],
+) -> Fate {
+    if !is_as_read(journal, name, bytes) {
         return Fate::Failed;
     }
-    if append(name, line) {
+    if is_done(name, append(files, name, line)) {
         return Fate::Kept;
     }
-    if cut_back(fd, name, bytes) {
+    if is_done(name, cut(journal, bytes)) {
         return Fate::Failed;
     }
     Fate::Unsure
@@ -165,15 +151,19 @@ fn append_or_cut(fd: i32, name: &[u8], bytes: u64, line: &[u8]) -> Fate
 
 // Keeps the line of a call behind the journal's first bytes, written anew. A journal's first line
 // is kept once the journal's name is on its device.
-pub(crate) fn keep(fd: i32, name: &[u8], bytes: u64, line: &[u8]) -> Fate
-    requires { bytes ≤ 72057594037927936 }
-{
+pub(crate) fn keep<R: Files>(
+    files: &R,
+    journal: &mut R::File,
+    name: &[u8],
+    bytes: u64,
+    line: &[u8],
+) -> Fate {
     if bytes == 0 {
-        if !sync_folder(name) {
+        if !sync_folder(files, name) {
             return Fate::Failed;
         }
     }
     let mut text = [0u8; WRITTEN];
     let n = line_text(line_in(line), &mut text);
-    append_or_cut(fd, name, bytes, &text[..n])
+    append_or_cut(files, journal, name, bytes, &text[..n])
 }

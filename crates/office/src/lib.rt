@@ -4,6 +4,7 @@
 #![tactic(auto)]
 
 pub mod audit;
+mod failure;
 mod files;
 mod folder;
 mod journal;
@@ -15,4 +16,3 @@ pub mod run;
 pub mod say;
 pub mod standard;
 pub mod usage;
-mod wait;
