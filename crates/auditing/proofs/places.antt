@@ -1,5 +1,4 @@
 -- The calls of a journal by their places: origins, fates and the shorter list.
-pub mod Flags
 pub mod Origins
 pub mod Fates
 pub mod Drafts

@@ -1,9 +1,8 @@
 -- The lines of an audit's page, from what is gathered of a journal: of each field where it comes from, of
 -- each draft that is not in the sheet what became of it, the lines of the shorter journal, and the sheet.
 -- Assumes nothing.
-use Rattle.std.specs.Prelude.{ℕ, suc, ◌-◌, ◌%◌, ◌^◌, false, cond, List, [], ◌∷◌, eqb, get_or, Float}
+use Rattle.std.specs.Prelude.{ℕ, suc, ◌-◌, ◌%◌, ◌^◌, false, cond, List, [], ◌∷◌, eqb, get_or, Float, Err, None, Ok, Option, Some}
 use Rattle.maps.specs.declared.inputs.Inputs.{Inputs}
-use Rattle.maps.specs.declared.figures.Shown.TheVariants.{Points, Refused as NotShown}
 use Rattle.worksheet.specs.declared.desks.Worksheet.{Worksheet}
 use Rattle.worksheet.specs.declared.journal.Answer.{Answer as Handed}
 use Rattle.worksheet.specs.declared.journal.Answer.TheVariants as handed
@@ -13,8 +12,6 @@ use Rattle.wording.specs.Line.{line_in}
 use Rattle.listing.specs.declared.account.Came.{Came}
 use Rattle.listing.specs.declared.account.Came.TheVariants as came
 use Rattle.listing.specs.declared.account.Became.TheVariants as became
-use Rattle.listing.specs.declared.account.Balked.{Balked}
-use Rattle.listing.specs.declared.account.Balked.TheVariants as balked
 use Rattle.listing.specs.Account.{came_line, draft_line}
 use Rattle.listing.specs.Columns.{columns_text}
 use Rattle.listing.specs.Turn.{blank}
@@ -23,8 +20,6 @@ use Rattle.auditing.specs.declared.marks.Origin.{Origin}
 use Rattle.auditing.specs.declared.marks.Origin.TheVariants.{Opened, Set}
 use Rattle.auditing.specs.declared.marks.Fate.{Fate}
 use Rattle.auditing.specs.declared.marks.Fate.TheVariants.{Stands, TakenBack, Cancelled, Never}
-use Rattle.auditing.specs.declared.marks.Refused.{Refused}
-use Rattle.auditing.specs.declared.marks.Refused.TheVariants as refused
 use Rattle.auditing.specs.declared.accounts.Showing.{Showing}
 use Rattle.auditing.specs.declared.accounts.Showing.TheVariants as showing
 use Rattle.auditing.specs.Marks.{mark_good, mark_desk, is_done, is_showing, mark_at, origin_before, fate_from, refused_from}
@@ -73,12 +68,12 @@ field_account i opened marks numbers count k =
 
 -- ---- what became of a draft
 
-abbrev pub balked_by : List ℕ → Refused → Balked
-balked_by numbers refused.Never = balked.No
-balked_by numbers (refused.At p) = balked.At (number_at numbers p)
+abbrev pub balked_by : List ℕ → Option ℕ → Option ℕ
+balked_by numbers None = None
+balked_by numbers (Some p) = Some (number_at numbers p)
 
 -- the line of a draft of this desk by its fate: there is none where it stands
-abbrev pub fate_line : List ℕ → ℕ → ℕ → Balked → Fate → List ℕ
+abbrev pub fate_line : List ℕ → ℕ → ℕ → Option ℕ → Fate → List ℕ
 fate_line numbers n begun b (Stands s) = []
 fate_line numbers n begun b (TakenBack s t) =
     draft_line n begun b (became.TakenBack (number_at numbers s) (number_at numbers t))
@@ -89,7 +84,7 @@ fate_line numbers n begun b Never = draft_line n begun b became.Never
 unfoldable pub begun_line : List ℕ → List ℕ → ℕ → ℕ → ℕ → List ℕ
 begun_line marks numbers count n p =
     let rest = count - suc p in
-    fate_line numbers n (number_at numbers p) (balked_by numbers (refused_from marks n refused.Never (suc p) rest))
+    fate_line numbers n (number_at numbers p) (balked_by numbers (refused_from marks n None (suc p) rest))
     (fate_from marks n (suc p) rest)
 
 -- THE LINE OF A DRAFT that is not in the sheet, if the call at place p begins one
@@ -108,8 +103,8 @@ line_account text s = line_text (line_in (line_at text s))
 -- the page of a showing of the inputs i that was not refused
 abbrev pub answer_page : Inputs → Answer → List ℕ
 answer_page i (told v) = []
-answer_page i (shown (Points count) figures) = columns_text i count figures
-answer_page i (shown (NotShown why) figures) = []
+answer_page i (shown (Ok count) figures) = columns_text i count figures
+answer_page i (shown (Err why) figures) = []
 
 -- THE SHEET that a showing of the worksheet w gives; nothing where it is refused
 unfoldable pub sheet_account : Source → Worksheet → List ℕ
@@ -120,5 +115,5 @@ sheet_account source w = answer_page w.inputs (step source (show 0 blank) w).ans
 -- the same of an answer as it is handed back, with the buffer beside it
 unfoldable pub handed_page : Inputs → Handed → List Float → List ℕ
 handed_page i (handed.Told v) figures = []
-handed_page i (handed.Shown (Points count)) figures = columns_text i count figures
-handed_page i (handed.Shown (NotShown why)) figures = []
+handed_page i (handed.Shown (Ok count)) figures = columns_text i count figures
+handed_page i (handed.Shown (Err why)) figures = []

@@ -1,9 +1,7 @@
 -- What the first lines of a journal told: the open, and the calls after it with their lines. And
 -- what an audit keeps of them. Assumes nothing.
-use Rattle.std.specs.Prelude.{ℕ, suc, ◌+◌, min, ◌≤◌, ◌<◌, Bool, true, false, cond, List, [], ◌∷◌, ◌++◌, ◌≡◌, eqb, length, take, drop, get_or, set}
-use Rattle.base.specs.declared.refusal.Verdict.{Verdict}
-use Rattle.base.specs.declared.refusal.Verdict.TheVariants.{Accepted, Refused}
-use Rattle.maps.specs.declared.figures.Shown.TheVariants.{Points, Refused as NotShown}
+use Rattle.std.specs.Prelude.{ℕ, suc, ◌+◌, min, ◌≤◌, ◌<◌, Bool, true, false, cond, List, [], ◌∷◌, ◌++◌, ◌≡◌, eqb, length, take, drop, get_or, set, Err, Ok, is_ok}
+use Rattle.base.specs.Refusal.{Verdict}
 use Rattle.worksheet.specs.declared.desks.Worksheet.{Worksheet}
 use Rattle.worksheet.specs.declared.journal.Answer.{Answer as Handed}
 use Rattle.worksheet.specs.declared.journal.Answer.TheVariants as handed
@@ -51,8 +49,8 @@ pub data Told : Type 0 where
   ended : Told
 
 abbrev pub opened_told : ℕ → WrittenInputs → Verdict → Told
-opened_told n o Accepted = sits o n []
-opened_told n o (Refused why) = ended
+opened_told n o (Ok _) = sits o n []
+opened_told n o (Err why) = ended
 
 -- with line n
 abbrev pub telling : ℕ → Told → Line → Told
@@ -150,14 +148,12 @@ module _ (source : Source) (text : List ℕ) where
 
 -- whether an answer that was handed back is no refusal
 unfoldable pub handed_good : Handed → Bool
-handed_good (handed.Told Accepted) = true
-handed_good (handed.Told (Refused why)) = false
-handed_good (handed.Shown (Points count)) = true
-handed_good (handed.Shown (NotShown why)) = false
+handed_good (handed.Told v) = is_ok v
+handed_good (handed.Shown s) = is_ok s
 
 abbrev pub stage_of : Verdict → Stage
-stage_of Accepted = Sits
-stage_of (Refused why) = Ended
+stage_of (Ok _) = Sits
+stage_of (Err why) = Ended
 
 -- what is gathered of the open o alone, on line n, which begins at byte s
 unfoldable pub opened_as : WrittenInputs → ℕ → ℕ → Gathered

@@ -1,13 +1,11 @@
 -- The same by marks: of each call of a run one number, which says what it is, whose and whether it
 -- was accepted; the calls by their places. Assumes nothing.
-use Rattle.std.specs.Prelude.{ℕ, zero, suc, ◌+◌, ◌*◌, ◌/◌, ◌%◌, min, Bool, true, false, cond, not, ◌&&◌, ◌||◌, List, [], ◌∷◌, ◌++◌, eqb, ltb, length, get_or, set}
+use Rattle.std.specs.Prelude.{ℕ, zero, suc, ◌+◌, ◌*◌, ◌/◌, ◌%◌, min, Bool, true, false, cond, not, ◌&&◌, ◌||◌, List, [], ◌∷◌, ◌++◌, eqb, ltb, length, get_or, set, Option, Some}
 use Rattle.worksheet.specs.Journal.{Call, begin, commit, cancel, change, take_back, show, Entry, good}
 use Rattle.auditing.specs.declared.marks.Origin.{Origin}
 use Rattle.auditing.specs.declared.marks.Origin.TheVariants.{Opened, Set}
 use Rattle.auditing.specs.declared.marks.Fate.{Fate}
 use Rattle.auditing.specs.declared.marks.Fate.TheVariants.{Stands, TakenBack, Cancelled, Never}
-use Rattle.auditing.specs.declared.marks.Refused.{Refused}
-use Rattle.auditing.specs.declared.marks.Refused.TheVariants.{At}
 use Rattle.auditing.specs.Provenance.{edit_part}
 
 -- ---- the mark of a call: its sort, 16 more where it was accepted, and 32 times its desk
@@ -114,12 +112,12 @@ module _ (ms : List ℕ) where
       (cond (is_done_by 9 n m) (settled_from at (suc at) k) (fate_from n (suc at) k))
 
   -- the last refused commit of the draft, while it is open; `last` where there is none
-  unfoldable pub refused_from : ℕ → Refused → ℕ → ℕ → Refused
+  unfoldable pub refused_from : ℕ → Option ℕ → ℕ → ℕ → Option ℕ
   refused_from n last at zero = last
   refused_from n last at (suc k) =
       let m = mark_at ms at in
       cond (is_done_by 10 n m || is_done_by 9 n m) last
-      (refused_from n (cond (is_refused_commit n m) (At at) last) (suc at) k)
+      (refused_from n (cond (is_refused_commit n m) (Some at) last) (suc at) k)
 
   -- ---- the shorter list's places
 

@@ -1,7 +1,7 @@
 -- Where each part of the inputs in force comes from: the last standing change of it, or the open.
 -- And what became of each draft. Over a run's entries; a call's place is how many calls stand before
 -- it. Assumes nothing.
-use Rattle.std.specs.Prelude.{ℕ, suc, Bool, false, cond, not, ◌&&◌, List, [], ◌∷◌, ◌++◌, eqb, length}
+use Rattle.std.specs.Prelude.{ℕ, suc, Bool, false, cond, not, ◌&&◌, List, [], ◌∷◌, ◌++◌, eqb, length, Option, Some}
 use Rattle.worksheet.specs.declared.inputs.Edit.{Edit}
 use Rattle.worksheet.specs.declared.inputs.Edit.TheVariants.{Sunspot, Hour, Path, Psc, Pole, Month, Model}
 use Rattle.worksheet.specs.declared.desks.Worksheet.{Worksheet}
@@ -11,8 +11,6 @@ use Rattle.auditing.specs.declared.marks.Origin.{Origin}
 use Rattle.auditing.specs.declared.marks.Origin.TheVariants.{Opened, Set}
 use Rattle.auditing.specs.declared.marks.Fate.{Fate}
 use Rattle.auditing.specs.declared.marks.Fate.TheVariants.{Stands, TakenBack, Cancelled, Never}
-use Rattle.auditing.specs.declared.marks.Refused.{Refused}
-use Rattle.auditing.specs.declared.marks.Refused.TheVariants.{At}
 
 -- ---- the parts of the inputs: each change is of one of them, with all its fields
 
@@ -144,7 +142,7 @@ is_refusing n returning good = false
 is_refusing n showing good = false
 
 -- THE LAST REFUSED COMMIT of a draft of desk n, while it was open; `last` where there is none
-unfoldable pub refused_of : ℕ → Refused → ℕ → List Entry → Refused
+unfoldable pub refused_of : ℕ → Option ℕ → ℕ → List Entry → Option ℕ
 refused_of n last at [] = last
 refused_of n last at (x ∷ later) =
-    cond (ends_draft n x) last (refused_of n (cond (is_refusing n (role_in x) (good x)) (At at) last) (suc at) later)
+    cond (ends_draft n x) last (refused_of n (cond (is_refusing n (role_in x) (good x)) (Some at) last) (suc at) later)

@@ -8,11 +8,11 @@ ghost use Rattle.auditing.specs.Marks.{is_done, is_showing};
 ghost use Rattle.auditing.specs.Accounts.{number_at, desk_at, showing_by, showing_at, field_part, came_by, field_account, balked_by, fate_line, begun_line, draft_account, line_account, sheet_account, handed_page};
 
 use crate::gathering::line_end;
-use crate::marks::{Fate, Origin, Refused, fate_in, origin_in, refused_in};
-use listing::account::{ACCOUNT, Balked, Became, Came, came_line, draft_line};
+use crate::marks::{Fate, Origin, fate_in, mark_at, origin_in, refused_in};
+use listing::account::{ACCOUNT, Became, Came, came_line, draft_line};
 use listing::columns::{COLUMNS, columns_text};
 use listing::written::{WRITTEN, line_text};
-use maps::figures::{FIGURES, Shown};
+use maps::figures::FIGURES;
 use maps::inputs::Inputs;
 use wording::line::line_in;
 use worksheet::desks::Worksheet;
@@ -30,29 +30,30 @@ pub enum Showing {
     Other,
 }
 
-// The part of the inputs that each field is of, from field 1 on.
-const PARTS: [u32; 16] = [0, 1, 2, 3, 4, 4, 4, 4, 4, 5, 5, 5, 5, 6, 6, 7];
-
+// The part of the inputs that field k is of; 0 where k is not 1 to 15.
 fn field_part(k: u32) -> u32
     ensures { result ≡ field_part k }
 {
-    if k < 16 { PARTS[k as usize] } else { 0 }
+    match k {
+        1..=3 => k,
+        4..=8 => 4,
+        9..=12 => 5,
+        13 | 14 => 6,
+        15 => 7,
+        _ => 0,
+    }
 }
 
 pub(crate) fn number_at(numbers: &[usize], p: usize) -> usize
     ensures { result ≡ number_at numbers.now p }
 {
-    if p < numbers.len() { numbers[p] } else { 0 }
+    numbers.get(p).copied().unwrap_or(0)
 }
 
 fn desk_at(marks: &[u64], p: usize) -> u32
     ensures { result ≡ desk_at marks.now p }
 {
-    if p < marks.len() {
-        (marks[p] / 32 % 0x1_0000_0000) as u32
-    } else {
-        0
-    }
+    (mark_at(marks, p) / 32 % 0x1_0000_0000) as u32
 }
 
 // Whether a call is a begin that was accepted.
@@ -72,13 +73,13 @@ fn is_showing(mark: u64) -> bool
 fn showing_by(mark: u64) -> Showing
     ensures { result ≡ showing_by mark }
 {
-    if is_showing(mark) {
-        if mark / 16 % 2 == 1 {
-            return Showing::Shown;
-        }
-        return Showing::Refused;
+    if !is_showing(mark) {
+        Showing::Other
+    } else if mark / 16 % 2 == 1 {
+        Showing::Shown
+    } else {
+        Showing::Refused
     }
-    Showing::Other
 }
 
 // Whether the last of the `count` calls that were gathered stands on this line and shows the
@@ -86,17 +87,10 @@ fn showing_by(mark: u64) -> Showing
 pub fn showing_at(marks: &[u64], numbers: &[usize], count: usize, line: usize) -> Showing
     ensures { result ≡ showing_at marks.now numbers.now count line }
 {
-    if count == 0 {
+    if count == 0 || number_at(numbers, count - 1) != line {
         return Showing::Other;
     }
-    let last = count - 1;
-    if number_at(numbers, last) != line {
-        return Showing::Other;
-    }
-    if last < marks.len() {
-        return showing_by(marks[last]);
-    }
-    Showing::Other
+    showing_by(mark_at(marks, count - 1))
 }
 
 // An origin with the numbers of lines for places.
@@ -132,13 +126,10 @@ pub fn field_account(
     came_line(i, k, came, out)
 }
 
-fn balked_by(numbers: &[usize], refused: Refused) -> Balked
+fn balked_by(numbers: &[usize], refused: Option<usize>) -> Option<u64>
     ensures { result ≡ balked_by numbers.now refused }
 {
-    match refused {
-        Refused::Never => Balked::No,
-        Refused::At(p) => Balked::At(number_at(numbers, p) as u64),
-    }
+    refused.map(|p| number_at(numbers, p) as u64)
 }
 
 // Writes the line of a draft by its fate; nothing where it stands.
@@ -146,7 +137,7 @@ fn fate_line(
     numbers: &[usize],
     n: u32,
     begun: usize,
-    balked: Balked,
+    balked: Option<u64>,
     fate: Fate,
     out: &mut [u8; ACCOUNT],
 ) -> usize
@@ -201,13 +192,11 @@ pub fn draft_account(
     ensures text { take result out.new ≡ draft_account marks.now numbers.now count p }
     ensures count { IsPrefixLen result out.new }
 {
-    if p >= marks.len() {
-        return 0;
+    if is_begin(mark_at(marks, p)) {
+        begun_line(marks, numbers, count, desk_at(marks, p), p, out)
+    } else {
+        0
     }
-    if is_begin(marks[p]) {
-        return begun_line(marks, numbers, count, desk_at(marks, p), p, out);
-    }
-    0
 }
 
 // Writes the line that begins at the byte `start` of a journal's text anew, as it is kept, and
@@ -236,8 +225,8 @@ fn handed_page(
     match answer {
         Answer::Told(_) => 0,
         Answer::Shown(s) => match s {
-            Shown::Points(count) => columns_text(i, count, figures, out),
-            Shown::Refused(_) => 0,
+            Ok(count) => columns_text(i, count, figures, out),
+            Err(_) => 0,
         },
     }
 }
@@ -250,8 +239,6 @@ pub fn sheet_account(w: Worksheet, lent: Lent, a: &[u8], b: &[u8], out: &mut [u8
     ensures count { IsPrefixLen result out.new }
 {
     let mut figures = [0.0f32; FIGURES];
-    let inputs = w.inputs;
     let next = make(w, Call::Show(0), lent, a, b, &mut figures);
-    let answer = next.answer;
-    handed_page(inputs, answer, &figures, out)
+    handed_page(w.inputs, next.answer, &figures, out)
 }

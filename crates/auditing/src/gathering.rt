@@ -1,6 +1,6 @@
 // What an audit gathers from a journal's text: the calls of its first lines, made on a worksheet
 // one after the other, and of each its mark, the number of its line and where that begins.
-ghost use Rattle.std.specs.Prelude.{◌≡◌, List, ℕ, ◌+◌, ◌-◌, ◌<◌, ◌≤◌, length, take, drop, set};
+ghost use Rattle.std.specs.Prelude.{◌≡◌, List, ℕ, ◌+◌, ◌-◌, ◌<◌, ◌≤◌, length, take, drop, set, position, ◌==◌};
 ghost use Rattle.worksheet.specs.Showing.{Source, lent_as};
 ghost use Rattle.worksheet.specs.Journal.{step, entry_of};
 ghost use Rattle.worksheet.specs.Calls.{called};
@@ -12,7 +12,7 @@ ghost use Rattle.auditing.specs.Gathered.{line_at, GatheredNone, Gathers, handed
 
 use crate::marks::mark_of;
 use base::refusal::Verdict;
-use maps::figures::{FIGURES, Shown};
+use maps::figures::FIGURES;
 use wording::line::{Line, line_in};
 use wording::written::{WrittenCall, WrittenInputs, call_written, inputs_written};
 use worksheet::desks;
@@ -32,7 +32,8 @@ pub enum Stage {
 }
 
 // Where the journal sits: the worksheet after its calls, how many these are, the number of the
-// open's line, and the byte of the text where that line begins. Else no call counts.
+// open's line, and the byte of the text where that line begins. Else no call counts. A stage beside
+// them, and not their enum: the clauses of `page_part` name `g.count`.
 #[derive(Clone, Copy)]
 pub struct Gathered {
     pub stage: Stage,
@@ -40,6 +41,13 @@ pub struct Gathered {
     pub count: usize,
     pub opened: usize,
     pub start: usize,
+}
+
+// As `system` has it, on which this crate does not stand.
+fn newline_in(text: &[u8]) -> Option<usize>
+    ensures { result ≡ position (λ c. c == 10) text.now }
+{
+    text.iter().position(|c| *c == b'\n')
 }
 
 // The place of the first newline from `from` on, or the text's length where there is none: the line
@@ -50,14 +58,11 @@ pub fn line_end(text: &[u8], from: usize) -> usize
         take (result - from) (drop from s) ≡ line_at s from }
     ensures within { from ≤ length text.now → result ≤ length text.now }
 {
-    let mut k = from;
-    while k < text.len() {
-        if text[k] == b'\n' {
-            return k;
-        }
-        k += 1;
+    if from > text.len() {
+        return from;
     }
-    k
+    let rest = &text[from..];
+    from + newline_in(rest).unwrap_or(rest.len())
 }
 
 // Whether an answer is no refusal.
@@ -65,14 +70,8 @@ fn is_accepted(a: Answer) -> bool
     ensures { result ≡ handed_good a }
 {
     match a {
-        Answer::Told(v) => match v {
-            Verdict::Accepted => true,
-            Verdict::Refused(_) => false,
-        },
-        Answer::Shown(s) => match s {
-            Shown::Points(_) => true,
-            Shown::Refused(_) => false,
-        },
+        Answer::Told(v) => v.is_ok(),
+        Answer::Shown(s) => s.is_ok(),
     }
 }
 
@@ -93,30 +92,18 @@ fn made(w: Worksheet, c: WrittenCall, lent: Lent, a: &[u8], b: &[u8]) -> Marked
     let call = call_written(c);
     let mut figures = [0.0f32; FIGURES];
     let next = make(w, call, lent, a, b, &mut figures);
-    let answer = next.answer;
-    let sheet = next.sheet;
-    let mark = mark_of(call, is_accepted(answer));
     Marked {
-        sheet: sheet,
-        mark: mark,
+        sheet: next.sheet,
+        mark: mark_of(call, is_accepted(next.answer)),
     }
 }
 
-// Writes a mark at place k, if there is room.
-fn put_mark(out: &mut [u64], k: usize, mark: u64)
-    ensures { out.new ≡ set out.old k mark }
+// Writes x at place k, if there is room. By index, since over `get_mut` the proof did not close.
+fn put_at<T: Copy>(out: &mut [T], k: usize, x: T)
+    ensures { out.new ≡ set out.old k x }
 {
     if k < out.len() {
-        out[k] = mark;
-    }
-}
-
-// Writes a number at place k, if there is room.
-fn put_number(out: &mut [usize], k: usize, n: usize)
-    ensures { out.new ≡ set out.old k n }
-{
-    if k < out.len() {
-        out[k] = n;
+        out[k] = x;
     }
 }
 
@@ -124,11 +111,9 @@ fn put_number(out: &mut [usize], k: usize, n: usize)
 fn nothing() -> Gathered
     ensures { GatheredNone Stage.Waiting result }
 {
-    let first = desks::opened(b"");
-    let sheet = first.sheet;
     Gathered {
         stage: Stage::Waiting,
-        sheet: sheet,
+        sheet: desks::opened(b"").sheet,
         count: 0,
         opened: 0,
         start: 0,
@@ -138,13 +123,10 @@ fn nothing() -> Gathered
 fn ended(g: Gathered) -> Gathered
     ensures { GatheredNone Stage.Ended result }
 {
-    let sheet = g.sheet;
     Gathered {
         stage: Stage::Ended,
-        sheet: sheet,
         count: 0,
-        opened: g.opened,
-        start: g.start,
+        ..g
     }
 }
 
@@ -152,8 +134,8 @@ fn stage_of(v: Verdict) -> Stage
     ensures { result ≡ stage_of v }
 {
     match v {
-        Verdict::Accepted => Stage::Sits,
-        Verdict::Refused(_) => Stage::Ended,
+        Ok(()) => Stage::Sits,
+        Err(_) => Stage::Ended,
     }
 }
 
@@ -162,11 +144,9 @@ fn opened_as(o: WrittenInputs, n: usize, s: usize) -> Gathered
     ensures { result ≡ opened_as o n s }
 {
     let first = desks::open(inputs_written(o));
-    let verdict = first.answer;
-    let sheet = first.sheet;
     Gathered {
-        stage: stage_of(verdict),
-        sheet: sheet,
+        stage: stage_of(first.answer),
+        sheet: first.sheet,
         count: 0,
         opened: n,
         start: s,
@@ -181,11 +161,9 @@ fn with_open(g: Gathered, o: WrittenInputs, n: usize, s: usize) -> Gathered
         GoesOn source n s (line.Open o) old new }
     ensures count { result.count ≤ g.count }
 {
-    let stage = g.stage;
-    match stage {
+    match g.stage {
         Stage::Waiting => opened_as(o, n, s),
-        Stage::Sits => ended(g),
-        Stage::Ended => ended(g),
+        Stage::Sits | Stage::Ended => ended(g),
     }
 }
 
@@ -208,19 +186,16 @@ fn with_made(
         let new = gathering result marks.new numbers.new starts.new in
         new ≡ with_call source c n s old }
 {
-    let w = g.sheet;
     let k = g.count;
-    let m = made(w, c, lent, a, b);
-    let sheet = m.sheet;
-    put_mark(marks, k, m.mark);
-    put_number(numbers, k, n);
-    put_number(starts, k, s);
+    let m = made(g.sheet, c, lent, a, b);
+    put_at(marks, k, m.mark);
+    put_at(numbers, k, n);
+    put_at(starts, k, s);
     Gathered {
         stage: Stage::Sits,
-        sheet: sheet,
+        sheet: m.sheet,
         count: k + 1,
-        opened: g.opened,
-        start: g.start,
+        ..g
     }
 }
 
@@ -244,11 +219,9 @@ fn with_call(
         GoesOn source n s (line.Call c) old new }
     ensures count { result.count ≤ n }
 {
-    let stage = g.stage;
-    match stage {
-        Stage::Waiting => ended(g),
+    match g.stage {
         Stage::Sits => with_made(g, c, n, s, lent, a, b, marks, numbers, starts),
-        Stage::Ended => ended(g),
+        Stage::Waiting | Stage::Ended => ended(g),
     }
 }
 
@@ -303,15 +276,13 @@ pub fn gather(
 {
     let mut g = nothing();
     let mut at = 0;
-    let mut n = 0;
-    while n < k {
+    for n in 0..k {
         let end = line_end(text, at);
         if end >= text.len() {
             return g;
         }
-        n += 1;
         let l = line_in(&text[at..end]);
-        g = with_line(g, l, n, at, lent, a, b, marks, numbers, starts);
+        g = with_line(g, l, n + 1, at, lent, a, b, marks, numbers, starts);
         at = end + 1;
     }
     g

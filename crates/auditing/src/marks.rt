@@ -1,16 +1,18 @@
 // A mark for each call of a journal, and what the marks tell: the origin of each part of the
-// inputs, the fate of each draft and the calls of the shorter list, all by their places.
-ghost use Rattle.std.specs.Prelude.{◌≡◌, List, false, cond, ◌||◌, suc, min, ◌<◌, ◌-◌, length, take, Float};
+// inputs, the fate of each draft and the calls of the shorter list, all by their places. A mark is
+// a number, and marks, numbers of lines and starts are three lent slices: the clauses of `gather`,
+// `kept_in` and `page_part` and the results on audits speak of them so.
+ghost use Rattle.std.specs.Prelude.{◌≡◌, List, false, cond, ◌||◌, suc, min, ◌<◌, ◌-◌, length, take, Float, Some, None};
 ghost use Rattle.worksheet.specs.Calls.{called};
 ghost use Rattle.auditing.specs.Provenance.{edit_part};
 ghost use Rattle.auditing.specs.Marks.{sort_of, desk_of, mark_with, is_done, is_done_by, is_own_mark, mark_at, change_before, origin_before, settled_from, fate_from, is_refused_commit, refused_from, own_places, kept_at, kept_places, back_before, brought_by, pile, given, all_given, is_alone, is_draft_mark, draft_places};
 ghost use Rattle.auditing.specs.declared.marks.Origin.TheVariants.{Opened};
-ghost use Rattle.auditing.specs.declared.marks.Refused.TheVariants.{At};
 
 use worksheet::inputs::Edit;
 use worksheet::journal::Call;
 
-// Where a part of the inputs comes from.
+// Where a part of the inputs comes from. No Option of two places: the open is an origin too, and
+// the definitions and results on origins name both.
 #[derive(Clone, Copy)]
 pub enum Origin {
     Opened,
@@ -28,13 +30,6 @@ pub enum Fate {
     Cancelled(usize),
     // Open at the end.
     Never,
-}
-
-// Whether a draft's commit was refused, and where last.
-#[derive(Clone, Copy)]
-pub enum Refused {
-    Never,
-    At(usize),
 }
 
 fn part_of(e: Edit) -> u64
@@ -78,10 +73,10 @@ pub fn mark_of(call: Call, good: bool) -> u64
 }
 
 // Past the end there is no call, and no test passes.
-fn mark_at(marks: &[u64], k: usize) -> u64
+pub(crate) fn mark_at(marks: &[u64], k: usize) -> u64
     ensures { result ≡ mark_at marks.now k }
 {
-    if k < marks.len() { marks[k] } else { 0 }
+    marks.get(k).copied().unwrap_or(0)
 }
 
 fn is_done(sort: u64, mark: u64) -> bool
@@ -107,9 +102,7 @@ fn is_own(desk: u64, mark: u64) -> bool
 fn change_in(marks: &[u64], part: u64, desk: u64, settled: usize, j: usize) -> Origin
     ensures { result ≡ change_before marks.now part desk settled Opened j }
 {
-    let mut k = j;
-    while 0 < k {
-        k -= 1;
+    for k in (0..j).rev() {
         let mark = mark_at(marks, k);
         if is_done_by(8, desk, mark) {
             return Origin::Opened;
@@ -125,11 +118,8 @@ fn change_in(marks: &[u64], part: u64, desk: u64, settled: usize, j: usize) -> O
 fn brought_by(marks: &[u64], part: u64, back: bool, j: usize) -> Origin
     ensures { result ≡ brought_by marks.now part back j }
 {
-    if back {
-        return Origin::Opened;
-    }
     let mark = mark_at(marks, j);
-    if is_done(9, mark) {
+    if !back && is_done(9, mark) {
         change_in(marks, part, mark / 32, j, j)
     } else {
         Origin::Opened
@@ -140,10 +130,7 @@ fn brought_by(marks: &[u64], part: u64, back: bool, j: usize) -> Origin
 fn back_before(back: bool, mark: u64) -> bool
     ensures { result ≡ back_before back mark }
 {
-    if is_done(11, mark) {
-        return true;
-    }
-    if is_done(9, mark) { false } else { back }
+    is_done(11, mark) || (!is_done(9, mark) && back)
 }
 
 // Where a part of the inputs comes from, by the calls before place j.
@@ -152,9 +139,7 @@ pub fn origin_in(marks: &[u64], part: u32, j: usize) -> Origin
 {
     let sort = part as u64;
     let mut back = false;
-    let mut k = j;
-    while 0 < k {
-        k -= 1;
+    for k in (0..j).rev() {
         match brought_by(marks, sort, back, k) {
             Origin::Set(place, settled) => return Origin::Set(place, settled),
             Origin::Opened => back = back_before(back, mark_at(marks, k)),
@@ -167,8 +152,7 @@ pub fn origin_in(marks: &[u64], part: u32, j: usize) -> Origin
 fn settled_in(marks: &[u64], settled: usize, at: usize, count: usize) -> Fate
     ensures { result ≡ settled_from marks.now settled at (count - at) }
 {
-    let mut k = at;
-    while k < count {
+    for k in at..count {
         let mark = mark_at(marks, k);
         if is_done(9, mark) {
             return Fate::Stands(settled);
@@ -176,7 +160,6 @@ fn settled_in(marks: &[u64], settled: usize, at: usize, count: usize) -> Fate
         if is_done(11, mark) {
             return Fate::TakenBack(settled, k);
         }
-        k += 1;
     }
     Fate::Stands(settled)
 }
@@ -186,8 +169,7 @@ pub fn fate_in(marks: &[u64], n: u32, at: usize, count: usize) -> Fate
     ensures { result ≡ fate_from marks.now n at (count - at) }
 {
     let desk = n as u64;
-    let mut k = at;
-    while k < count {
+    for k in at..count {
         let mark = mark_at(marks, k);
         if is_done_by(10, desk, mark) {
             return Fate::Cancelled(k);
@@ -195,7 +177,6 @@ pub fn fate_in(marks: &[u64], n: u32, at: usize, count: usize) -> Fate
         if is_done_by(9, desk, mark) {
             return settled_in(marks, k, k + 1, count);
         }
-        k += 1;
     }
     Fate::Never
 }
@@ -210,40 +191,32 @@ fn is_end(desk: u64, mark: u64) -> bool
 fn is_refused_commit(desk: u64, mark: u64) -> bool
     ensures { result ≡ is_refused_commit desk mark }
 {
-    if mark % 16 == 9 {
-        if mark / 16 % 2 == 1 {
-            return false;
-        }
-        return mark / 32 == desk;
-    }
-    false
+    mark % 16 == 9 && mark / 16 % 2 != 1 && mark / 32 == desk
 }
 
 // The call at place k where it is a refused commit, else the last one before it.
-fn last_refused(last: Refused, desk: u64, mark: u64, k: usize) -> Refused
-    ensures { result ≡ cond (is_refused_commit desk mark) (At k) last }
+fn last_refused(last: Option<usize>, desk: u64, mark: u64, k: usize) -> Option<usize>
+    ensures { result ≡ cond (is_refused_commit desk mark) (Some k) last }
 {
     if is_refused_commit(desk, mark) {
-        Refused::At(k)
+        Some(k)
     } else {
         last
     }
 }
 
 // Where the commit of desk n's draft was last refused, by the calls from `at` to `count`.
-pub fn refused_in(marks: &[u64], n: u32, at: usize, count: usize) -> Refused
-    ensures { result ≡ refused_from marks.now n Refused.Never at (count - at) }
+pub fn refused_in(marks: &[u64], n: u32, at: usize, count: usize) -> Option<usize>
+    ensures { result ≡ refused_from marks.now n None at (count - at) }
 {
     let desk = n as u64;
-    let mut last = Refused::Never;
-    let mut k = at;
-    while k < count {
+    let mut last = None;
+    for k in at..count {
         let mark = mark_at(marks, k);
         if is_end(desk, mark) {
             return last;
         }
         last = last_refused(last, desk, mark, k);
-        k += 1;
     }
     last
 }
@@ -281,9 +254,7 @@ fn begin_before(marks: &[u64], desk: u64, j: usize) -> usize
     ensures { let ms = marks.now in
         own_places ms desk j ≡ draft_places ms desk result (j - result) }
 {
-    let mut k = j;
-    while 0 < k {
-        k -= 1;
+    for k in (0..j).rev() {
         if is_done_by(8, desk, mark_at(marks, k)) {
             return k;
         }
@@ -296,12 +267,9 @@ fn push_own(marks: &[u64], desk: u64, j: usize, out: &mut [usize], size: usize) 
     ensures { let own = own_places marks.now desk j in
         pile result out.new ≡ all_given own (pile size out.old) }
 {
-    let mut k = begin_before(marks, desk, j);
     let mut n = size;
-    while k < j {
-        let wanted = is_draft(desk, mark_at(marks, k));
-        n = push_if(wanted, out, n, k);
-        k += 1;
+    for k in begin_before(marks, desk, j)..j {
+        n = push_if(is_draft(desk, mark_at(marks, k)), out, n, k);
     }
     n
 }
@@ -337,10 +305,8 @@ pub fn kept_in(marks: &[u64], count: usize, out: &mut [usize]) -> usize
     ensures room { length out.new ≡ length out.old }
 {
     let mut size = 0;
-    let mut j = 0;
-    while j < count {
+    for j in 0..count {
         size = push_kept(marks, j, out, size);
-        j += 1;
     }
     size
 }

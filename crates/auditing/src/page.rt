@@ -24,12 +24,9 @@ fn laid(piece: &[u8], out: &mut [u8]) -> usize
     ensures text { take result out.new ≡ piece.now }
     ensures count { IsPrefixLen result out.new }
 {
-    let mut i: usize = 0;
-    while i < piece.len() {
-        out[i] = piece[i];
-        i += 1;
-    }
-    i
+    let n = piece.len();
+    out[..n].copy_from_slice(piece);
+    n
 }
 
 // The title, or field k.
@@ -48,9 +45,15 @@ fn fields_part(
     if k == 0 {
         return title_text(line as u64, out);
     }
-    let sheet = g.sheet;
-    let inputs = sheet.inputs;
-    field_account(inputs, g.opened, marks, numbers, g.count, k as u32, out)
+    field_account(
+        g.sheet.inputs,
+        g.opened,
+        marks,
+        numbers,
+        g.count,
+        k as u32,
+        out,
+    )
 }
 
 // Whether no draft has a line.
@@ -58,12 +61,10 @@ fn no_drafts(marks: &[u64], numbers: &[usize], count: usize) -> bool
     ensures { result ≡ no_drafts marks.now numbers.now count }
 {
     let mut piece = [0u8; ACCOUNT];
-    let mut p: usize = 0;
-    while p < count {
+    for p in 0..count {
         if draft_account(marks, numbers, count, p, &mut piece) != 0 {
             return false;
         }
-        p += 1;
     }
     true
 }
@@ -98,8 +99,7 @@ fn sheet_part(
         return more(laid(b"\nthe sheet:\n", out));
     }
     if k == 1 {
-        let sheet = g.sheet;
-        return done(sheet_account(sheet, lent, a, b, out));
+        return done(sheet_account(g.sheet, lent, a, b, out));
     }
     done(0)
 }
@@ -108,19 +108,13 @@ fn sheet_part(
 fn more(size: usize) -> Part
     ensures { result ≡ record { size = size; last = false } }
 {
-    Part {
-        size: size,
-        last: false,
-    }
+    Part { size, last: false }
 }
 
 fn done(size: usize) -> Part
     ensures { result ≡ record { size = size; last = true } }
 {
-    Part {
-        size: size,
-        last: true,
-    }
+    Part { size, last: true }
 }
 
 // The shorter journal with its heading, and what follows it.
@@ -195,9 +189,9 @@ fn drafts_part(
     shorter_part(text, g, starts, places, size, lent, a, b, j - 1, out)
 }
 
-// Writes part k of the page of a journal's text, audited at this line: `g` and the three buffers hold
-// what was gathered up to it, and the first `size` places those of the shorter list's calls. Past the
-// last part there is nothing.
+// Writes part k of the page of a journal's text, audited at this line: `g` and the three buffers
+// hold what was gathered up to it, and the first `size` places those of the shorter list's calls.
+// Past the last part there is nothing.
 pub fn page_part(
     text: &[u8],
     line: usize,
@@ -222,6 +216,8 @@ pub fn page_part(
     ensures last { result.last ≡ leb (page_size g.count size) (suc k) }
     ensures count { IsPrefixLen result.size out.new }
 {
+    // Parts go by number, and what they are of one by one: the clauses and `page_part`'s definition
+    // name each.
     if k < 16 {
         return more(fields_part(line, g, marks, numbers, k, out));
     }

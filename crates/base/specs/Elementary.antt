@@ -28,6 +28,10 @@ horner [] x = fin false 0 (pos 0)
 horner (c ∷ []) x = c
 horner (c ∷ (d ∷ cs)) x = horner (d ∷ cs) x ⊗ x ⊕ c
 
+-- the sum s so far times x, and the next term
+abbrev pub turn : Float → Float → Float → Float
+turn x s c = s ⊗ x ⊕ c
+
 unfoldable pub factorial : ℕ → ℕ
 factorial zero = 1
 factorial (suc n) = suc n * factorial n

@@ -1,7 +1,6 @@
 -- The lent files as a whole: the checks before they are used. Assumes nothing.
-use Rattle.std.specs.Prelude.{ℕ, cond, List, length, nat_le}
-use Rattle.base.specs.declared.refusal.Verdict.{Verdict}
-use Rattle.base.specs.declared.refusal.Verdict.TheVariants.{Refused}
+use Rattle.std.specs.Prelude.{ℕ, cond, List, length, nat_le, Err}
+use Rattle.base.specs.Refusal.{Verdict}
 use Rattle.base.specs.declared.refusal.Refusal.TheVariants.{Record}
 use Rattle.base.specs.Refusal.{◌then◌}
 use Rattle.base.specs.MonthFile.{record_size, month_record_check, month_file_check}
@@ -21,7 +20,7 @@ unfoldable pub files_check : List ℕ → List ℕ → Verdict
 files_check f2 month =
     cond (nat_le record_size (length f2))
     (month_file_check month then record_words_check f2 1 then table_words_check month then index_check month)
-    (Refused Record)
+    (Err Record)
 
 -- of a `.daw` file that is to have the records of all months: 8, and 23 by any of their words, the
 -- place counting from the file's start

@@ -1,11 +1,10 @@
 -- Document 02, request 10: which words of the tables count, and the first that is no finite number.
 -- Assumes nothing.
-use Rattle.std.specs.Prelude.{ℕ, zero, suc, ◌+◌, ◌*◌, ◌≤◌, Bool, true, cond, ◌&&◌, List, [], ◌∷◌, drop}
+use Rattle.std.specs.Prelude.{ℕ, zero, suc, ◌+◌, ◌*◌, ◌≤◌, Bool, true, cond, ◌&&◌, List, [], ◌∷◌, drop, Err, Ok}
 use Rattle.std.specs.Float.Ieee.Scale.{finite}
 use Rattle.base.specs.declared.refusal.Refusal.{Refusal}
 use Rattle.base.specs.declared.refusal.Refusal.TheVariants.{RecordWord, MonthWord}
-use Rattle.base.specs.declared.refusal.Verdict.{Verdict}
-use Rattle.base.specs.declared.refusal.Verdict.TheVariants.{Accepted, Refused}
+use Rattle.base.specs.Refusal.{Verdict}
 use Rattle.base.specs.Refusal.{◌then◌}
 use Rattle.base.specs.Words.{float_at, FiniteRun}
 use Rattle.base.specs.Tables.{Table, words_in, tables, start_of, words_of, xf2cof}
@@ -15,8 +14,8 @@ use Rattle.base.specs.Tables.{Table, words_in, tables, start_of, words_of, xf2co
 -- '23, place the first such word's byte': of n words from the byte `at` on, refused as `why` says of
 -- that byte
 unfoldable pub words_check : (ℕ → Refusal) → List ℕ → ℕ → ℕ → Verdict
-words_check why s at zero = Accepted
-words_check why s at (suc n) = cond (finite (float_at s at)) (words_check why s (at + 4) n) (Refused (why at))
+words_check why s at zero = Ok tt
+words_check why s at (suc n) = cond (finite (float_at s at)) (words_check why s (at + 4) n) (Err (why at))
 
 -- 'every f32 word of the record': of so many records, one after the other
 unfoldable pub record_words_check : List ℕ → ℕ → Verdict
@@ -28,7 +27,7 @@ abbrev pub float_tables : List Table
 float_tables = drop 1 tables
 
 unfoldable pub each_check : List ℕ → List Table → Verdict
-each_check month [] = Accepted
+each_check month [] = Ok tt
 each_check month (t ∷ ts) = words_check MonthWord month t.from (words_in t) then each_check month ts
 
 -- 'and of the month file's tables, used or not': table after table, so that no marker counts

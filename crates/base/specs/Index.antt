@@ -1,9 +1,8 @@
 -- Document 01, Index check, over the words of `ikim`; and what it gives to those who index by them.
 -- Assumes nothing.
-use Rattle.std.specs.Prelude.{◌≡◌, ℕ, zero, suc, ◌+◌, ◌-◌, ◌*◌, ◌%◌, ◌<◌, ◌≤◌, Bool, true, cond, ◌&&◌, List, [], ◌∷◌, ℤ, pos, ◌-ℤ◌, ◌==◌, ◌≢◌, int_le, int_lt, slice_index, unsigned_abs}
+use Rattle.std.specs.Prelude.{◌≡◌, ℕ, zero, suc, ◌+◌, ◌-◌, ◌*◌, ◌%◌, ◌<◌, ◌≤◌, Bool, true, cond, ◌&&◌, List, [], ◌∷◌, ℤ, pos, ◌-ℤ◌, ◌==◌, ◌≢◌, int_le, int_lt, slice_index, unsigned_abs, Err, Ok}
 use Rattle.base.specs.declared.refusal.Refusal.TheVariants.{Index}
-use Rattle.base.specs.declared.refusal.Verdict.{Verdict}
-use Rattle.base.specs.declared.refusal.Verdict.TheVariants.{Accepted, Refused}
+use Rattle.base.specs.Refusal.{Verdict}
 use Rattle.base.specs.Fill.{tabulate}
 use Rattle.base.specs.Words.{word_at, integer_at}
 use Rattle.base.specs.Tables.{ikim, start_of, words_of}
@@ -56,11 +55,11 @@ good_map w rows harmonics =
 
 -- 'place the lowest bad map 1 to 6': of n maps, the first one being the map k, counted from 0
 unfoldable pub lowest_bad : List ℕ → ℕ → ℕ → Verdict
-lowest_bad month zero k = Accepted
+lowest_bad month zero k = Ok tt
 lowest_bad month (suc n) k =
     cond (good_map (ikim_at month k) (slice_index rows k) (slice_index harmonics k))
     (lowest_bad month n (k + 1))
-    (Refused (Index (k + 1)))
+    (Err (Index (k + 1)))
 
 unfoldable pub index_check : List ℕ → Verdict
 index_check month = lowest_bad month 6 0

@@ -1,10 +1,9 @@
 -- Document 01, Files: the month record of the `.daw` file, and the month file's walk. Assumes
 -- nothing.
-use Rattle.std.specs.Prelude.{◌≡◌, ℕ, ◌+◌, ◌-◌, ◌*◌, ◌/◌, ◌%◌, ◌≤◌, Bool, true, cond, List, [], ◌∷◌, ◌++◌, length, take, drop, replicate, ◌==◌, nat_le, slice_index}
+use Rattle.std.specs.Prelude.{◌≡◌, ℕ, ◌+◌, ◌-◌, ◌*◌, ◌/◌, ◌%◌, ◌≤◌, Bool, true, cond, List, [], ◌∷◌, ◌++◌, length, take, drop, replicate, ◌==◌, nat_le, slice_index, Err, Ok}
 use Rattle.std.specs.Borrow.{Bor}
 use Rattle.base.specs.declared.refusal.Refusal.TheVariants.{Record, Ended, Marker}
-use Rattle.base.specs.declared.refusal.Verdict.{Verdict}
-use Rattle.base.specs.declared.refusal.Verdict.TheVariants.{Accepted, Refused}
+use Rattle.base.specs.Refusal.{Verdict}
 use Rattle.base.specs.Refusal.{refuse_unless, ◌then◌, is_accepted}
 use Rattle.base.specs.Ranges.{month_check}
 use Rattle.base.specs.Words.{word_at}
@@ -71,11 +70,11 @@ is_right s at anything = true
 -- 'The walk goes in fours: 9 if four bytes are not there, 10 at a wrong marker, whichever comes
 -- first, with its byte place'
 unfoldable pub walk : List ℕ → ℕ → List Four → Verdict
-walk s at [] = Accepted
+walk s at [] = Ok tt
 walk s at (f ∷ fs) =
     cond (nat_le (at + 4) (length s))
-    (cond (is_right s at f) (walk s (at + 4) fs) (Refused (Marker at)))
-    (Refused (Ended at))
+    (cond (is_right s at f) (walk s (at + 4) fs) (Err (Marker at)))
+    (Err (Ended at))
 
 -- 'later bytes are ignored'
 unfoldable pub month_file_check : List ℕ → Verdict

@@ -4,7 +4,7 @@ use Rattle.std.specs.Prelude.{ℕ, Bool, ◌&&◌, ◌||◌, ◌==◌, nat_le, F
 use Rattle.std.specs.Float.Ieee.{le}
 use Rattle.base.specs.declared.angle.Degrees.{Degrees}
 use Rattle.base.specs.declared.refusal.Refusal.TheVariants.{Month, Hour, Latitude, Longitude, Model}
-use Rattle.base.specs.declared.refusal.Verdict.{Verdict}
+use Rattle.base.specs.Refusal.{Verdict}
 use Rattle.base.specs.Refusal.{refuse_unless}
 use Rattle.base.specs.Single.{decimal, minus_decimal}
 

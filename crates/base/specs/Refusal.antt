@@ -1,10 +1,12 @@
 -- The refusals of documents 01 and 02: the number and the place of each case. Assumes nothing.
-use Rattle.std.specs.Prelude.{ℕ, Bool, true, false, cond}
+use Rattle.std.specs.Prelude.{ℕ, Bool, true, false, cond, Result, Ok, Err}
 use Rattle.base.specs.declared.refusal.Refusal.{Refusal}
 use Rattle.base.specs.declared.refusal.Refusal.TheVariants.{Month, Sunspot, Hour, Latitude, Longitude, Factor, Flag, Record, Ended, Marker, RecordWord, MonthWord, Index, Figures, Table, Desk, Drafted, NoDraft, Stale, NothingEarlier, Model, Year}
 use Rattle.base.specs.declared.refusal.Report.{Report}
-use Rattle.base.specs.declared.refusal.Verdict.{Verdict}
-use Rattle.base.specs.declared.refusal.Verdict.TheVariants.{Accepted, Refused}
+
+-- the answer of a check: nothing more to say, or why it refuses
+abbrev pub Verdict : Type 0
+Verdict = Result (Unit {0}) Refusal
 
 abbrev pub pair_of : Report → ℕ × ℕ
 pair_of x = (x.0, x.1)
@@ -40,8 +42,8 @@ report_of (Year pair) = (19, pair)
 
 -- what goes by a check's answer: the value where nothing is refused, else what the refusal gives
 abbrev pub unless_refused : {A : Type 0} → Verdict → A → (Refusal → A) → A
-unless_refused Accepted x other = x
-unless_refused (Refused why) x other = other why
+unless_refused (Ok _) x other = x
+unless_refused (Err why) x other = other why
 
 -- number and place of a check's answer: 'it gives 0 and 0 exactly when nothing is refused'
 abbrev pub verdict_report : Verdict → ℕ × ℕ
@@ -51,13 +53,13 @@ abbrev pub is_accepted : Verdict → Bool
 is_accepted v = unless_refused v true (λ why. false)
 
 abbrev pub refuse_unless : Bool → Refusal → Verdict
-refuse_unless good why = cond good Accepted (Refused why)
+refuse_unless good why = cond good (Ok tt) (Err why)
 
 -- the second check, where the first one accepts: the first refusal decides
 infixr 30 ◌then◌
 abbrev pub ◌then◌ : Verdict → Verdict → Verdict
-Accepted then next = next
-Refused why then next = Refused why
+(Ok _) then next = next
+Err why then next = Err why
 
 -- the value where nothing is refused, else what was there
 abbrev pub written_over : {A : Type 0} → Verdict → A → A → A

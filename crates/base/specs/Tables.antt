@@ -1,11 +1,10 @@
 -- The 20 tables of the month file and, as number 0, the planes of the F2 record: where each stands,
 -- from the records' sizes and the shapes of the Rust's arrays, and where each entry of its array;
 -- and document 01's Table. Assumes nothing.
-use Rattle.std.specs.Prelude.{◌≡◌, ℕ, ◌+◌, ◌*◌, ◌/◌, ◌<◌, ◌≤◌, cond, List, [], ◌∷◌, ◌++◌, length, ◌==◌, nat_le, slice_index_or}
+use Rattle.std.specs.Prelude.{◌≡◌, ℕ, ◌+◌, ◌*◌, ◌/◌, ◌<◌, ◌≤◌, cond, List, [], ◌∷◌, ◌++◌, length, ◌==◌, nat_le, slice_index_or, Err}
 use Rattle.std.specs.Borrow.{Bor}
 use Rattle.base.specs.declared.refusal.Refusal.TheVariants.{Record, Table as NoTable}
-use Rattle.base.specs.declared.refusal.Verdict.{Verdict}
-use Rattle.base.specs.declared.refusal.Verdict.TheVariants.{Refused}
+use Rattle.base.specs.Refusal.{Verdict}
 use Rattle.base.specs.Refusal.{is_accepted}
 use Rattle.base.specs.MonthFile.{Part, empty_part, record_size, sizes, month_file_check}
 
@@ -204,8 +203,8 @@ part_of number = bytes_in (table_of number)
 unfoldable pub table_check : ℕ → List ℕ → List ℕ → Verdict
 table_check number f2 month =
     cond (nat_le number 20)
-    (cond (nat_le record_size (length f2)) (month_file_check month) (Refused Record))
-    (Refused NoTable)
+    (cond (nat_le record_size (length f2)) (month_file_check month) (Err Record))
+    (Err NoTable)
 
 -- 'Where this or Table refuses, the part handed back is empty'
 unfoldable pub table_part : ℕ → List ℕ → List ℕ → Part

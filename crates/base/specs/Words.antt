@@ -1,10 +1,8 @@
 -- The words of a file. Document 01: 'Words are little-endian'; a byte that is not there counts as
 -- 0. Document 02, request 10: what a word of a table is. Assumes nothing.
-use Rattle.std.specs.Prelude.{ℕ, ◌+◌, ◌*◌, ◌/◌, ◌%◌, ◌<◌, cond, T, List, [], ◌∷◌, ℤ, from_bits, slice_index, Float}
+use Rattle.std.specs.Prelude.{ℕ, ◌+◌, ◌*◌, ◌/◌, ◌%◌, ◌<◌, cond, T, List, [], ◌∷◌, ℤ, from_bits, slice_index, Float, None, Option, Some}
 use Rattle.std.specs.Float.{binary32}
 use Rattle.std.specs.Float.Ieee.Scale.{finite}
-use Rattle.base.specs.declared.words.TableWord.{TableWord}
-use Rattle.base.specs.declared.words.TableWord.TheVariants.{Finite, NotFinite}
 use Rattle.base.specs.Number.{signed_of}
 
 -- four bytes, the lowest first
@@ -23,8 +21,8 @@ unfoldable pub float_at : List ℕ → ℕ → Float
 float_at s at = from_bits binary32 (word_at s at)
 
 -- 'Reading an f32 table word must now tell a finite number from any other'
-unfoldable pub table_word_at : List ℕ → ℕ → TableWord
-table_word_at s at = cond (finite (float_at s at)) (Finite (float_at s at)) NotFinite
+unfoldable pub table_word_at : List ℕ → ℕ → Option Float
+table_word_at s at = cond (finite (float_at s at)) (Some (float_at s at)) None
 
 -- each of the n words from the byte `at` on is a finite number
 abbrev pub FiniteRun : List ℕ → ℕ → ℕ → Type 0

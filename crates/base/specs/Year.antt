@@ -1,9 +1,8 @@
 -- Document 02, request 01: a year file's directory of 14 pairs, its rules, and its parts. Assumes
 -- nothing.
-use Rattle.std.specs.Prelude.{ℕ, zero, suc, ◌+◌, ◌-◌, ◌*◌, Bool, cond, ◌&&◌, ◌||◌, List, length, take, drop, ◌==◌, nat_le, nat_lt}
+use Rattle.std.specs.Prelude.{ℕ, zero, suc, ◌+◌, ◌-◌, ◌*◌, Bool, cond, ◌&&◌, ◌||◌, List, length, take, drop, ◌==◌, nat_le, nat_lt, Err, Ok}
 use Rattle.base.specs.declared.refusal.Refusal.TheVariants.{Year}
-use Rattle.base.specs.declared.refusal.Verdict.{Verdict}
-use Rattle.base.specs.declared.refusal.Verdict.TheVariants.{Accepted, Refused}
+use Rattle.base.specs.Refusal.{Verdict}
 use Rattle.base.specs.Refusal.{◌then◌}
 use Rattle.base.specs.Ranges.{is_month, is_bit, month_check, model_check}
 use Rattle.base.specs.Words.{word_at}
@@ -48,8 +47,8 @@ keeps_rules s k = is_there s k && (is_after s k && is_within s k)
 -- '19, a pair is not wholly there or breaks a rule, place the lowest such pair from 1 to 14': of n
 -- pairs from k on
 unfoldable pub pairs_check : List ℕ → ℕ → ℕ → Verdict
-pairs_check s k zero = Accepted
-pairs_check s k (suc n) = cond (keeps_rules s k) (pairs_check s (k + 1) n) (Refused (Year (k + 1)))
+pairs_check s k zero = Ok tt
+pairs_check s k (suc n) = cond (keeps_rules s k) (pairs_check s (k + 1) n) (Err (Year (k + 1)))
 
 unfoldable pub year_check : List ℕ → Verdict
 year_check s = pairs_check s 0 14

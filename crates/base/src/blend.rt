@@ -66,12 +66,10 @@ fn blend(s: &[u8], at: usize, width: usize, w: Weights, out: &mut [f32], base: u
         × FiniteRun s.now at (2 * width) }
     ensures { out.new ≡ fill (blend_at s.now at width w) base out.old width }
 {
-    let mut i = 0usize;
-    while i < width {
+    for i in 0..width {
         let x0 = finite_word(s, at + 4 * i);
         let x1 = finite_word(s, at + 4 * (width + i));
         out[base + i] = blended(w, x0, x1);
-        i += 1;
     }
 }
 

@@ -1,11 +1,12 @@
 // Document 01's elementary functions: worked in `f64`, each operation rounded once; an `f32` call
 // widens, works and narrows.
-ghost use Rattle.std.specs.Prelude.{◌≡◌, ◌*◌, ◌^◌, ◌<◌, ◌≤◌, T, from_bits};
+ghost use Rattle.std.specs.Prelude.{◌≡◌, ◌*◌, ◌^◌, ◌<◌, ◌≤◌, T, from_bits, fold, reverse};
 ghost use Rattle.std.specs.Float.{binary64};
 ghost use Rattle.std.specs.Float.Ieee.{le, minus, of_int};
 ghost use Rattle.base.specs.Double.{◌⊕◌, fraction};
 ghost use Rattle.base.specs.Number.{abs_of};
 ghost use Rattle.base.specs.Elementary as steps;
+ghost use Rattle.base.specs.Elementary.{turn};
 ghost use Rattle.base.specs.Elementary.{near_of, quarter_of, power_of_two, turns_of, reduced_of, sin_series, cos_series, sin_at, cos_at, sin_of, cos_of, half_angle, atan_series, atan_within, atan_from, atan_of, acos_of, exp_within, exp_of, ln_series, ln_sum, ln_of, sin32_of, cos32_of, atan32_of, acos32_of, exp32_of, ln32_of};
 
 use crate::number::{abs64, is_negative, narrow, sqrt64, to_u64, widen};
@@ -84,17 +85,17 @@ const LN: [f64; 16] = [
 fn horner(t: &[f64], x: f64) -> f64
     ensures { result ≡ steps.horner t.now x }
 {
-    let mut i = t.len();
-    if i == 0 {
-        return 0.0;
+    match t.split_last() {
+        Some((highest, lower)) => from_highest(*highest, lower, x),
+        None => 0.0,
     }
-    i -= 1;
-    let mut s = t[i];
-    while 0 < i {
-        i -= 1;
-        s = s * x + t[i];
-    }
-    s
+}
+
+// The same sum, the highest term being known.
+fn from_highest(highest: f64, lower: &[f64], x: f64) -> f64
+    ensures { result ≡ fold (turn x) highest (reverse lower.now) }
+{
+    lower.iter().rev().fold(highest, |s, c| s * x + *c)
 }
 
 // y, shifted so that the nearest whole number stands in the last digits, where y is small enough.
@@ -116,7 +117,7 @@ fn quarter(y: f64) -> u64
     requires { T (le (abs_of y) (fraction 1024 1)) }
     ensures { result ≡ quarter_of (near_of y) }
 {
-    f64::to_bits(shifted(y)) % 4
+    shifted(y).to_bits() % 4
 }
 
 // v without n quarter turns.
@@ -162,28 +163,22 @@ fn cos_series(a: f64) -> f64
 fn sin_at(q: u64, a: f64) -> f64
     ensures { result ≡ sin_at q a }
 {
-    if q == 0 {
-        sin_series(a)
-    } else if q == 1 {
-        cos_series(a)
-    } else if q == 2 {
-        -sin_series(a)
-    } else {
-        -cos_series(a)
+    match q {
+        0 => sin_series(a),
+        1 => cos_series(a),
+        2 => -sin_series(a),
+        _ => -cos_series(a),
     }
 }
 
 fn cos_at(q: u64, a: f64) -> f64
     ensures { result ≡ cos_at q a }
 {
-    if q == 0 {
-        cos_series(a)
-    } else if q == 1 {
-        -sin_series(a)
-    } else if q == 2 {
-        -cos_series(a)
-    } else {
-        sin_series(a)
+    match q {
+        0 => cos_series(a),
+        1 => -sin_series(a),
+        2 => -cos_series(a),
+        _ => sin_series(a),
     }
 }
 
@@ -195,7 +190,7 @@ pub fn sin64(v: f64) -> f64
         let t = split(v);
         sin_at(t.quarter, t.rest)
     } else {
-        0.0 / 0.0
+        f64::NAN
     }
 }
 
@@ -208,7 +203,7 @@ pub fn cos64(v: f64) -> f64
         let t = split(v);
         cos_at(t.quarter, t.rest)
     } else {
-        0.0 / 0.0
+        f64::NAN
     }
 }
 
@@ -260,7 +255,7 @@ pub fn acos64(v: f64) -> f64
     if abs64(v) <= 1.0 {
         2.0 * atan64(sqrt64((1.0 - v) / (1.0 + v)))
     } else {
-        0.0 / 0.0
+        f64::NAN
     }
 }
 
@@ -271,7 +266,7 @@ fn power_up(k: u64) -> f64
     if k < 1024 {
         f64::from_bits((k + 1023) * 0x10_0000_0000_0000)
     } else {
-        1.0 / 0.0
+        f64::INFINITY
     }
 }
 
@@ -313,7 +308,7 @@ pub fn exp64(v: f64) -> f64
     ensures { result ≡ exp_of v }
 {
     if v > 700.0 {
-        1.0 / 0.0
+        f64::INFINITY
     } else if v < -700.0 {
         0.0
     } else {
@@ -375,15 +370,15 @@ fn ln_bits(b: u64) -> f64
 pub fn ln64(x: f64) -> f64
     ensures { result ≡ ln_of x }
 {
-    if x != x {
+    if x.is_nan() {
         return x;
     }
-    let b = f64::to_bits(x);
+    let b = x.to_bits();
     if b % 0x8000_0000_0000_0000 == 0 {
-        return -1.0 / 0.0;
+        return f64::NEG_INFINITY;
     }
     if b > 0x8000_0000_0000_0000 {
-        return 0.0 / 0.0;
+        return f64::NAN;
     }
     if b == 0x7ff0_0000_0000_0000 {
         return x;

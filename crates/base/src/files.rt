@@ -1,5 +1,6 @@
 // The record and the month file, lent as two or parts of a year file, as a whole: the checks before
-// they are used, and the arrays that a sheet reads from them. A refusal leaves the arrays as they are.
+// they are used, and the arrays that a sheet reads from them. A refusal leaves the arrays as they
+// are.
 ghost use Rattle.std.specs.Prelude.{◌≡◌};
 ghost use Rattle.base.specs.Refusal.{written_over};
 ghost use Rattle.base.specs.Index.{index_of};
@@ -10,36 +11,32 @@ use crate::blend::{HeightMap, LandMap, SixMaps, cofion_of, fakmap_of, hmym_of};
 use crate::finite::{record_words_check, table_words_check};
 use crate::index::{IndexTable, index_check, index_of};
 use crate::month_file::{RECORD, month_file_check, month_record_check};
-use crate::refusal::{Refusal, Verdict, then};
+use crate::refusal::{Refusal, Verdict};
 
 // The verdict on a month file: 9 or 10 by its walk, then 23 by the words of its tables, then 11 by
 // its index table.
+#[tactic(auto, unfolding(crate::specs::Files::file_check))]
 pub fn file_check(month: &[u8]) -> Verdict
     ensures { result ≡ file_check month.now }
 {
-    let walked = month_file_check(month);
-    match walked {
-        Verdict::Accepted => then(table_words_check(month), index_check(month)),
-        Verdict::Refused(why) => Verdict::Refused(why),
-    }
+    month_file_check(month)?;
+    table_words_check(month)?;
+    index_check(month)
 }
 
-// The verdict on an F2 record and a month file: 8 where the record has under 7,904 bytes, 9 or 10 by
-// the month file's walk, 23 by the words of the record and then of the month file's tables, and 11.
+// The verdict on an F2 record and a month file: 8 where the record has under 7,904 bytes, 9 or 10
+// by the month file's walk, 23 by the words of the record and then of the month file's tables, and
+// 11.
 pub fn files_check(f2: &[u8], month: &[u8]) -> Verdict
     ensures { result ≡ files_check f2.now month.now }
 {
     if f2.len() < RECORD {
-        return Verdict::Refused(Refusal::Record);
+        return Err(Refusal::Record);
     }
-    let walked = month_file_check(month);
-    match walked {
-        Verdict::Accepted => {
-            let of_month = then(table_words_check(month), index_check(month));
-            then(record_words_check(f2, 1), of_month)
-        }
-        Verdict::Refused(why) => Verdict::Refused(why),
-    }
+    month_file_check(month)?;
+    record_words_check(f2, 1)?;
+    table_words_check(month)?;
+    index_check(month)
 }
 
 // The verdict on a `.daw` file that is to have the records of all months: 8 where it does not reach
@@ -47,21 +44,16 @@ pub fn files_check(f2: &[u8], month: &[u8]) -> Verdict
 pub fn daw_check(daw: &[u8]) -> Verdict
     ensures { result ≡ daw_check daw.now }
 {
-    let whole = month_record_check(daw, 12);
-    match whole {
-        Verdict::Accepted => record_words_check(daw, 12),
-        Verdict::Refused(why) => Verdict::Refused(why),
-    }
+    month_record_check(daw, 12)?;
+    record_words_check(daw, 12)
 }
 
+#[tactic(auto, unfolding(crate::specs::Files::index_file_check))]
 fn index_file_check(month: &[u8]) -> Verdict
     ensures { result ≡ index_file_check month.now }
 {
-    let walked = month_file_check(month);
-    match walked {
-        Verdict::Accepted => index_check(month),
-        Verdict::Refused(why) => Verdict::Refused(why),
-    }
+    month_file_check(month)?;
+    index_check(month)
 }
 
 // The 60 words of `ikim`, which are whole numbers, into the lent array: 9 or 10 by the month file's
@@ -71,14 +63,9 @@ pub fn index(month: &[u8], out: &mut IndexTable) -> Verdict
     ensures buffer { let m = month.now in
         out.new ≡ written_over (index_file_check m) (index_of m) out.old }
 {
-    let verdict = index_file_check(month);
-    match verdict {
-        Verdict::Accepted => {
-            index_of(month, out);
-            Verdict::Accepted
-        }
-        Verdict::Refused(why) => Verdict::Refused(why),
-    }
+    index_file_check(month)?;
+    index_of(month, out);
+    Ok(())
 }
 
 // The coefficients of the six maps at a sunspot number into the lent array, and the verdict of
@@ -89,14 +76,9 @@ pub fn cofion(f2: &[u8], month: &[u8], ssn: f32, out: &mut SixMaps) -> Verdict
         let m = month.now in
         out.new ≡ written_over (files_check f m) (cofion_of f m ssn) out.old }
 {
-    let verdict = files_check(f2, month);
-    match verdict {
-        Verdict::Accepted => {
-            cofion_of(f2, month, ssn, out);
-            Verdict::Accepted
-        }
-        Verdict::Refused(why) => Verdict::Refused(why),
-    }
+    files_check(f2, month)?;
+    cofion_of(f2, month, ssn, out);
+    Ok(())
 }
 
 // The coefficients of the height map at a sunspot number into the lent array, and the verdict of
@@ -106,14 +88,9 @@ pub fn hmym(month: &[u8], ssn: f32, out: &mut HeightMap) -> Verdict
     ensures buffer { let m = month.now in
         out.new ≡ written_over (file_check m) (hmym_of m ssn) out.old }
 {
-    let verdict = file_check(month);
-    match verdict {
-        Verdict::Accepted => {
-            hmym_of(month, ssn, out);
-            Verdict::Accepted
-        }
-        Verdict::Refused(why) => Verdict::Refused(why),
-    }
+    file_check(month)?;
+    hmym_of(month, ssn, out);
+    Ok(())
 }
 
 // The words of the land map into the lent array, and the verdict of `file_check`. Refused, the
@@ -123,14 +100,9 @@ pub fn fakmap(month: &[u8], out: &mut LandMap) -> Verdict
     ensures buffer { let m = month.now in
         out.new ≡ written_over (file_check m) (fakmap_of m) out.old }
 {
-    let verdict = file_check(month);
-    match verdict {
-        Verdict::Accepted => {
-            fakmap_of(month, out);
-            Verdict::Accepted
-        }
-        Verdict::Refused(why) => Verdict::Refused(why),
-    }
+    file_check(month)?;
+    fakmap_of(month, out);
+    Ok(())
 }
 
 // The four arrays that a sheet reads, from files that are checked once, and the verdict of
@@ -158,15 +130,11 @@ pub fn redmap(
         let m = month.now in
         fakmap.new ≡ written_over (files_check f m) (fakmap_of m) fakmap.old }
 {
-    let verdict = files_check(f2, month);
-    match verdict {
-        Verdict::Accepted => {
-            index_of(month, index);
-            cofion_of(f2, month, ssn, cofion);
-            hmym_of(month, ssn, hmym);
-            fakmap_of(month, fakmap);
-            Verdict::Accepted
-        }
-        Verdict::Refused(why) => Verdict::Refused(why),
-    }
+    // Four arrays and no struct of them: the clauses `index` to `fakmap` name each.
+    files_check(f2, month)?;
+    index_of(month, index);
+    cofion_of(f2, month, ssn, cofion);
+    hmym_of(month, ssn, hmym);
+    fakmap_of(month, fakmap);
+    Ok(())
 }

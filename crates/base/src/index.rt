@@ -23,12 +23,7 @@ fn is_next(p: u32, q: u32) -> bool
     requires { p ≤ 75 }
     ensures { result ≡ exceeds (signed_of p) (signed_of q) }
 {
-    if p < q {
-        if (q - p) % 2 == 0 {
-            return q <= 75;
-        }
-    }
-    false
+    p < q && (q - p) % 2 == 0 && q <= 75
 }
 
 // Whether the words 1 to 8 of a map climb from its word 0.
@@ -37,8 +32,7 @@ fn is_ladder(month: &[u8], k: usize) -> bool
     ensures { result ≡ climbs (ikim_at month.now k) 8 0 }
 {
     let mut p = ikim_word(month, k, 0);
-    let mut j = 0usize;
-    while j < 8 {
+    for j in 0..8 {
         let q = ikim_word(month, k, j + 1);
         if q == p {
             return true;
@@ -47,11 +41,11 @@ fn is_ladder(month: &[u8], k: usize) -> bool
             return false;
         }
         p = q;
-        j += 1;
     }
     true
 }
 
+// The rows and the harmonics of each map: two tables, since specs/Index.antt has them as two lists.
 const ROWS: [u32; 6] = [55, 61, 55, 76, 49, 22];
 
 const HARMONICS: [u32; 6] = [2, 3, 2, 6, 4, 4];
@@ -61,34 +55,22 @@ fn is_good(month: &[u8], k: usize) -> bool
     requires { k < 6 }
     ensures { result ≡ good_map (ikim_at month.now k) (slice_index rows k) (slice_index harmonics k) }
 {
-    if ikim_word(month, k, 8) >= ROWS[k] {
-        return false;
-    }
-    if ikim_word(month, k, 9) > HARMONICS[k] {
-        return false;
-    }
-    let first = ikim_word(month, k, 0);
-    if first < 1 {
-        return false;
-    }
-    if first > 75 {
-        return false;
-    }
-    is_ladder(month, k)
+    ikim_word(month, k, 8) < ROWS[k]
+        && ikim_word(month, k, 9) <= HARMONICS[k]
+        && (1..=75).contains(&ikim_word(month, k, 0))
+        && is_ladder(month, k)
 }
 
 // Document 01's index check of a month file: 11 with the lowest bad map, 1 to 6, as its place.
 pub fn index_check(month: &[u8]) -> Verdict
     ensures { result ≡ index_check month.now }
 {
-    let mut k = 0usize;
-    while k < 6 {
+    for k in 0..6 {
         if !is_good(month, k) {
-            return Verdict::Refused(Refusal::Index(k as u32 + 1));
+            return Err(Refusal::Index(k as u32 + 1));
         }
-        k += 1;
     }
-    Verdict::Accepted
+    Ok(())
 }
 
 // The words of `ikim`, ten for each of six maps.

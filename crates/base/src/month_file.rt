@@ -1,10 +1,10 @@
 // The month's record of the `.daw` file, and the month file's walk.
 ghost use Rattle.std.specs.Prelude.{◌≡◌, ℕ, ◌<◌, ◌==◌};
 ghost use Rattle.base.specs.Words.{word_at};
-ghost use Rattle.base.specs.MonthFile.{IsPart, month_record_check, month_part, month_file_check, RecordSize};
+ghost use Rattle.base.specs.MonthFile.{IsPart, month_record_check, month_part, month_file_check};
 
 use crate::ranges::month_check;
-use crate::refusal::{Refusal, Verdict, refuse_unless, then};
+use crate::refusal::{Refusal, Verdict, refuse_unless};
 use crate::words::word;
 
 // The bytes of an F2 record, a month's part of the `.daw` file.
@@ -15,11 +15,12 @@ pub const MONTH_FILE: usize = 38552;
 
 // Whether the `.daw` file has a month's record: 1 for a month outside 1 to 12, then 8 for a file of
 // under month times 7,904 bytes.
+#[tactic(auto, unfolding(crate::specs::MonthFile::month_record_check))]
 pub fn month_record_check(s: &[u8], month: u32) -> Verdict
     ensures { result ≡ month_record_check s.now month }
 {
-    let there = month as usize * RECORD <= s.len();
-    then(month_check(month), refuse_unless(there, Refusal::Record))
+    month_check(month)?;
+    refuse_unless(month as usize * RECORD <= s.len(), Refusal::Record)
 }
 
 // A month's 7,904 bytes, a part of the `.daw` file; where `month_record_check` refuses, the empty
@@ -29,23 +30,17 @@ pub fn month_record(s: &[u8], month: u32) -> &[u8]
 {
     let verdict = month_record_check(s, month);
     match verdict {
-        Verdict::Accepted => {
+        Ok(()) => {
             let a = (month as usize - 1) * RECORD;
             let e = a + RECORD;
             &s[a..e]
         }
-        Verdict::Refused(_) => &s[0..0],
+        Err(_) => &s[0..0],
     }
 }
 
+// The bytes of the month file's nine records.
 const SIZES: [usize; 9] = [240, 11184, 5328, 3528, 3168, 1920, 7128, 4400, 1584];
-
-fn size(k: usize) -> usize
-    requires { k < 9 }
-    ensures { RecordSize k result }
-{
-    SIZES[k]
-}
 
 fn is_marker(s: &[u8], at: usize, n: usize) -> bool
     ensures { result ≡ (word_at s.now at == n) }
@@ -62,23 +57,20 @@ pub fn month_file_check(s: &[u8]) -> Verdict
     // the file's length are looked at; where the file ends within a record, the walk in fours stops
     // at the last multiple of four.
     let mut at = 0usize;
-    let mut k = 0usize;
-    while k < 9 {
-        let n = size(k);
+    for n in SIZES {
         if s.len() < at + 4 {
-            return Verdict::Refused(Refusal::Ended((s.len() / 4 * 4) as u32));
+            return Err(Refusal::Ended((s.len() / 4 * 4) as u32));
         }
         if !is_marker(s, at, n) {
-            return Verdict::Refused(Refusal::Marker(at as u32));
+            return Err(Refusal::Marker(at as u32));
         }
         if s.len() < at + n + 8 {
-            return Verdict::Refused(Refusal::Ended((s.len() / 4 * 4) as u32));
+            return Err(Refusal::Ended((s.len() / 4 * 4) as u32));
         }
         if !is_marker(s, at + n + 4, n) {
-            return Verdict::Refused(Refusal::Marker((at + n + 4) as u32));
+            return Err(Refusal::Marker((at + n + 4) as u32));
         }
-        at = at + n + 8;
-        k += 1;
+        at += n + 8;
     }
-    Verdict::Accepted
+    Ok(())
 }

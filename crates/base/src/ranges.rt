@@ -8,7 +8,7 @@ use crate::refusal::{Refusal, Verdict, refuse_unless};
 pub(crate) fn is_month(m: u32) -> bool
     ensures { result ≡ is_month m }
 {
-    if 1 <= m { m <= 12 } else { false }
+    (1..=12).contains(&m)
 }
 
 // The verdict on a month: 1, place 1, unless it is from 1 to 12.
@@ -36,7 +36,7 @@ pub fn model_check(m: u32) -> Verdict
 pub fn is_to(low: f32, high: f32, x: f32) -> bool
     ensures { result ≡ is_to low high x }
 {
-    if low <= x { x <= high } else { false }
+    low <= x && x <= high
 }
 
 // The verdict on an hour: 3, place 3, unless it is from 0 to 24; a NaN is outside.

@@ -1,6 +1,6 @@
 // Why a call is refused: a name for each refusal of documents 01 and 02, with its number and place.
 ghost use Rattle.std.specs.Prelude.{◌≡◌};
-ghost use Rattle.base.specs.Refusal.{pair_of, report_of, verdict_report, refuse_unless, ◌then◌};
+ghost use Rattle.base.specs.Refusal.{pair_of, report_of, verdict_report, refuse_unless};
 
 // Of a field that stands more than once, and of a place in a file or the number of a map or of a
 // pair, the case carries which.
@@ -39,7 +39,8 @@ pub enum Refusal {
     Year(u32),
 }
 
-// The documents' number of a refusal, and its place; 0 and 0 where nothing is refused.
+// The documents' number of a refusal, and its place; 0 and 0 where nothing is refused, as the C
+// interface has it.
 #[derive(Clone, Copy)]
 pub struct Report(pub u32, pub u32);
 
@@ -90,36 +91,18 @@ impl Refusal {
     }
 }
 
-// The answer of a check.
-#[derive(Clone, Copy)]
-pub enum Verdict {
-    Accepted,
-    Refused(Refusal),
-}
+// The answer of a check: nothing more to say, or why it refuses.
+pub type Verdict = Result<(), Refusal>;
 
-impl Verdict {
-    // The number and place of a verdict: the refusal's, or 0 and 0 where nothing is refused.
-    pub fn report(self) -> Report
-        ensures { pair_of result ≡ verdict_report self }
+// A verdict's number and place: the refusal's, or 0 and 0 where nothing is refused.
+impl From<Verdict> for Report {
+    fn from(verdict: Verdict) -> Report
+        ensures { pair_of result ≡ verdict_report verdict }
     {
-        match self {
-            Verdict::Accepted => Report(0, 0),
-            Verdict::Refused(why) => why.report(),
+        match verdict {
+            Ok(()) => Report(0, 0),
+            Err(why) => why.report(),
         }
-    }
-
-    // The number of a verdict: the refusal's, or 0 where nothing is refused.
-    pub fn number(self) -> u32
-        ensures { result ≡ (verdict_report self).0 }
-    {
-        self.report().0
-    }
-
-    // The place of a verdict: the refusal's, or 0 where nothing is refused.
-    pub fn place(self) -> u32
-        ensures { result ≡ (verdict_report self).1 }
-    {
-        self.report().1
     }
 }
 
@@ -127,19 +110,5 @@ impl Verdict {
 pub fn refuse_unless(good: bool, why: Refusal) -> Verdict
     ensures { result ≡ refuse_unless good why }
 {
-    if good {
-        Verdict::Accepted
-    } else {
-        Verdict::Refused(why)
-    }
-}
-
-// The first refusal of two verdicts; accepted where both accept.
-pub fn then(first: Verdict, next: Verdict) -> Verdict
-    ensures { result ≡ (first then next) }
-{
-    match first {
-        Verdict::Accepted => next,
-        Verdict::Refused(why) => Verdict::Refused(why),
-    }
+    if good { Ok(()) } else { Err(why) }
 }

@@ -7,7 +7,8 @@ use crate::month_file::{MONTH_FILE, RECORD, month_file_check};
 use crate::refusal::{Refusal, Verdict};
 
 // Where a table, or a part of a year file, starts in the file that holds it, and how many bytes it
-// has.
+// has. Of one that is not there both are 0, with no Option: the clauses `start` and `size` of
+// `table_place`, `month_place` and `model_place` say so.
 #[derive(Clone, Copy)]
 pub struct Place {
     pub start: usize,
@@ -93,10 +94,10 @@ pub fn table_check(number: u32, f2: &[u8], month: &[u8]) -> Verdict
     ensures { result ≡ table_check number f2.now month.now }
 {
     if 20 < number {
-        return Verdict::Refused(Refusal::Table);
+        return Err(Refusal::Table);
     }
     if f2.len() < RECORD {
-        return Verdict::Refused(Refusal::Record);
+        return Err(Refusal::Record);
     }
     month_file_check(month)
 }
@@ -111,12 +112,12 @@ pub fn table<'a>(number: u32, f2: &'a [u8], month: &'a [u8]) -> &'a [u8]
 {
     let verdict = table_check(number, f2, month);
     match verdict {
-        Verdict::Accepted => {
+        Ok(()) => {
             let place = table_place(number);
             let a = place.start;
             let e = a + place.size;
             if number == 0 { &f2[a..e] } else { &month[a..e] }
         }
-        Verdict::Refused(_) => &f2[0..0],
+        Err(_) => &f2[0..0],
     }
 }

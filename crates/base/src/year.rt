@@ -54,16 +54,9 @@ fn keeps_rules(year: &[u8], k: usize) -> bool
     requires { k < 14 }
     ensures { result ≡ keeps_rules year.now k }
 {
-    if year.len() < 8 * k + 8 {
-        return false;
-    }
-    if offset(year, k) < floor(year, k) {
-        return false;
-    }
-    if k < PARTS - 1 {
-        return true;
-    }
-    end(year, k) <= year.len()
+    8 * k + 8 <= year.len()
+        && floor(year, k) <= offset(year, k)
+        && (k < PARTS - 1 || end(year, k) <= year.len())
 }
 
 // The verdict on a year file's directory: 19 with the lowest pair, 1 to 14, that is not wholly
@@ -71,14 +64,12 @@ fn keeps_rules(year: &[u8], k: usize) -> bool
 pub fn year_check(year: &[u8]) -> Verdict
     ensures { result ≡ year_check year.now }
 {
-    let mut k = 0usize;
-    while k < PARTS {
+    for k in 0..PARTS {
         if !keeps_rules(year, k) {
-            return Verdict::Refused(Refusal::Year(k as u32 + 1));
+            return Err(Refusal::Year(k as u32 + 1));
         }
-        k += 1;
     }
-    Verdict::Accepted
+    Ok(())
 }
 
 // Where the part of pair k, counted from 0, lies: start and size in bytes, 0 and 0 where the pair is
@@ -89,10 +80,7 @@ fn pair_place(year: &[u8], k: usize) -> Place
     ensures size { result.size ≡ (pair_part year.now k).size }
     ensures within { result.start + result.size ≤ length year.now }
 {
-    if year.len() < 8 * k + 8 {
-        return Place { start: 0, size: 0 };
-    }
-    if year.len() < end(year, k) {
+    if year.len() < 8 * k + 8 || year.len() < end(year, k) {
         return Place { start: 0, size: 0 };
     }
     Place {

@@ -1,5 +1,6 @@
 // The worksheet in words: a journal of calls run, a call said on a journal that four desks share,
-// and an audit of where a sheet comes from.
+// and an audit of where a sheet comes from. Its src/ is copied to the crates desk_run, desk_audit,
+// desk_pair and desk_cut, as the gate runs a crate once and refuses links.
 #![tactic(auto)]
 
 use office::audit::audit;
@@ -16,12 +17,7 @@ const ARGUMENT: usize = 4096;
 
 // Whether this is neither a word that calls are written with nor a number.
 fn is_foreign(word: Token) -> bool {
-    match word {
-        Token::End => true,
-        Token::Word(_) => false,
-        Token::Number(_) => false,
-        Token::Other => true,
-    }
+    matches!(word, Token::End | Token::Other)
 }
 
 // Whether argument 4 is the second of a pair of files: it is no word of a call, and a call is left
@@ -35,18 +31,12 @@ fn is_pair(env: &impl Env) -> bool {
 fn main(rt: HostRuntime) {
     fill_standard(&rt);
     let count = arg_count(&rt);
-    let is_run = is_arg(&rt, 1, b"run");
-    let is_audit = is_arg(&rt, 1, b"audit");
-    if is_run && count == 4 {
-        run(&rt, false);
-    } else if is_run && count == 5 {
-        run(&rt, true);
+    if is_arg(&rt, 1, b"run") && (count == 4 || count == 5) {
+        run(&rt, count == 5);
     } else if is_arg(&rt, 1, b"say") && count >= 5 {
         say(&rt, rt.process(), is_pair(&rt));
-    } else if is_audit && count == 5 {
-        audit(&rt, false);
-    } else if is_audit && count == 6 {
-        audit(&rt, true);
+    } else if is_arg(&rt, 1, b"audit") && (count == 5 || count == 6) {
+        audit(&rt, count == 6);
     } else {
         usage();
     }

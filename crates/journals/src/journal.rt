@@ -1,14 +1,14 @@
 // The journals: an open and the calls that follow it, answered as `replay` answers them, over one
 // pair of files, and over year files as `replay year` does. Of each journal the file has the 14 or
 // 15 words, the calls and the wanted text.
-ghost use Rattle.std.specs.Prelude.{◌≡◌, ◌+◌, ◌<◌, ◌≤◌, length};
+ghost use Rattle.std.specs.Prelude.{◌≡◌, ◌≤◌, length};
 
-use crate::files::{CALLS, WANTED, bytes, next, next_size};
-use crate::wanted::say;
+use crate::files::{CALLS, WANTED, bytes};
+use crate::wanted::{is_said, say};
 use base::month_file::{MONTH_FILE, RECORD};
-use base::refusal::Verdict;
+use base::refusal::Refusal;
 use base::words::word;
-use listing::answer::{ANSWER, stopped_text, verdict_text};
+use listing::answer::{ANSWER, refusal_text, stopped_text};
 use listing::call::{Read, START, YEAR_START, call_in, operation_in, size_of};
 use listing::turn::answered;
 use maps::inputs::{FIELD_BYTES, SHEET_BYTES};
@@ -16,24 +16,18 @@ use packing::YEAR_MOST;
 use std::io::Read as Input;
 use std::rt::Files;
 use system::{opened, read_full};
-use tally::{Tally, counted, none, print_line};
+use tally::{Tally, counted, counted_all, next, next_bytes, next_size, none, print_line};
 use worksheet::desks;
 use worksheet::desks::{Outcome, Worksheet};
 use worksheet::journal::Call;
 use worksheet::showing::Lent;
 
-// What stands at a place of the calls, and its size in bytes.
+// What stands at a place of the calls, and its size in bytes. `replaying` reads the same of
+// standard input, piece by piece.
 #[derive(Clone, Copy)]
 struct Next {
     read: Read,
     size: usize,
-}
-
-// The worksheet that a call leaves, and the place after what it said.
-#[derive(Clone, Copy)]
-struct Step {
-    sheet: Worksheet,
-    at: usize,
 }
 
 // A call cut short, with the bytes that are left.
@@ -46,96 +40,88 @@ fn cut_short(left: usize) -> Next
     }
 }
 
-fn call_at(lent: Lent, calls: &[u8], from: usize) -> Next
-    requires { from < length calls.now }
+// What stands at the start of the calls that are left.
+fn next_call(lent: Lent, calls: &[u8]) -> Next
+    requires { 1 ≤ length calls.now }
     ensures some { 1 ≤ result.size }
-    ensures within { from + result.size ≤ length calls.now }
+    ensures within { result.size ≤ length calls.now }
 {
-    let left = calls.len() - from;
+    let left = calls.len();
     if left < 4 {
         return cut_short(left);
     }
-    let operation = operation_in(lent, word(calls, from));
+    let operation = operation_in(lent, word(calls, 0));
     let size = 4 + size_of(operation);
     if left < size {
         return cut_short(left);
     }
-    let a = from + 4;
-    let e = from + size;
     Next {
-        read: call_in(operation, &calls[a..e]),
-        size: size,
+        read: call_in(operation, &calls[4..size]),
+        size,
     }
 }
 
-fn say_call(
+// The worksheet that a call leaves, and what is still wanted behind its answer.
+fn say_call<'a>(
     w: Worksheet,
     call: Call,
     lent: Lent,
     a: &[u8],
     b: &[u8],
-    wanted: &[u8],
-    at: usize,
-) -> Step {
+    wanted: &'a [u8],
+) -> Option<(Worksheet, &'a [u8])> {
     let mut text = [0u8; ANSWER];
     let turn = answered(w, call, lent, a, b, &mut text);
-    let n = turn.size;
-    let sheet = turn.sheet;
-    Step {
-        sheet: sheet,
-        at: say(wanted, at, &text[..n]),
-    }
+    let left = say(wanted, &text[..turn.size])?;
+    Some((turn.sheet, left))
 }
 
-// The line of the calls' byte at which a journal stops, the first call starting at `start`.
-fn say_stop(wanted: &[u8], at: usize, start: u32, from: usize) -> usize
-    requires { from ≤ 1024 }
-{
+// The line of the byte of an input at which a journal stops.
+fn say_stop(wanted: &[u8], at: u64) -> Option<&[u8]> {
     let mut text = [0u8; ANSWER];
-    let n = stopped_text(start as u64 + from as u64, &mut text);
-    say(wanted, at, &text[..n])
+    let n = stopped_text(at, &mut text);
+    say(wanted, &text[..n])
 }
 
-// Call by call; the place after all that is said.
-fn say_calls(
+// Call by call, of which the first starts at `start`; what is still wanted behind all that is said.
+fn say_calls<'a>(
     w: Worksheet,
     calls: &[u8],
     lent: Lent,
     a: &[u8],
     b: &[u8],
     start: u32,
-    wanted: &[u8],
-) -> usize
+    wanted: &'a [u8],
+) -> Option<&'a [u8]>
     requires { length calls.now ≤ 1024 }
 {
     let mut w = w;
-    let mut at: usize = 0;
-    let mut from: usize = 0;
-    while from < calls.len() {
-        let next = call_at(lent, calls, from);
-        let read = next.read;
-        match read {
+    let mut wanted = wanted;
+    let mut rest = calls;
+    // No `for`: by how much a turn goes on is what the call before it says.
+    while !rest.is_empty() {
+        let next = next_call(lent, rest);
+        match next.read {
             Read::Call(call) => {
-                let step = say_call(w, call, lent, a, b, wanted, at);
-                w = step.sheet;
-                at = step.at;
+                let (sheet, left) = say_call(w, call, lent, a, b, wanted)?;
+                w = sheet;
+                wanted = left;
             }
             Read::Bad => {
-                return say_stop(wanted, at, start, from);
+                let from = calls.len() - rest.len();
+                return say_stop(wanted, u64::from(start) + from as u64);
             }
-            Read::End => {
-                return at;
-            }
+            Read::End => return Some(wanted),
         }
-        from += next.size;
+        rest = &rest[next.size..];
     }
-    at
+    Some(wanted)
 }
 
-fn say_refusal(verdict: Verdict, wanted: &[u8]) -> usize {
+fn say_refusal(why: Refusal, wanted: &[u8]) -> Option<&[u8]> {
     let mut text = [0u8; ANSWER];
-    let n = verdict_text(verdict, &mut text);
-    say(wanted, 0, &text[..n])
+    let n = refusal_text(why, &mut text);
+    say(wanted, &text[..n])
 }
 
 fn opened_as(lent: Lent, words: &[u8]) -> Outcome {
@@ -157,13 +143,11 @@ fn is_replay(
     requires { length calls.now ≤ 1024 }
 {
     let o = opened_as(lent, words);
-    let verdict = o.answer;
-    let sheet = o.sheet;
-    let at = match verdict {
-        Verdict::Accepted => say_calls(sheet, calls, lent, a, b, start, wanted),
-        Verdict::Refused(why) => say_refusal(Verdict::Refused(why), wanted),
+    let left = match o.answer {
+        Ok(()) => say_calls(o.sheet, calls, lent, a, b, start, wanted),
+        Err(why) => say_refusal(why, wanted),
     };
-    at == wanted.len()
+    is_said(left)
 }
 
 // The bytes of the words that open a journal.
@@ -178,7 +162,6 @@ fn words_size(lent: Lent) -> usize
 
 // The next journal of the file.
 fn is_journal(file: &mut impl Input, lent: Lent, files: &[u8], month: &[u8], start: u32) -> bool {
-    let from = 0usize;
     let n = words_size(lent);
     let words = bytes(file, n);
     let c = next_size(file);
@@ -192,26 +175,23 @@ fn is_journal(file: &mut impl Input, lent: Lent, files: &[u8], month: &[u8], sta
     }
     let text = bytes(file, o);
     is_replay(
-        &words[from..n],
-        &calls[from..c],
+        &words[..n],
+        &calls[..c],
         lent,
         files,
         month,
         start,
-        &text[from..o],
+        &text[..o],
     )
 }
 
 fn replay_all(file: &mut impl Input) {
-    let mut t = none();
     let count = next(file);
-    let mut record = [0u8; RECORD];
-    read_full(file, &mut record);
-    let mut month = [0u8; MONTH_FILE];
-    read_full(file, &mut month);
-    for _ in 0..count {
-        t = counted(t, is_journal(file, Lent::Pair, &record, &month, START));
-    }
+    let record = next_bytes::<RECORD>(file);
+    let month = next_bytes::<MONTH_FILE>(file);
+    let t = counted_all(none(), count, || {
+        is_journal(file, Lent::Pair, &record, &month, START)
+    });
     print_line(b"journals", t);
 }
 
@@ -221,12 +201,9 @@ fn replay_over(file: &mut impl Input, t: Tally, year: &mut [u8]) -> Tally
 {
     read_full(file, year);
     let start = YEAR_START + year.len() as u32;
-    let mut t = t;
     let count = next(file);
-    for _ in 0..count {
-        t = counted(t, is_journal(file, Lent::Year, year, b"", start));
-    }
-    t
+    let year: &[u8] = year;
+    counted_all(t, count, || is_journal(file, Lent::Year, year, b"", start))
 }
 
 // The journals over the next year file, which is read into a buffer.
@@ -253,8 +230,7 @@ fn replay_next(file: &mut impl Input, t: Tally) -> Tally {
 
 fn replay_years(file: &mut impl Input) {
     let mut t = none();
-    let count = next(file);
-    for _ in 0..count {
+    for _ in 0..next(file) {
         t = replay_next(file, t);
     }
     print_line(b"journals over a year", t);

@@ -2,9 +2,8 @@
 // page the file has the number of its pair, the 14 words and the wanted text.
 ghost use Rattle.std.specs.Prelude.{◌≤◌};
 
-use crate::files::{WANTED, bytes, next, next_size};
-use crate::sheets::{PAIR, part};
-use crate::wanted::say;
+use crate::files::{WANTED, bytes};
+use crate::sheets::PAIR;
 use base::month_file::{MONTH_FILE, RECORD};
 use listing::page::PAGE;
 use listing::sheet::page_answer;
@@ -12,7 +11,7 @@ use maps::inputs::SHEET_BYTES;
 use std::io::Read;
 use std::rt::Files;
 use system::{opened, read_full};
-use tally::{counted, none, print_line};
+use tally::{counted_all, next, next_size, none, part, print_line};
 
 // Three pairs of files.
 const PAIRS: usize = 3 * PAIR;
@@ -22,7 +21,7 @@ fn is_text(words: &[u8; SHEET_BYTES], pair: &[u8], wanted: &[u8]) -> bool {
     let record = part(pair, 0, RECORD);
     let month = part(pair, RECORD, RECORD + MONTH_FILE);
     let n = page_answer(words, record, month, &mut text);
-    say(wanted, 0, &text[..n]) == wanted.len()
+    &text[..n] == wanted
 }
 
 // The next page of the file.
@@ -31,10 +30,7 @@ fn is_page(file: &mut impl Read, pairs: &[u8; PAIRS]) -> bool {
     let mut words = [0u8; SHEET_BYTES];
     read_full(file, &mut words);
     let o = next_size(file);
-    if k > 2 {
-        return false;
-    }
-    if o > WANTED {
+    if k > 2 || o > WANTED {
         return false;
     }
     let text = bytes(file, o);
@@ -43,15 +39,12 @@ fn is_page(file: &mut impl Read, pairs: &[u8; PAIRS]) -> bool {
 }
 
 fn replay_all(file: &mut impl Read) {
-    let mut t = none();
     // The number of pairs, three.
     next(file);
     let mut pairs = [0u8; PAIRS];
     read_full(file, &mut pairs);
     let count = next(file);
-    for _ in 0..count {
-        t = counted(t, is_page(file, &pairs));
-    }
+    let t = counted_all(none(), count, || is_page(file, &pairs));
     print_line(b"pages", t);
 }
 

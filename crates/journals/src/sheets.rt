@@ -3,8 +3,7 @@
 // and the wanted text.
 ghost use Rattle.std.specs.Prelude.{◌≤◌};
 
-use crate::files::{WANTED, bytes, next, next_size};
-use crate::wanted::say;
+use crate::files::{WANTED, bytes};
 use base::month_file::{MONTH_FILE, RECORD};
 use listing::answer::ANSWER;
 use listing::sheet::sheet_answer;
@@ -12,7 +11,7 @@ use maps::inputs::SHEET_BYTES;
 use std::io::Read;
 use std::rt::Files;
 use system::{opened, read_full};
-use tally::{counted, none, print_line};
+use tally::{counted_all, next, next_size, none, part, print_line};
 
 // The bytes of a record and its month file, and of the longest input: the words, the two files and
 // more.
@@ -23,20 +22,6 @@ const INPUT: usize = SHEET_BYTES + PAIR + 1000;
 // Where the month file starts in an input whose record is whole.
 const MONTH_START: usize = SHEET_BYTES + RECORD;
 
-fn min(a: usize, b: usize) -> usize
-    ensures first { result ≤ a }
-    ensures second { result ≤ b }
-{
-    if a < b { a } else { b }
-}
-
-// The bytes of s from a on and before e, those that are there.
-pub fn part(s: &[u8], a: usize, e: usize) -> &[u8] {
-    let e = min(e, s.len());
-    let a = min(a, e);
-    &s[a..e]
-}
-
 // What `sheet` makes of an input.
 fn is_answer(input: &[u8], wanted: &[u8]) -> bool {
     let mut text = [0u8; ANSWER];
@@ -44,7 +29,7 @@ fn is_answer(input: &[u8], wanted: &[u8]) -> bool {
     let record = part(input, SHEET_BYTES, MONTH_START);
     let month = part(input, MONTH_START, INPUT);
     let n = sheet_answer(words, record, month, &mut text);
-    say(wanted, 0, &text[..n]) == wanted.len()
+    &text[..n] == wanted
 }
 
 // An input with the next bytes of a file from a on and before e.
@@ -61,8 +46,7 @@ fn skip(file: &mut impl Read, n: usize)
     requires { n ≤ 7904 }
 {
     let mut over = [0u8; RECORD];
-    let a = 0usize;
-    read_full(file, &mut over[a..n]);
+    read_full(file, &mut over[..n]);
 }
 
 // An input with the first r bytes of the record after its words, then the month file. They are read
@@ -114,13 +98,10 @@ fn is_case(rt: &impl Files, file: &mut impl Read) -> bool {
 }
 
 fn replay_all(rt: &impl Files, file: &mut impl Read) {
-    let mut t = none();
     let count = next(file);
     let mut over = [0u8; PAIR];
     read_full(file, &mut over);
-    for _ in 0..count {
-        t = counted(t, is_case(rt, file));
-    }
+    let t = counted_all(none(), count, || is_case(rt, file));
     print_line(b"sheets", t);
 }
 

@@ -1,13 +1,10 @@
-// A wanted text, and a place in it up to which all that was said agrees. What is said at a place
-// moves it on, and to WRONG where it differs.
+// A wanted text: what is said of it leaves what is still wanted, and nothing where it differs.
 
-// Past the end of any text.
-pub const WRONG: usize = 0xffff_ffff_ffff_ffff;
+pub fn say<'a>(wanted: &'a [u8], text: &[u8]) -> Option<&'a [u8]> {
+    wanted.strip_prefix(text)
+}
 
-pub fn say(wanted: &[u8], at: usize, text: &[u8]) -> usize {
-    if at <= wanted.len() && wanted[at..].starts_with(text) {
-        at + text.len()
-    } else {
-        WRONG
-    }
+// Whether all of it was said, and no more.
+pub fn is_said(left: Option<&[u8]>) -> bool {
+    left.is_some_and(|left| left.is_empty())
 }

@@ -3,3 +3,4 @@ pub mod Stored
 pub mod Crossed
 pub mod Returned
 pub mod Unopened
+pub mod Spans

@@ -1,13 +1,11 @@
 -- A worksheet as the 96 words that another language lends: six sets of 16, which are the inputs,
 -- the earlier set and the drafts of desks 1 to 4. Assumes nothing.
-use Rattle.std.specs.Prelude.{cond, List, ◌∷◌, ◌++◌, ℕ, ◌+◌, eqb, get_or, replicate}
+use Rattle.std.specs.Prelude.{cond, List, ◌∷◌, ◌++◌, ℕ, ◌+◌, eqb, get_or, replicate, None, Option, Some}
 use Rattle.base.specs.Refusal.{written_over}
 use Rattle.maps.specs.Inputs.{inputs_from, field_words, Singles}
 use Rattle.maps.specs.declared.inputs.Inputs.{Inputs}
 use Rattle.worksheet.specs.declared.desks.Draft.{Draft}
 use Rattle.worksheet.specs.declared.desks.Draft.TheVariants.{Closed, Fresh, Stale}
-use Rattle.worksheet.specs.declared.desks.Earlier.{Earlier}
-use Rattle.worksheet.specs.declared.desks.Earlier.TheVariants.{Nothing, Set}
 use Rattle.worksheet.specs.declared.desks.Outcome.{Outcome}
 use Rattle.worksheet.specs.declared.desks.Worksheet.{Worksheet}
 use Rattle.worksheet.specs.Desks.{EarlierHas, DraftHas, SheetHas}
@@ -33,8 +31,8 @@ unfoldable pub inputs_in : List ℕ → ℕ → Inputs
 inputs_in l at = inputs_from (field_in l at)
 
 -- a first word of 0: no earlier set
-unfoldable pub earlier_in : List ℕ → ℕ → Earlier
-earlier_in l at = cond (eqb (word_in l at) 0) Nothing (Set (inputs_in l at))
+unfoldable pub earlier_in : List ℕ → ℕ → Option Inputs
+earlier_in l at = cond (eqb (word_in l at) 0) None (Some (inputs_in l at))
 
 -- a first word of 0: closed; of 1: fresh; of any other number: stale
 unfoldable pub draft_in : List ℕ → ℕ → Draft
@@ -63,9 +61,9 @@ set_words what i = what ∷ field_words i
 abbrev pub no_words : List ℕ
 no_words = replicate set_size 0
 
-unfoldable pub earlier_words : Earlier → List ℕ
-earlier_words Nothing = no_words
-earlier_words (Set i) = set_words 1 i
+unfoldable pub earlier_words : Option Inputs → List ℕ
+earlier_words None = no_words
+earlier_words (Some i) = set_words 1 i
 
 unfoldable pub draft_words : Draft → List ℕ
 draft_words Closed = no_words
@@ -84,7 +82,7 @@ words_after o lent = written_over o.answer (sheet_words o.sheet) lent
 
 -- ---- worksheets of numbers that an f32 can be
 
-abbrev pub EarlierSingles : Earlier → Type 0
+abbrev pub EarlierSingles : Option Inputs → Type 0
 EarlierSingles = EarlierHas Singles
 
 abbrev pub DraftSingles : Draft → Type 0

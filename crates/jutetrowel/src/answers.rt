@@ -1,12 +1,9 @@
 // How answers cross to another language: whole numbers in structs that C lays out alike.
 ghost use Rattle.std.specs.Prelude.{◌≡◌};
-ghost use Rattle.base.specs.declared.refusal.Verdict.TheVariants.{Refused};
-ghost use Rattle.base.specs.MonthFile.{empty_part};
-ghost use Rattle.jutetrowel.specs.Answers.{answer_of, showing_of, shown_numbers, span_of, span_unless};
+ghost use Rattle.jutetrowel.specs.Answers.{answer_of, showing_of, shown_numbers, placed};
 
-use base::refusal::{Refusal, Verdict};
+use base::refusal::{Refusal, Report, Verdict};
 use base::tables::Place;
-use maps::figures::Shown;
 
 // The documents' number of a refusal, and its place; 0 and 0 where nothing is refused.
 #[repr(C)]
@@ -35,65 +32,67 @@ pub struct Span {
     pub place: u32,
 }
 
-pub(crate) fn answered(v: Verdict) -> Answer
-    ensures { result ≡ answer_of v }
-{
-    Answer {
-        number: v.number(),
-        place: v.place(),
+// A verdict as C has it.
+impl From<Verdict> for Answer {
+    #[tactic(auto, unfolding(crate::specs::Answers::answer_of))]
+    fn from(verdict: Verdict) -> Answer
+        ensures { result ≡ answer_of verdict }
+    {
+        let Report(number, place) = Report::from(verdict);
+        Answer { number, place }
     }
 }
 
-pub(crate) fn shown_as(shown: Shown) -> Showing
-    ensures { result ≡ showing_of shown }
-{
-    match shown {
-        Shown::Points(count) => Showing {
-            points: count,
-            number: 0,
-            place: 0,
-        },
-        Shown::Refused(why) => Showing {
-            points: 0,
-            number: why.number(),
-            place: why.place(),
-        },
+// A showing as C has it: its points, or the refusal with 0 for them.
+impl From<Result<u32, Refusal>> for Showing {
+    #[tactic(auto, unfolding(crate::specs::Answers::showing_of))]
+    fn from(shown: Result<u32, Refusal>) -> Showing
+        ensures { result ≡ showing_of shown }
+    {
+        match shown {
+            Ok(count) => Showing {
+                points: count,
+                number: 0,
+                place: 0,
+            },
+            Err(why) => Showing {
+                points: 0,
+                number: why.number(),
+                place: why.place(),
+            },
+        }
     }
 }
 
-// A showing's number and place.
-pub(crate) fn numbers_of(shown: Shown) -> Answer
-    ensures { result ≡ shown_numbers shown }
-{
-    let s = shown_as(shown);
-    Answer {
-        number: s.number,
-        place: s.place,
+// A showing's number and place alone.
+impl From<Result<u32, Refusal>> for Answer {
+    fn from(shown: Result<u32, Refusal>) -> Answer
+        ensures { result ≡ shown_numbers shown }
+    {
+        let Showing { number, place, .. } = Showing::from(shown);
+        Answer { number, place }
     }
 }
 
-pub(crate) fn no_span(why: Refusal) -> Span
-    ensures { result ≡ span_of (Refused why) empty_part }
-{
-    Span {
-        start: 0,
-        size: 0,
-        number: why.number(),
-        place: why.place(),
-    }
-}
-
-// The span of a place, unless the verdict refuses it.
-pub(crate) fn span_unless(verdict: Verdict, at: Place) -> Span
-    ensures { result ≡ span_unless verdict (record { from = at.start; size = at.size }) }
-{
-    match verdict {
-        Verdict::Accepted => Span {
-            start: at.start,
-            size: at.size,
-            number: 0,
-            place: 0,
-        },
-        Verdict::Refused(why) => no_span(why),
+// A part as C has it: where it lies, or the refusal with 0 for both.
+impl From<Result<Place, Refusal>> for Span {
+    #[tactic(auto, unfolding(crate::specs::Answers::placed, crate::specs::Answers::span_of))]
+    fn from(at: Result<Place, Refusal>) -> Span
+        ensures { result ≡ placed at }
+    {
+        match at {
+            Ok(part) => Span {
+                start: part.start,
+                size: part.size,
+                number: 0,
+                place: 0,
+            },
+            Err(why) => Span {
+                start: 0,
+                size: 0,
+                number: why.number(),
+                place: why.place(),
+            },
+        }
     }
 }

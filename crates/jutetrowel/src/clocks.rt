@@ -6,8 +6,9 @@ ghost use Rattle.jutetrowel.specs.Fields.{degrees};
 ghost use Rattle.jutetrowel.specs.Clocks.{clock_answer, hours_answer, local_answer};
 
 use base::angle::Degrees;
+use base::refusal::Refusal;
 use maps::ionosphere::clocks;
-use maps::ionosphere::clocks::{Direction, LocalTime, Moved, Times};
+use maps::ionosphere::clocks::{Direction, HourTimes, Shifted};
 
 // A time and its change of day: -1, 0 or 1. Refused, both +0, with the refusal's number and place.
 #[repr(C)]
@@ -39,60 +40,69 @@ pub struct LocalAnswer {
     pub place: u32,
 }
 
-fn clock_of(moved: Moved) -> ClockAnswer
-    ensures { result ≡ clock_answer moved }
-{
-    match moved {
-        Moved::To(x) => ClockAnswer {
-            time: x.time,
-            day: x.day,
-            number: 0,
-            place: 0,
-        },
-        Moved::Refused(why) => ClockAnswer {
-            time: 0.0,
-            day: 0.0,
-            number: why.number(),
-            place: why.place(),
-        },
+// A time that was moved as C has it, or the refusal with +0 for both.
+impl From<Result<Shifted, Refusal>> for ClockAnswer {
+    fn from(moved: Result<Shifted, Refusal>) -> ClockAnswer
+        ensures { result ≡ clock_answer moved }
+    {
+        match moved {
+            Ok(x) => ClockAnswer {
+                time: x.time,
+                day: x.day,
+                number: 0,
+                place: 0,
+            },
+            Err(why) => ClockAnswer {
+                time: 0.0,
+                day: 0.0,
+                number: why.number(),
+                place: why.place(),
+            },
+        }
     }
 }
 
-fn hours_of(times: Times) -> HoursAnswer
-    ensures { result ≡ hours_answer times }
-{
-    match times {
-        Times::Hours(x) => HoursAnswer {
-            gmt: x.gmt,
-            lmt_tx: x.lmt_tx,
-            gmtr: x.gmtr,
-            number: 0,
-            place: 0,
-        },
-        Times::Refused(why) => HoursAnswer {
-            gmt: 0.0,
-            lmt_tx: 0.0,
-            gmtr: 0.0,
-            number: why.number(),
-            place: why.place(),
-        },
+// The three times as C has them, or the refusal with +0 for all.
+impl From<Result<HourTimes, Refusal>> for HoursAnswer {
+    fn from(times: Result<HourTimes, Refusal>) -> HoursAnswer
+        ensures { result ≡ hours_answer times }
+    {
+        match times {
+            Ok(x) => HoursAnswer {
+                gmt: x.gmt,
+                lmt_tx: x.lmt_tx,
+                gmtr: x.gmtr,
+                number: 0,
+                place: 0,
+            },
+            Err(why) => HoursAnswer {
+                gmt: 0.0,
+                lmt_tx: 0.0,
+                gmtr: 0.0,
+                number: why.number(),
+                place: why.place(),
+            },
+        }
     }
 }
 
-fn local_of(local: LocalTime) -> LocalAnswer
-    ensures { result ≡ local_answer local }
-{
-    match local {
-        LocalTime::At(x) => LocalAnswer {
-            time: x,
-            number: 0,
-            place: 0,
-        },
-        LocalTime::Refused(why) => LocalAnswer {
-            time: 0.0,
-            number: why.number(),
-            place: why.place(),
-        },
+// A local time as C has it, or the refusal with +0.
+impl From<Result<f32, Refusal>> for LocalAnswer {
+    fn from(local: Result<f32, Refusal>) -> LocalAnswer
+        ensures { result ≡ local_answer local }
+    {
+        match local {
+            Ok(x) => LocalAnswer {
+                time: x,
+                number: 0,
+                place: 0,
+            },
+            Err(why) => LocalAnswer {
+                time: 0.0,
+                number: why.number(),
+                place: why.place(),
+            },
+        }
     }
 }
 
@@ -101,7 +111,7 @@ fn local_of(local: LocalTime) -> LocalAnswer
 pub fn jt_cngtim_to_local(time: f32, lon: f32) -> ClockAnswer
     ensures { result ≡ clock_answer (moved_of time (degrees lon) ToLocal) }
 {
-    clock_of(clocks::cngtim(time, Degrees(lon), Direction::ToLocal))
+    ClockAnswer::from(clocks::cngtim(time, Degrees(lon), Direction::ToLocal))
 }
 
 // A local time in hours at a longitude in degrees made universal, with the change of day. Refuses
@@ -109,7 +119,7 @@ pub fn jt_cngtim_to_local(time: f32, lon: f32) -> ClockAnswer
 pub fn jt_cngtim_to_universal(time: f32, lon: f32) -> ClockAnswer
     ensures { result ≡ clock_answer (moved_of time (degrees lon) ToUniversal) }
 {
-    clock_of(clocks::cngtim(time, Degrees(lon), Direction::ToUniversal))
+    ClockAnswer::from(clocks::cngtim(time, Degrees(lon), Direction::ToUniversal))
 }
 
 // A whole hour at both ends of a path; it is the transmitter's local time where `local` is not 0.
@@ -117,7 +127,7 @@ pub fn jt_cngtim_to_universal(time: f32, lon: f32) -> ClockAnswer
 pub fn jt_geotim(hour: u32, local: u32, tlong: f32, rlong: f32) -> HoursAnswer
     ensures { result ≡ hours_answer (times_of hour (not (eqb local 0)) (degrees tlong) (degrees rlong)) }
 {
-    hours_of(clocks::geotim(hour, local != 0, Degrees(tlong), Degrees(rlong)))
+    HoursAnswer::from(clocks::geotim(hour, local != 0, Degrees(tlong), Degrees(rlong)))
 }
 
 // The local time in hours at one place, its longitude in degrees, for a universal time. Refuses as
@@ -125,5 +135,5 @@ pub fn jt_geotim(hour: u32, local: u32, tlong: f32, rlong: f32) -> HoursAnswer
 pub fn jt_geotim_clck(gmt: f32, lon: f32) -> LocalAnswer
     ensures { result ≡ local_answer (local_time_of gmt (degrees lon)) }
 {
-    local_of(clocks::geotim_clck(gmt, Degrees(lon)))
+    LocalAnswer::from(clocks::geotim_clck(gmt, Degrees(lon)))
 }

@@ -1,5 +1,7 @@
 // The calls of `worksheet::journal`, over a worksheet of 96 lent words. A call that is refused
 // leaves them, bit for bit.
+#![tactic(auto, unfolding(crate::specs::Calls::words_left, worksheet::specs::Journal::step))]
+
 ghost use Rattle.std.specs.Prelude.{◌≡◌, []};
 ghost use Rattle.worksheet.specs.declared.inputs.Edit.TheVariants.{Sunspot, Hour, Path, Psc, Pole, Month, Model};
 ghost use Rattle.worksheet.specs.Desks.{opened_of};
@@ -11,7 +13,7 @@ ghost use Rattle.jutetrowel.specs.Fields.{route_typed, factors_of, pole_typed};
 ghost use Rattle.jutetrowel.specs.Words.{worksheet_of, words_after};
 ghost use Rattle.jutetrowel.specs.Calls.{answer_numbers, Shows, words_left, Made};
 
-use crate::answers::{Answer, Showing, numbers_of, shown_as};
+use crate::answers::{Answer, Showing};
 use crate::fields::{factors, pole, route};
 use crate::words::{SHEET_WORDS, load, settle};
 use worksheet::desks::opened;
@@ -27,9 +29,7 @@ pub fn jt_open(words: &[u8], sheet: &mut [u32; SHEET_WORDS]) -> Answer
     ensures sheet { sheet.new ≡ words_after (opened_of words.now) sheet.old }
 {
     let new = opened(words);
-    let verdict = new.answer;
-    let w = new.sheet;
-    settle(sheet, verdict, w)
+    settle(sheet, new.answer, new.sheet)
 }
 
 // Makes a call that needs no files. A showing has no buffer here: it is refused.
@@ -38,13 +38,10 @@ fn made(sheet: &mut [u32; SHEET_WORDS], call: Call) -> Answer
         result ≡ answer_numbers s.answer }
     ensures sheet { sheet.new ≡ words_left (pair [] []) (called call []) sheet.old }
 {
-    let mut nothing = [0.0f32; 0];
-    let next = journal::make(load(sheet), call, Lent::Pair, b"", b"", &mut nothing);
-    let answer = next.answer;
-    let w = next.sheet;
-    match answer {
-        journal::Answer::Told(verdict) => settle(sheet, verdict, w),
-        journal::Answer::Shown(shown) => numbers_of(shown),
+    let next = journal::make(load(sheet), call, Lent::Pair, b"", b"", &mut []);
+    match next.answer {
+        journal::Answer::Told(verdict) => settle(sheet, verdict, next.sheet),
+        journal::Answer::Shown(shown) => Answer::from(shown),
     }
 }
 
@@ -169,7 +166,7 @@ pub fn jt_show(
         (showCall desk out.old) (worksheet_of sheet.now)).answer
         result out.new }
 {
-    shown_as(show(load(sheet), desk, f2, file, out))
+    Showing::from(show(load(sheet), desk, f2, file, out))
 }
 
 // The same over a year file, of which the month and the model shown pick the parts. Refuses as
@@ -179,5 +176,5 @@ pub fn jt_show_year(sheet: &[u32; SHEET_WORDS], desk: u32, year: &[u8], out: &mu
         (showCall desk out.old) (worksheet_of sheet.now)).answer
         result out.new }
 {
-    shown_as(show_year(load(sheet), desk, year, out))
+    Showing::from(show_year(load(sheet), desk, year, out))
 }

@@ -7,13 +7,14 @@ ghost use Rattle.base.specs.Tables.{table_check, table_part};
 ghost use Rattle.base.specs.Blend.{cofion_of, hmym_of};
 ghost use Rattle.base.specs.Files.{file_check, files_check};
 ghost use Rattle.base.specs.Year.{year_check, year_month, year_model, year_month_check, year_model_check};
-ghost use Rattle.jutetrowel.specs.Answers.{answer_of, span_of, span_unless};
+ghost use Rattle.jutetrowel.specs.Answers.{answer_of, span_of, span_unless, placed};
 
-use crate::answers::{Answer, Span, answered, no_span, span_unless};
+use crate::answers::{Answer, Span};
 use base::blend::{HeightMap, SixMaps};
 use base::month_file::RECORD;
 use base::ranges::{model_check, month_check};
-use base::refusal::{Verdict, then};
+use base::refusal::Refusal;
+use base::tables::Place;
 use base::{files, month_file, tables, year};
 
 // The month file's walk in fours: 9 where four bytes are not there, 10 at a wrong marker, with that
@@ -21,7 +22,7 @@ use base::{files, month_file, tables, year};
 pub fn jt_month_file_check(s: &[u8]) -> Answer
     ensures { result ≡ answer_of (month_file_check s.now) }
 {
-    answered(month_file::month_file_check(s))
+    Answer::from(month_file::month_file_check(s))
 }
 
 // Whether a month file can be used: 9 or 10 by its walk, then 23 by the words of its tables, then 11
@@ -29,7 +30,19 @@ pub fn jt_month_file_check(s: &[u8]) -> Answer
 pub fn jt_file_check(month: &[u8]) -> Answer
     ensures { result ≡ answer_of (file_check month.now) }
 {
-    answered(files::file_check(month))
+    Answer::from(files::file_check(month))
+}
+
+// Where a month's record lies in the `.daw` file.
+fn record_place(daw: &[u8], month: u32) -> Result<Place, Refusal>
+    ensures { let s = daw.now in
+        placed result ≡ span_of (month_record_check s month) (month_part s month) }
+{
+    month_file::month_record_check(daw, month)?;
+    Ok(Place {
+        start: (month as usize - 1) * RECORD,
+        size: RECORD,
+    })
 }
 
 // Where a month's record lies in the `.daw` file: start and size in bytes. Refuses 1, 8, with zeros
@@ -38,38 +51,19 @@ pub fn jt_month_record(daw: &[u8], month: u32) -> Span
     ensures { let s = daw.now in
         result ≡ span_of (month_record_check s month) (month_part s month) }
 {
-    let verdict = month_file::month_record_check(daw, month);
-    match verdict {
-        Verdict::Accepted => Span {
-            start: (month as usize - 1) * RECORD,
-            size: RECORD,
-            number: 0,
-            place: 0,
-        },
-        Verdict::Refused(why) => no_span(why),
-    }
+    Span::from(record_place(daw, month))
 }
 
 // Where a table lies, number 0 in the F2 record, 1 to 20 in the month file: start and size in
 // bytes. Refuses 13, 8, 9, 10, with zeros for both.
+#[tactic(auto, using(crate::proofs::crossing::Spans::spans))]
 pub fn jt_table(number: u32, f2: &[u8], month: &[u8]) -> Span
     ensures { let f = f2.now in
         let m = month.now in
         result ≡ span_of (table_check number f m) (table_part number f m) }
 {
     let verdict = tables::table_check(number, f2, month);
-    match verdict {
-        Verdict::Accepted => {
-            let at = tables::table_place(number);
-            Span {
-                start: at.start,
-                size: at.size,
-                number: 0,
-                place: 0,
-            }
-        }
-        Verdict::Refused(why) => no_span(why),
-    }
+    Span::from(verdict.and(Ok(tables::table_place(number))))
 }
 
 // The verdict on a year file's directory: 19 with the lowest pair, 1 to 14, that is not wholly there
@@ -77,29 +71,29 @@ pub fn jt_table(number: u32, f2: &[u8], month: &[u8]) -> Span
 pub fn jt_year_check(year: &[u8]) -> Answer
     ensures { result ≡ answer_of (year_check year.now) }
 {
-    answered(year::year_check(year))
+    Answer::from(year::year_check(year))
 }
 
 // Where the month file of a month lies in a year file: start and size in bytes. Refuses 1, 19, with
 // zeros for both.
+#[tactic(auto, using(crate::proofs::crossing::Spans::spans))]
 pub fn jt_year_month(year: &[u8], month: u32) -> Span
     ensures { let s = year.now in
         result ≡ span_unless (year_month_check s month) (year_month s month) }
 {
-    let verdict = then(month_check(month), year::year_check(year));
-    let at = year::month_place(year, month);
-    span_unless(verdict, at)
+    let verdict = month_check(month).and(year::year_check(year));
+    Span::from(verdict.and(Ok(year::month_place(year, month))))
 }
 
 // Where the `.daw` file of a model, 0 CCIR and 1 URSI, lies in a year file: start and size in bytes.
 // Refuses 7, 19, with zeros for both.
+#[tactic(auto, using(crate::proofs::crossing::Spans::spans))]
 pub fn jt_year_model(year: &[u8], model: u32) -> Span
     ensures { let s = year.now in
         result ≡ span_unless (year_model_check s model) (year_model s model) }
 {
-    let verdict = then(model_check(model), year::year_check(year));
-    let at = year::model_place(year, model);
-    span_unless(verdict, at)
+    let verdict = model_check(model).and(year::year_check(year));
+    Span::from(verdict.and(Ok(year::model_place(year, model))))
 }
 
 // The blended coefficients of the six maps at a sunspot number. Refuses 8, 9, 10, 23, 11; the
@@ -110,7 +104,7 @@ pub fn jt_cofion(f2: &[u8], month: &[u8], ssn: f32, out: &mut SixMaps) -> Answer
         let m = month.now in
         out.new ≡ written_over (files_check f m) (cofion_of f m ssn) out.old }
 {
-    answered(files::cofion(f2, month, ssn, out))
+    Answer::from(files::cofion(f2, month, ssn, out))
 }
 
 // The blended coefficients of the height map at a sunspot number. Refuses 9, 10, 23, 11; the
@@ -120,5 +114,5 @@ pub fn jt_hmym(month: &[u8], ssn: f32, out: &mut HeightMap) -> Answer
     ensures buffer { let m = month.now in
         out.new ≡ written_over (file_check m) (hmym_of m ssn) out.old }
 {
-    answered(files::hmym(month, ssn, out))
+    Answer::from(files::hmym(month, ssn, out))
 }

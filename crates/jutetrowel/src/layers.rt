@@ -10,11 +10,14 @@ ghost use Rattle.jutetrowel.specs.Answers.{answer_of};
 ghost use Rattle.jutetrowel.specs.Fields.{degrees, radians, pole_typed};
 ghost use Rattle.jutetrowel.specs.Layers.{layer_inputs, measured_of, layers_as};
 
-use crate::answers::{Answer, answered};
+use crate::answers::Answer;
 use crate::fields::{factors, pole};
 use base::angle::{Degrees, Radians};
+use base::refusal::Refusal;
+use maps::geometry::PathGeometry;
+use maps::ionosphere::LayerInputs;
+use maps::ionosphere::layers::LayerParams;
 use maps::ionosphere::virtim::TimeMaps;
-use maps::ionosphere::{LayerInputs, LayersAt};
 use maps::{geometry, ionosphere};
 
 // The lengths and bearings of a path, radians but for the names that say otherwise, and its points.
@@ -50,23 +53,23 @@ pub struct Layers {
     pub zenmax: f32,
 }
 
-fn path_as(g: geometry::PathGeometry) -> Measured
-    ensures { result ≡ measured_of g }
-{
-    let gcd = g.gcd;
-    let btr = g.btr;
-    let brt = g.brt;
-    let rlatd = g.rlatd;
-    Measured {
-        gcd: gcd.0,
-        gcd_km: g.gcd_km,
-        btr: btr.0,
-        brt: brt.0,
-        rlatd: rlatd.0,
-        alatd: geometry::alatd(g).0,
-        btr_deg: geometry::btr_deg(g).0,
-        brt_deg: geometry::brt_deg(g).0,
-        points: g.count,
+// A path's figures as C has them.
+impl From<PathGeometry> for Measured {
+    #[tactic(auto, unfolding(crate::specs::Layers::measured_of))]
+    fn from(g: PathGeometry) -> Measured
+        ensures { result ≡ measured_of g }
+    {
+        Measured {
+            gcd: g.gcd.0,
+            gcd_km: g.gcd_km,
+            btr: g.btr.0,
+            brt: g.brt.0,
+            rlatd: g.rlatd.0,
+            alatd: geometry::alatd(g).0,
+            btr_deg: geometry::btr_deg(g).0,
+            brt_deg: geometry::brt_deg(g).0,
+            points: g.count,
+        }
     }
 }
 
@@ -85,7 +88,7 @@ pub fn jt_path(
         let pole = pole_typed pole_lat pole_lon in
         result ≡ measured_of (path_of (degrees tlat) (degrees tlong) (degrees rlat) (degrees rlong) long pole) }
 {
-    path_as(geometry::path_geometry(
+    Measured::from(geometry::path_geometry(
         Degrees(tlat),
         Degrees(tlong),
         Degrees(rlat),
@@ -103,32 +106,51 @@ pub fn jt_hour_maps(f2: &[u8], file: &[u8], ssn: f32, gmt: f32, ab: &mut TimeMap
         let m = file.now in
         ab.new ≡ written_over (files_check f m) (hour_maps_of f m ssn gmt) ab.old }
 {
-    answered(ionosphere::hour_maps(f2, file, ssn, gmt, ab))
+    Answer::from(ionosphere::hour_maps(f2, file, ssn, gmt, ab))
 }
 
-fn layers_as(l: LayersAt) -> Layers
-    ensures { result ≡ layers_as l }
-{
-    let verdict = l.verdict;
-    let p = l.params;
-    let fi = p.fi;
-    let yi = p.yi;
-    let hi = p.hi;
-    let zenang = p.zenang;
-    let zenmax = p.zenmax;
-    Layers {
-        number: verdict.number(),
-        place: verdict.place(),
-        fi: fi,
-        yi: yi,
-        hi: hi,
-        f2m3: p.f2m3,
-        hpf2: p.hpf2,
-        rat: p.rat,
-        abiy: p.abiy,
-        clck: p.clck,
-        zenang: zenang.0,
-        zenmax: zenmax.0,
+// The layers as C has them, or the refusal beside zeros.
+impl From<Result<LayerParams, Refusal>> for Layers {
+    fn from(layers: Result<LayerParams, Refusal>) -> Layers
+        ensures { result ≡ layers_as layers }
+    {
+        match layers {
+            Ok(p) => {
+                // Each array goes through a name. Tried without, and by a pattern: the borrow checker
+                // has no proof yet of an array's field that goes into a literal.
+                let fi = p.fi;
+                let yi = p.yi;
+                let hi = p.hi;
+                Layers {
+                    number: 0,
+                    place: 0,
+                    fi,
+                    yi,
+                    hi,
+                    f2m3: p.f2m3,
+                    hpf2: p.hpf2,
+                    rat: p.rat,
+                    abiy: p.abiy,
+                    clck: p.clck,
+                    zenang: p.zenang.0,
+                    zenmax: p.zenmax.0,
+                }
+            }
+            Err(why) => Layers {
+                number: why.number(),
+                place: why.place(),
+                fi: [0.0; 3],
+                yi: [0.0; 3],
+                hi: [0.0; 3],
+                f2m3: 0.0,
+                hpf2: 0.0,
+                rat: 0.0,
+                abiy: 0.0,
+                clck: 0.0,
+                zenang: 0.0,
+                zenmax: 0.0,
+            },
+        }
     }
 }
 
@@ -159,7 +181,7 @@ pub fn jt_layers_at(
         gmt,
         psc: factors(psc_e, psc_f1, psc_f2, psc_es),
     };
-    layers_as(ionosphere::layer_parameters_at(
+    Layers::from(ionosphere::layer_parameters_at(
         inputs,
         ab,
         file,

@@ -7,7 +7,7 @@ ghost use Rattle.jutetrowel.specs.Answers.{showing_of};
 ghost use Rattle.jutetrowel.specs.Fields.{inputs_typed};
 ghost use Rattle.jutetrowel.specs.Calls.{Shows};
 
-use crate::answers::{Showing, shown_as};
+use crate::answers::Showing;
 use crate::fields::{factors, pole, route};
 use maps::inputs::Inputs;
 use worksheet::desks::sheet_opened;
@@ -16,6 +16,7 @@ use worksheet::showing::{drawn, show};
 // The number of points of a sheet by its fields, which nothing judges, with its figures in the
 // buffer; a flag that is not 0 is the long way round. Refuses 12, 8, 9, 10, 23, 11; the buffer
 // stays.
+#[tactic(auto, unfolding(crate::specs::Fields::inputs_typed))]
 pub fn jt_figures(
     month: u32,
     ssn: f32,
@@ -53,18 +54,18 @@ pub fn jt_figures(
         pole: pole(pole_lat, pole_lon),
         model: 0,
     };
-    shown_as(drawn(i, f2, file, out))
+    Showing::from(drawn(i, f2, file, out))
 }
 
 // A whole sheet of 14 little-endian words, an F2 record and a month file: the number of points,
 // with the figures in the buffer. A 15th word is not read: the model is 0. Refuses the fields, 12,
 // 8, 9, 10, 23, 11; the buffer stays.
+#[tactic(auto, unfolding(worksheet::specs::Journal::step))]
 pub fn jt_sheet(words: &[u8], f2: &[u8], file: &[u8], out: &mut [f32]) -> Showing
     ensures { Shows (step (pair f2.now file.now)
         (showCall 0 out.old) (sheet_opened_of words.now).sheet).answer
         result out.new }
 {
-    let new = sheet_opened(words);
-    let w = new.sheet;
-    shown_as(show(w, 0, f2, file, out))
+    let w = sheet_opened(words).sheet;
+    Showing::from(show(w, 0, f2, file, out))
 }

@@ -11,5 +11,5 @@ use reading::say_all;
 fn main(rt: HostRuntime) {
     let mut input = rt.stdin();
     let mut buffer = io::large_buffer();
-    say_all(&mut input, &mut buffer);
+    say_all(&mut input, &rt, &mut buffer);
 }

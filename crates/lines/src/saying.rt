@@ -1,43 +1,33 @@
 // What is said of a line, on standard output.
-use crate::words::{WORDS, call_text, open_text};
+use crate::words::{Words, print_call};
 use listing::fault::fault_text;
 use listing::spoken::SPOKEN;
-use maps::inputs::Inputs;
-use system::STDOUT;
+use maps::inputs::to_words;
+use std::io;
 use wording::line::{Fault, Line, line_in};
 use wording::written::{call_written, inputs_written};
-use worksheet::journal::Call;
-
-fn say_open(i: Inputs) -> bool {
-    let mut text = [0u8; WORDS];
-    let n = open_text(i, &mut text);
-    io::write_all(STDOUT, &text[..n])
-}
-
-fn say_call(c: Call) -> bool {
-    let mut text = [0u8; WORDS];
-    let n = call_text(c, &mut text);
-    io::write_all(STDOUT, &text[..n])
-}
 
 // As `desk run` says it, with the line's number.
-fn say_fault(number: u64, f: Fault) -> bool {
+fn say_fault(out: &impl Print, number: u64, f: Fault) -> io::Result<()> {
     let mut text = [0u8; SPOKEN];
     let n = fault_text(number, f, &mut text);
-    io::write_all(STDOUT, &text[..n])
+    out.write_all(&text[..n])
 }
 
-// Whether all of it could be written. Each line is read by itself: a wrong one ends nothing.
-pub(crate) fn say_line(line: &[u8], number: u64) -> bool {
-    let said = line_in(line);
-    match said {
-        Line::Blank => io::write_all(STDOUT, b"blank\n"),
-        Line::Open(o) => say_open(inputs_written(o)),
-        Line::Call(c) => say_call(call_written(c)),
-        Line::Wrong(f) => say_fault(number, f),
+// Each line is read by itself: a wrong one ends nothing.
+pub(crate) fn say_line(out: &impl Print, line: &[u8], number: u64) -> io::Result<()> {
+    match line_in(line) {
+        Line::Blank => println!(out; "blank"),
+        Line::Open(o) => {
+            let words = to_words(inputs_written(o));
+            let words = Words(&words);
+            println!(out; "open {words}")
+        }
+        Line::Call(c) => print_call(out, call_written(c)),
+        Line::Wrong(f) => say_fault(out, number, f),
     }
 }
 
-pub(crate) fn say_long() -> bool {
-    io::write_all(STDOUT, b"too long\n")
+pub(crate) fn say_long(out: &impl Print) -> io::Result<()> {
+    println!(out; "too long")
 }

@@ -1,14 +1,12 @@
 -- The lines of an audit's page, for people: where a field comes from, what became of a draft that is not
 -- in the sheet, and the headings. Assumes nothing.
-use Rattle.std.specs.Prelude.{ℕ, cond, ◌&&◌, List, [], ◌++◌, leb}
+use Rattle.std.specs.Prelude.{ℕ, cond, ◌&&◌, List, [], ◌++◌, leb, None, Option, Some}
 use Rattle.maps.specs.declared.inputs.Inputs.{Inputs}
 use Rattle.wording.specs.Token.{ascii}
 use Rattle.listing.specs.declared.account.Came.{Came}
 use Rattle.listing.specs.declared.account.Came.TheVariants.{Opened, Set}
 use Rattle.listing.specs.declared.account.Became.{Became}
 use Rattle.listing.specs.declared.account.Became.TheVariants.{TakenBack, Cancelled, Never}
-use Rattle.listing.specs.declared.account.Balked.{Balked}
-use Rattle.listing.specs.declared.account.Balked.TheVariants.{No, At}
 use Rattle.listing.specs.Text.{decimal_of}
 use Rattle.listing.specs.Fields.{field_text}
 
@@ -40,12 +38,12 @@ became_words (Cancelled line) = ascii "cancelled" ++ at_line line
 became_words Never = ascii "not committed by then"
 
 -- where a commit of it was refused: `refused at line 6, `
-unfoldable pub balked_words : Balked → List ℕ
-balked_words No = []
-balked_words (At line) = ascii "refused" ++ (at_line line ++ ascii ", ")
+unfoldable pub balked_words : Option ℕ → List ℕ
+balked_words None = []
+balked_words (Some line) = ascii "refused" ++ (at_line line ++ ascii ", ")
 
 -- as `desk 2, begun at line 5: cancelled at line 7`
-unfoldable pub draft_line : ℕ → ℕ → Balked → Became → List ℕ
+unfoldable pub draft_line : ℕ → ℕ → Option ℕ → Became → List ℕ
 draft_line desk begun balked became =
     ascii "desk "
     ++ (decimal_of desk

@@ -1,13 +1,10 @@
 -- Text of answers. Assumes nothing.
-use Rattle.std.specs.Prelude.{ℕ, ◌+◌, ◌/◌, ◌%◌, ◌^◌, cond, List, [], ◌∷◌, ◌++◌, ltb, Float}
+use Rattle.std.specs.Prelude.{ℕ, ◌+◌, ◌/◌, ◌%◌, ◌^◌, cond, List, [], ◌∷◌, ◌++◌, ltb, Float, Err, Ok, Result}
 use Rattle.std.specs.Float.{binary32}
 use Rattle.std.specs.Float.Ieee.{to_bits}
 use Rattle.base.specs.declared.refusal.Refusal.{Refusal}
-use Rattle.base.specs.declared.refusal.Verdict.{Verdict}
-use Rattle.base.specs.declared.refusal.Verdict.TheVariants.{Accepted, Refused}
+use Rattle.base.specs.Refusal.{Verdict}
 use Rattle.base.specs.Refusal.{report_of}
-use Rattle.maps.specs.declared.figures.Shown.{Shown}
-use Rattle.maps.specs.declared.figures.Shown.TheVariants as shown
 use Rattle.wording.specs.Token.{ascii}
 use Rattle.listing.specs.Text.{decimal_of}
 
@@ -49,22 +46,22 @@ refusal_text why =
 
 -- of a call that shows nothing
 unfoldable pub verdict_text : Verdict → List ℕ
-verdict_text Accepted = ascii "accepted\n"
-verdict_text (Refused why) = refusal_text why
+verdict_text (Ok _) = ascii "accepted\n"
+verdict_text (Err why) = refusal_text why
 
 -- 'points', number, and the lines
 unfoldable pub points_text : ℕ → List Float → List ℕ
 points_text count figures = ascii "points " ++ (decimal_of count ++ (ascii "\n" ++ lines_of figures))
 
 -- of a showing in a journal
-unfoldable pub shown_text : Shown → List Float → List ℕ
-shown_text (shown.Points count) figures = points_text count figures
-shown_text (shown.Refused why) figures = refusal_text why
+unfoldable pub shown_text : Result ℕ Refusal → List Float → List ℕ
+shown_text (Ok count) figures = points_text count figures
+shown_text (Err why) figures = refusal_text why
 
 -- of a sheet by itself: no number of points
-unfoldable pub sheet_text : Shown → List Float → List ℕ
-sheet_text (shown.Points count) figures = lines_of figures
-sheet_text (shown.Refused why) figures = refusal_text why
+unfoldable pub sheet_text : Result ℕ Refusal → List Float → List ℕ
+sheet_text (Ok count) figures = lines_of figures
+sheet_text (Err why) figures = refusal_text why
 
 -- of bytes that make no call: where they start
 unfoldable pub stopped_text : ℕ → List ℕ

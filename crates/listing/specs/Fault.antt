@@ -1,16 +1,12 @@
 -- What is wrong with a line of a journal, in words for people. Assumes nothing.
-use Rattle.std.specs.Prelude.{ℕ, cond, List, [], ◌∷◌, ◌++◌, ltb, get_or}
+use Rattle.std.specs.Prelude.{ℕ, List, ◌++◌}
 use Prim.Native.String.{String}
 use Rattle.wording.specs.declared.line.Wanted.{Wanted}
 use Rattle.wording.specs.declared.line.Wanted.TheVariants.{Start, Deed, Word, Number, Whole, Model, Nothing}
 use Rattle.wording.specs.declared.line.Fault.{Fault}
-use Rattle.wording.specs.Token.{ascii, names}
+use Rattle.wording.specs.Token.{ascii, name_of}
 use Rattle.listing.specs.Text.{decimal_of}
 use Rattle.listing.specs.Spoken.{line_mark}
-
--- the word of a number
-abbrev pub word_name : ℕ → String
-word_name k = get_or names k "another"
 
 abbrev pub should_be : String → List ℕ
 should_be s = ascii "should be " ++ ascii s
@@ -19,7 +15,7 @@ should_be s = ascii "should be " ++ ascii s
 unfoldable pub wanted_text : Wanted → List ℕ
 wanted_text Start = should_be "open, show, take back or a desk's number"
 wanted_text Deed = should_be "begin, sunspot, hour, month, model, path, factors, pole, show, commit or cancel"
-wanted_text (Word k) = should_be (word_name k)
+wanted_text (Word w) = should_be (name_of w)
 wanted_text Number = should_be "a number: digits with sign and point, at most 18 of them"
 wanted_text Whole = should_be "a whole number below 4294967296"
 wanted_text Model = should_be "ccir or ursi"
@@ -38,33 +34,3 @@ again_text line = line_mark line ++ ascii "no call: the worksheet is open alread
 
 unfoldable pub unopened_text : ℕ → List ℕ
 unopened_text line = line_mark line ++ ascii "no call: a journal begins with open\n"
-
--- ---- on the way: nothing below need be believed
-
--- what is said, in the order of the source's table: of a word up to its name
-abbrev pub sayings : List String
-sayings =
-    "should be open, show, take back or a desk's number"
-    ∷ "should be begin, sunspot, hour, month, model, path, factors, pole, show, commit or cancel"
-    ∷ "should be "
-    ∷ "should be a number: digits with sign and point, at most 18 of them"
-    ∷ "should be a whole number below 4294967296"
-    ∷ "should be ccir or ursi"
-    ∷ "is one too many"
-    ∷ []
-
-abbrev pub saying_row : Wanted → ℕ
-saying_row Start = 0
-saying_row Deed = 1
-saying_row (Word k) = 2
-saying_row Number = 3
-saying_row Whole = 4
-saying_row Model = 5
-saying_row Nothing = 6
-
-abbrev pub saying_of : Wanted → String
-saying_of w = get_or sayings (saying_row w) ""
-
--- the row of a word's name, or of what stands for any other
-abbrev pub name_row : ℕ → ℕ
-name_row k = cond (ltb k 19) k 19

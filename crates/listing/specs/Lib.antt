@@ -14,3 +14,4 @@ pub mod Spoken
 pub mod Written
 pub mod Fault
 pub mod Account
+pub mod Unit

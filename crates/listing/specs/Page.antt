@@ -1,5 +1,5 @@
 -- The page of a sheet, for a person to read. Assumes nothing.
-use Rattle.std.specs.Prelude.{ℕ, zero, suc, ◌+◌, ◌*◌, Bool, cond, List, [], ◌∷◌, ◌++◌, eqb, ltb, get_or, take, replicate, Float}
+use Rattle.std.specs.Prelude.{ℕ, zero, suc, ◌+◌, ◌*◌, Bool, cond, List, [], ◌∷◌, ◌++◌, ltb, get_or, take, replicate, Float}
 use Prim.Native.String.{String, [] as []ˢ, ◌∷◌ as ◌∷ˢ◌}
 use Rattle.std.specs.Float.{nan, binary32}
 use Rattle.std.specs.Float.Ieee.{to_bits}
@@ -141,16 +141,3 @@ first_points count figures (suc p) = first_points count figures p ++ there_text 
 
 unfoldable pub page_text : Inputs → ℕ → List Float → List ℕ
 page_text i count figures = fields_text i ++ (rows_text 12 figures 0 6 ++ first_points count figures 5)
-
--- ---- on the way: nothing below need be believed
-
--- Only private contracts and proofs use what follows.
-
--- the letters before the first blank
-unfoldable pub letters_in : List ℕ → List ℕ
-letters_in [] = []
-letters_in (c ∷ l) = cond (eqb c 32) [] (c ∷ letters_in l)
-
--- after two blanks, where there are any
-unfoldable pub unit_in : List ℕ → List ℕ
-unit_in l = cond (eqb (get_or l 0 0) 32) [] (ascii "  " ++ letters_in l)

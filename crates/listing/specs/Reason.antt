@@ -1,5 +1,5 @@
 -- Why something is refused, in words; docs/REFUSALS.md says more. Assumes nothing.
-use Rattle.std.specs.Prelude.{ℕ, List, [], ◌∷◌, ◌++◌}
+use Rattle.std.specs.Prelude.{ℕ, List, ◌++◌}
 use Prim.Native.String.{String}
 use Rattle.base.specs.declared.refusal.Refusal.{Refusal}
 use Rattle.base.specs.declared.refusal.Refusal.TheVariants.{Month, Sunspot, Hour, Latitude, Longitude, Factor, Flag, Model, Record, Ended, Marker, RecordWord, MonthWord, Index, Figures, Table, Desk, Drafted, NoDraft, Stale, NothingEarlier, Year}
@@ -37,59 +37,3 @@ refused_words why =
     ascii "refused "
     ++ (decimal_of (report_of why).0
     ++ (ascii " " ++ (decimal_of (report_of why).1 ++ (ascii ": " ++ ascii (reason_of why)))))
-
--- ---- on the way: nothing below need be believed
-
--- Only private contracts and proofs use what follows.
-
--- the reasons in the order of the source's table
-abbrev pub reasons : List String
-reasons =
-    "the month is not 1 to 12"
-    ∷ "the sunspot number is not 0 to 300"
-    ∷ "the hour is not 0 to 24"
-    ∷ "a latitude is not -90 to 90 degrees"
-    ∷ "a longitude is not -180 to 180 degrees"
-    ∷ "a factor is not 0.125 to 8"
-    ∷ "the long-path flag is neither 0 nor 1"
-    ∷ "the F2 model is neither CCIR nor URSI"
-    ∷ "the F2 record of the month is not whole"
-    ∷ "the month file ends too early"
-    ∷ "the month file has a wrong marker at this byte"
-    ∷ "the F2 planes have no finite number at this byte"
-    ∷ "the month file has no finite number at this byte"
-    ∷ "the month file has a bad index table for this map"
-    ∷ "the buffer has not 151 numbers"
-    ∷ "there is no such table"
-    ∷ "there is no such desk"
-    ∷ "the desk has a draft already"
-    ∷ "the desk has no draft"
-    ∷ "the worksheet has moved since the draft began"
-    ∷ "there is nothing to take back"
-    ∷ "the year file has a bad directory at this pair"
-    ∷ []
-
--- which of them is a refusal's
-abbrev pub reason_row : Refusal → ℕ
-reason_row Month = 0
-reason_row Sunspot = 1
-reason_row Hour = 2
-reason_row (Latitude field) = 3
-reason_row (Longitude field) = 4
-reason_row (Factor field) = 5
-reason_row Flag = 6
-reason_row Model = 7
-reason_row Record = 8
-reason_row (Ended at) = 9
-reason_row (Marker at) = 10
-reason_row (RecordWord at) = 11
-reason_row (MonthWord at) = 12
-reason_row (Index map) = 13
-reason_row Figures = 14
-reason_row Table = 15
-reason_row Desk = 16
-reason_row Drafted = 17
-reason_row NoDraft = 18
-reason_row Stale = 19
-reason_row NothingEarlier = 20
-reason_row (Year pair) = 21

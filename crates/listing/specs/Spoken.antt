@@ -1,10 +1,8 @@
 -- What a call of a journal is answered, in words for people. Assumes nothing.
-use Rattle.std.specs.Prelude.{ℕ, cond, List, ◌++◌, eqb, Float}
+use Rattle.base.specs.declared.refusal.Refusal.{Refusal}
+use Rattle.std.specs.Prelude.{ℕ, cond, List, ◌++◌, eqb, Float, Err, Ok, Result}
 use Prim.Native.String.{String}
-use Rattle.base.specs.declared.refusal.Verdict.{Verdict}
-use Rattle.base.specs.declared.refusal.Verdict.TheVariants.{Accepted, Refused}
-use Rattle.maps.specs.declared.figures.Shown.{Shown}
-use Rattle.maps.specs.declared.figures.Shown.TheVariants.{Points, Refused as NotShown}
+use Rattle.base.specs.Refusal.{Verdict}
 use Rattle.maps.specs.declared.inputs.Inputs.{Inputs}
 use Rattle.worksheet.specs.declared.desks.Worksheet.{Worksheet}
 use Rattle.worksheet.specs.declared.journal.Call.{Call}
@@ -23,8 +21,8 @@ unfoldable pub line_mark : ℕ → List ℕ
 line_mark line = ascii "line " ++ (decimal_of line ++ ascii ": ")
 
 unfoldable pub verdict_words : Verdict → List ℕ
-verdict_words Accepted = ascii "accepted\n"
-verdict_words (Refused why) = refused_line why
+verdict_words (Ok _) = ascii "accepted\n"
+verdict_words (Err why) = refused_line why
 
 abbrev pub points_noun : ℕ → String
 points_noun count = cond (eqb count 1) " point\n" " points\n"
@@ -36,9 +34,9 @@ points_words i count figures =
     ++ (decimal_of count
     ++ (ascii (points_noun count) ++ (columns_text i count figures ++ ascii "\n")))
 
-unfoldable pub shown_words : Inputs → Shown → List Float → List ℕ
-shown_words i (Points count) figures = points_words i count figures
-shown_words i (NotShown why) figures = refused_line why
+unfoldable pub shown_words : Inputs → Result ℕ Refusal → List Float → List ℕ
+shown_words i (Ok count) figures = points_words i count figures
+shown_words i (Err why) figures = refused_line why
 
 -- of an answer as demand 3 has it, a showing's being of the inputs i
 unfoldable pub spoken_text : ℕ → Inputs → Answer → List ℕ

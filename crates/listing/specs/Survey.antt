@@ -1,9 +1,8 @@
 -- What can be shown from a year file: a line for a month and a model, for people. Assumes nothing.
-use Rattle.std.specs.Prelude.{ℕ, cond, List, ◌++◌, eqb}
+use Rattle.std.specs.Prelude.{ℕ, cond, List, ◌++◌, eqb, Err, Ok}
 use Prim.Native.String.{String}
 use Rattle.base.specs.declared.refusal.Refusal.{Refusal}
-use Rattle.base.specs.declared.refusal.Verdict.{Verdict}
-use Rattle.base.specs.declared.refusal.Verdict.TheVariants.{Accepted, Refused}
+use Rattle.base.specs.Refusal.{Verdict}
 use Rattle.worksheet.specs.Showing.{year_files_check}
 use Rattle.wording.specs.Token.{ascii}
 use Rattle.listing.specs.Text.{decimal_of}
@@ -14,8 +13,8 @@ abbrev pub model_name : ℕ → String
 model_name model = cond (eqb model 0) "CCIR" (cond (eqb model 1) "URSI" "no model")
 
 abbrev pub found_text : Verdict → List ℕ
-found_text Accepted = ascii "can be shown"
-found_text (Refused why) = refused_words why
+found_text (Ok _) = ascii "can be shown"
+found_text (Err why) = refused_words why
 
 -- the line of a refusal by itself
 unfoldable pub refused_line : Refusal → List ℕ

@@ -1,6 +1,7 @@
 -- Text put into a lent buffer piece after piece, and whole numbers in decimal digits. Assumes
 -- nothing.
-use Rattle.std.specs.Prelude.{ℕ, zero, suc, ◌+◌, ◌/◌, ◌%◌, ◌^◌, ◌≡◌, Bool, true, cond, List, [], ◌∷◌, ◌++◌, eqb, ltb, length, take}
+use Rattle.std.specs.Prelude.{ℕ, zero, suc, ◌+◌, ◌/◌, ◌%◌, ◌^◌, ◌≡◌, ◌≤◌, Bool, true, cond, List, [], ◌∷◌, ◌++◌, eqb, ltb, length, take}
+use Rattle.listing.specs.declared.text.Text.{Text}
 
 -- ---- decimal digits
 
@@ -29,8 +30,13 @@ decimal_of n = digits_below n 20
 
 -- Only private contracts and proofs use what follows.
 
--- after the first `at` bytes of `before` stands `piece`, up to the place `next`
-pub record Put (before : List ℕ) (at : ℕ) (piece after : List ℕ) (next : ℕ) : Type 0 where
-  pub text : take next after ≡ take at before ++ piece
-  pub place : next ≡ at + length piece
-  pub size : length after ≡ length before
+-- there is room for n bytes more
+abbrev pub HasRoom : Text → ℕ → Type 0
+HasRoom text n = text.len + n ≤ length text.out.now
+
+-- `after` has what `before` has and the piece behind it, in the same buffer
+pub record Puts (before : Text) (piece : List ℕ) (after : Text) : Type 0 where
+  pub text : take after.len after.out.now ≡ take before.len before.out.now ++ piece
+  pub len : after.len ≡ before.len + length piece
+  pub size : length after.out.now ≡ length before.out.now
+  pub same : after.out.ghost_name ≡ before.out.ghost_name

@@ -106,15 +106,3 @@ line_text Blank = []
 line_text (Open o) = open_text o ++ ascii "\n"
 line_text (Call c) = call_text c ++ ascii "\n"
 line_text (Wrong f) = []
-
--- ---- on the way: nothing below need be believed
-
--- how an open begins, up to its route, and what comes after that
-unfoldable pub head_text : WrittenInputs → List ℕ
-head_text o =
-    ascii "open month "
-    ++ (decimal_of o.month ++ (ascii " sunspot " ++ (number_text o.ssn ++ (ascii " hour " ++ number_text o.gmt))))
-
-unfoldable pub tail_text : WrittenInputs → List ℕ
-tail_text o =
-    ascii " " ++ (factors_text o.psc ++ (ascii " " ++ (pole_text o.pole ++ (ascii " " ++ model_text o.model))))

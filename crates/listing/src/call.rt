@@ -18,6 +18,8 @@ pub const START: u32 = (SHEET_BYTES + RECORD + MONTH_FILE) as u32;
 // The same over a year file without its bytes: before it stand the words and its length.
 pub const YEAR_START: u32 = (FIELD_BYTES + 4) as u32;
 
+// What is read of an input. Three states and no Result of an Option: `call_in` is public, and the
+// definition of that name gives one of them.
 #[derive(Clone, Copy)]
 pub enum Read {
     // The input has ended.
@@ -27,7 +29,8 @@ pub enum Read {
     Call(Call),
 }
 
-// By the operation's number, of which 0 is none.
+// By the operation's number, of which 0 is none. Operations stay numbers: an input has them so, and
+// the public `operation_in`, `size_of` and `call_in` take them.
 const SIZES: [usize; 13] = [0, 4, 8, 8, 24, 20, 12, 4, 4, 0, 4, 8, 8];
 
 // An operation's number as a journal knows it: over a pair of files every number above 10

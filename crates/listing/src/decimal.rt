@@ -2,10 +2,10 @@
 ghost use Rattle.std.specs.Prelude.{◌≡◌, ◌+◌, ◌^◌, ◌≤◌, ◌<◌, length};
 ghost use Rattle.std.specs.Float.{binary32};
 ghost use Rattle.std.specs.Float.Ieee.{of_fields};
-ghost use Rattle.listing.specs.Text.{Put};
-ghost use Rattle.listing.specs.Decimal.{nearest_of, sign_text, leading_of, text_of, scaled_text, decimal_text};
+ghost use Rattle.listing.specs.Text.{Puts, HasRoom};
+ghost use Rattle.listing.specs.Decimal.{nearest_of, sign_text, leading_of, text_of, minus_of, scaled_text, decimal_text};
 
-use crate::text::{digit, divided, has_digit, put, put_if, put_number};
+use crate::text::{Text, digit, divided, has_digit};
 use base::number;
 
 // n / 2^s, to the nearest whole number.
@@ -31,12 +31,12 @@ fn leading(n: u64, negative: bool, k: u32) -> u8
     ensures { result ≡ leading_of n negative k }
 {
     if has_digit(n, k + 1) {
-        return digit(n, k + 1);
+        digit(n, k + 1)
+    } else if has_digit(n, k) {
+        sign(negative)
+    } else {
+        b' '
     }
-    if has_digit(n, k) {
-        return sign(negative);
-    }
-    b' '
 }
 
 // The digits of a number of millionths, at the end of 16 bytes: at least one before the point, and
@@ -44,6 +44,7 @@ fn leading(n: u64, negative: bool, k: u32) -> u8
 fn text_of(millionths: u64, negative: bool) -> [u8; 16]
     ensures { result ≡ text_of millionths negative }
 {
+    // Written out, as the point and what is put before the first digit stand among the digits.
     let n = millionths / 1000000;
     [
         leading(n, negative, 7),
@@ -81,52 +82,59 @@ fn small(negative: bool, exponent: u32, fraction: u32) -> [u8; 16]
     )
 }
 
-// A number of 2^24 or more in size is a whole number: its 24 bits times a power of two.
-fn put_scaled(out: &mut [u8], at: usize, negative: bool, q: u32, k: u32) -> usize
-    requires { at + 44 ≤ length out.old }
-    ensures { Put out.old at (scaled_text negative q k) out.new result }
+// Puts a minus sign, or nothing.
+#[tactic(auto, using(crate::proofs::Sizes::sizes), unfolding(crate::specs::Decimal::minus_of))]
+pub(crate) fn put_minus(text: &mut Text, negative: bool)
+    requires { HasRoom text.old 1 }
+    ensures { Puts text.old (minus_of negative) text.new }
 {
-    let next = put_if(out, at, negative, b"-");
-    let next = put_number(out, next, q as u64);
-    let next = put(out, next, b"*2^");
-    put_number(out, next, k as u64)
+    text.put_if(negative, b"-");
+}
+
+// A number of 2^24 or more in size is a whole number: its 24 bits times a power of two.
+#[tactic(auto, using(crate::proofs::Sizes::sizes), unfolding(crate::specs::Decimal::scaled_text))]
+fn put_scaled(text: &mut Text, negative: bool, q: u32, k: u32)
+    requires { HasRoom text.old 44 }
+    ensures { Puts text.old (scaled_text negative q k) text.new }
+{
+    put_minus(text, negative);
+    text.put_number(q as u64);
+    text.put(b"*2^");
+    text.put_number(k as u64);
 }
 
 // The number whose bits these are: the sign, the exponent and the fraction.
-fn put_parts(out: &mut [u8], at: usize, negative: bool, exponent: u32, fraction: u32) -> usize
+#[tactic(auto, using(crate::proofs::Sizes::sizes))]
+fn put_parts(text: &mut Text, negative: bool, exponent: u32, fraction: u32)
     requires exponent_bound { exponent ≤ 255 }
     requires fraction_bound { fraction < 8388608 }
-    requires at_in_bounds { at + 44 ≤ length out.old }
-    ensures { Put out.old at
-        (decimal_text (of_fields binary32 negative exponent fraction)) out.new result }
+    requires at_in_bounds { HasRoom text.old 44 }
+    ensures { Puts text.old
+        (decimal_text (of_fields binary32 negative exponent fraction)) text.new }
 {
     if exponent <= 150 {
-        let text = small(negative, exponent, fraction);
-        return put(out, at, &text);
+        text.put(&small(negative, exponent, fraction));
+    } else if exponent < 255 {
+        put_scaled(text, negative, 8388608 + fraction, exponent - 150);
+    } else if fraction > 0 {
+        text.put(b"             nan");
+    } else if negative {
+        text.put(b"            -inf");
+    } else {
+        text.put(b"             inf");
     }
-    if exponent < 255 {
-        return put_scaled(out, at, negative, 8388608 + fraction, exponent - 150);
-    }
-    if fraction > 0 {
-        return put(out, at, b"             nan");
-    }
-    if negative {
-        return put(out, at, b"            -inf");
-    }
-    put(out, at, b"             inf")
 }
 
 // A float, in 16 bytes but for the largest.
-pub(crate) fn put_float(out: &mut [u8], at: usize, x: f32) -> usize
-    requires { at + 44 ≤ length out.old }
-    ensures { Put out.old at (decimal_text x) out.new result }
+pub(crate) fn put_float(text: &mut Text, x: f32)
+    requires { HasRoom text.old 44 }
+    ensures { Puts text.old (decimal_text x) text.new }
 {
     let w = number::bits32(x);
     put_parts(
-        out,
-        at,
+        text,
         w >= 0x8000_0000,
         w % 0x8000_0000 / 0x80_0000,
         w % 0x80_0000,
-    )
+    );
 }

@@ -3,18 +3,18 @@ ghost use Rattle.std.specs.Prelude.{◌≡◌, ◌+◌, ◌-◌, ◌≤◌, leng
 ghost use Rattle.std.specs.Float.{nan};
 ghost use Rattle.io.specs.Counts.{IsPrefixLen};
 ghost use Rattle.wording.specs.Token.{ascii};
-ghost use Rattle.listing.specs.Text.{Put, decimal_of};
+ghost use Rattle.listing.specs.Text.{Puts, HasRoom, decimal_of};
 ghost use Rattle.listing.specs.Page.{unit_text};
 ghost use Rattle.listing.specs.Survey.{model_name};
 ghost use Rattle.listing.specs.Fields.{at_right, field_row, flag_name, field_value, field_name, field_text, field_line, fields_words, singles};
 
 use crate::decimal::put_float;
-use crate::survey::put_model;
-use crate::text::{put, put_number};
+use crate::survey::model_name;
+use crate::text::Text;
+use crate::unit::Unit;
 use maps::inputs::{FIELDS, Inputs};
 
-// The fields by name in 24 letters, and below by unit after two blanks, with how many letters of it
-// count.
+// The fields by name, in 24 letters, and below by unit.
 const FIELD_NAMES: [[u8; 24]; FIELDS] = [
     *b"month                   ",
     *b"sunspot number          ",
@@ -33,68 +33,55 @@ const FIELD_NAMES: [[u8; 24]; FIELDS] = [
     *b"F2 model                ",
 ];
 
-const FIELD_UNITS: [[u8; 11]; FIELDS] = [
-    *b"           ",
-    *b"           ",
-    *b"  hours GMT",
-    *b"  degrees  ",
-    *b"  degrees  ",
-    *b"  degrees  ",
-    *b"  degrees  ",
-    *b"           ",
-    *b"           ",
-    *b"           ",
-    *b"           ",
-    *b"           ",
-    *b"  degrees  ",
-    *b"  degrees  ",
-    *b"           ",
+const FIELD_UNITS: [Unit; FIELDS] = [
+    Unit::Bare,
+    Unit::Bare,
+    Unit::HoursGmt,
+    Unit::Degrees,
+    Unit::Degrees,
+    Unit::Degrees,
+    Unit::Degrees,
+    Unit::Bare,
+    Unit::Bare,
+    Unit::Bare,
+    Unit::Bare,
+    Unit::Bare,
+    Unit::Degrees,
+    Unit::Degrees,
+    Unit::Bare,
 ];
 
-const UNIT_LETTERS: [usize; FIELDS] = [0, 0, 11, 9, 9, 9, 9, 0, 0, 0, 0, 0, 9, 9, 0];
-
-// Puts a text at the right end of 16 letters.
-fn put_right(out: &mut [u8], at: usize, piece: &[u8]) -> usize
-    requires piece_len_bound { length piece.now ≤ 16 }
-    requires at_in_bounds { at + 16 ≤ length out.old }
-    ensures { Put out.old at (at_right piece.now) out.new result }
+// Puts a text at the right end of 16 letters; a longer text as it is.
+#[tactic(auto, unfolding(crate::specs::Fields::at_right))]
+pub(crate) fn put_right(text: &mut Text, piece: &[u8])
+    requires { HasRoom text.old (length (at_right piece.now)) }
+    ensures { Puts text.old (at_right piece.now) text.new }
 {
     let blanks = [b' '; 16];
-    let n = 16 - piece.len();
-    let next = put(out, at, &blanks[..n]);
-    put(out, next, piece)
+    text.put(&blanks[..16usize.saturating_sub(piece.len())]);
+    text.put(piece);
 }
 
 // Puts a whole number so.
-pub(crate) fn put_whole(out: &mut [u8], at: usize, n: u32) -> usize
-    requires { at + 16 ≤ length out.old }
-    ensures { Put out.old at (at_right (decimal_of n)) out.new result }
+#[tactic(auto, using(crate::proofs::Sizes::sizes))]
+pub(crate) fn put_whole(text: &mut Text, n: u32)
+    requires { HasRoom text.old 16 }
+    ensures { Puts text.old (at_right (decimal_of n)) text.new }
 {
-    let mut digits = [0u8; 10];
-    let size = put_number(&mut digits, 0, n as u64);
-    put_right(out, at, &digits[..size])
+    let mut out = [0u8; 10];
+    let mut digits = Text::new(&mut out);
+    digits.put_number(n as u64);
+    put_right(text, digits.written());
 }
 
-fn put_flag(out: &mut [u8], at: usize, flag: u32) -> usize
-    requires { at + 16 ≤ length out.old }
-    ensures { Put out.old at (at_right (ascii (flag_name flag))) out.new result }
+fn flag_name(flag: u32) -> &'static [u8]
+    ensures { result.now ≡ ascii (flag_name flag) }
 {
-    if flag == 0 {
-        return put_right(out, at, b"no");
+    match flag {
+        0 => b"no",
+        1 => b"yes",
+        _ => b"neither 0 nor 1",
     }
-    if flag == 1 {
-        return put_right(out, at, b"yes");
-    }
-    put_right(out, at, b"neither 0 nor 1")
-}
-
-fn put_model_right(out: &mut [u8], at: usize, model: u32) -> usize
-    requires { at + 16 ≤ length out.old }
-    ensures { Put out.old at (at_right (ascii (model_name model))) out.new result }
-{
-    let mut name = [0u8; 8];
-    let size = put_model(&mut name, 0, model);
-    put_right(out, at, &name[..size])
 }
 
 // The number of a field that is an `f32`; of any other 0.
@@ -104,38 +91,40 @@ fn single(i: Inputs, k: u32) -> f32
     ensures { result ≡ get_or (singles i) (k - 1) nan }
 {
     let route = i.route;
-    let tlat = route.tlat;
-    let tlong = route.tlong;
-    let rlat = route.rlat;
-    let rlong = route.rlong;
     let psc = i.psc;
     let pole = i.pole;
-    let lat = pole.lat;
-    let lon = pole.lon;
     let singles = [
-        0.0, i.ssn, i.gmt, tlat.0, tlong.0, rlat.0, rlong.0, 0.0, psc.e, psc.f1, psc.f2, psc.es,
-        lat.0, lon.0, 0.0,
+        0.0,
+        i.ssn,
+        i.gmt,
+        route.tlat.0,
+        route.tlong.0,
+        route.rlat.0,
+        route.rlong.0,
+        0.0,
+        psc.e,
+        psc.f1,
+        psc.f2,
+        psc.es,
+        pole.lat.0,
+        pole.lon.0,
+        0.0,
     ];
     singles[(k - 1) as usize]
 }
 
-fn put_field_value(out: &mut [u8], at: usize, i: Inputs, k: u32) -> usize
+fn put_field_value(text: &mut Text, i: Inputs, k: u32)
     requires le_k { 1 ≤ k }
     requires k_bound { k ≤ 15 }
-    requires at_in_bounds { at + 44 ≤ length out.old }
-    ensures { Put out.old at (field_value i k) out.new result }
+    requires at_in_bounds { HasRoom text.old 44 }
+    ensures { Puts text.old (field_value i k) text.new }
 {
-    let route = i.route;
-    if k == 1 {
-        return put_whole(out, at, i.month);
+    match k {
+        1 => put_whole(text, i.month),
+        8 => put_right(text, flag_name(i.route.long_path)),
+        15 => put_right(text, model_name(i.model)),
+        _ => put_float(text, single(i, k)),
     }
-    if k == 8 {
-        return put_flag(out, at, route.long_path);
-    }
-    if k == 15 {
-        return put_model_right(out, at, i.model);
-    }
-    put_float(out, at, single(i, k))
 }
 
 fn field_name(k: u32) -> [u8; 24]
@@ -146,51 +135,46 @@ fn field_name(k: u32) -> [u8; 24]
     FIELD_NAMES[(k - 1) as usize]
 }
 
-fn put_field_unit(out: &mut [u8], at: usize, k: u32) -> usize
+// The unit after two blanks, where there is one.
+fn field_unit(k: u32) -> &'static [u8]
     requires le_k { 1 ≤ k }
     requires k_bound { k ≤ 15 }
-    requires at_in_bounds { at + 11 ≤ length out.old }
-    ensures { Put out.old at (unit_text (field_row k).unit) out.new result }
+    ensures { result.now ≡ unit_text (field_row k).unit }
 {
-    let k = (k - 1) as usize;
-    let row = FIELD_UNITS[k];
-    let n = UNIT_LETTERS[k];
-    put(out, at, &row[..n])
+    FIELD_UNITS[(k - 1) as usize].words()
 }
 
 // Puts the line of field k, with no line feed.
-pub(crate) fn put_field(out: &mut [u8], at: usize, i: Inputs, k: u32) -> usize
+#[tactic(auto, using(crate::proofs::Sizes::sizes), unfolding(crate::specs::Fields::field_text))]
+pub(crate) fn put_field(text: &mut Text, i: Inputs, k: u32)
     requires le_k { 1 ≤ k }
     requires k_bound { k ≤ 15 }
-    requires at_in_bounds { at + 79 ≤ length out.old }
-    ensures { Put out.old at (field_text i k) out.new result }
+    requires at_in_bounds { HasRoom text.old 79 }
+    ensures { Puts text.old (field_text i k) text.new }
 {
-    let name = field_name(k);
-    let next = put(out, at, &name);
-    let next = put_field_value(out, next, i, k);
-    put_field_unit(out, next, k)
+    text.put(&field_name(k));
+    put_field_value(text, i, k);
+    text.put(field_unit(k));
 }
 
-fn put_field_line(out: &mut [u8], at: usize, i: Inputs, k: u32) -> usize
+#[tactic(auto, using(crate::proofs::Sizes::sizes))]
+fn put_field_line(text: &mut Text, i: Inputs, k: u32)
     requires le_k { 1 ≤ k }
     requires k_bound { k ≤ 15 }
-    requires at_in_bounds { at + 80 ≤ length out.old }
-    ensures { Put out.old at (field_line i k) out.new result }
+    requires at_in_bounds { HasRoom text.old 80 }
+    ensures { Puts text.old (field_line i k) text.new }
 {
-    let next = put_field(out, at, i, k);
-    put(out, next, b"\n")
+    put_field(text, i, k);
+    text.put(b"\n");
 }
 
 // Puts the lines of all fields.
-pub(crate) fn put_fields_words(out: &mut [u8], at: usize, i: Inputs) -> usize
-    requires { at + 1200 ≤ length out.old }
-    ensures { Put out.old at (fields_words i) out.new result }
+#[tactic(auto, using(crate::proofs::Sizes::sizes), unfolding(crate::specs::Fields::fields_words))]
+pub(crate) fn put_fields_words(text: &mut Text, i: Inputs)
+    requires { HasRoom text.old 1200 }
+    ensures { Puts text.old (fields_words i) text.new }
 {
-    let mut next = at;
-    let mut k: u32 = 0;
-    while k < 15 {
-        next = put_field_line(out, next, i, k + 1);
-        k += 1;
+    for k in 0..15 {
+        put_field_line(text, i, k + 1);
     }
-    next
 }

@@ -16,4 +16,5 @@ pub mod spoken;
 pub mod survey;
 mod text;
 pub mod turn;
+mod unit;
 pub mod written;

@@ -1,12 +1,14 @@
 // A sheet with names, decimals and units beside the bits, for a person to read.
 ghost use Rattle.std.specs.Prelude.{◌≡◌, ◌+◌, ◌*◌, ◌≤◌, ◌<◌, length, take};
 ghost use Rattle.io.specs.Counts.{IsPrefixLen};
-ghost use Rattle.listing.specs.Text.{Put};
-ghost use Rattle.listing.specs.Page.{page_row, name_text, letters_in, unit_in, unit_text, value_text, row_text, rows_text, fields_text, point_text, there_text, first_points, page_text};
+ghost use Rattle.maps.specs.Inputs.{is_long};
+ghost use Rattle.listing.specs.Text.{Puts, HasRoom};
+ghost use Rattle.listing.specs.Page.{page_row, name_text, unit_text, value_text, row_text, rows_text, long_text, fields_text, point_text, there_text, first_points, page_text};
 
 use crate::answer::hex;
 use crate::decimal::put_float;
-use crate::text::{put, put_if, put_number};
+use crate::text::Text;
+use crate::unit::Unit;
 use base::number;
 use maps::figures::FIGURES;
 use maps::inputs::Inputs;
@@ -14,8 +16,8 @@ use maps::inputs::Inputs;
 // More than the bytes of the longest page.
 pub const PAGE: usize = 12800;
 
-// The numbers of a page by name, and below by unit, in 12 and 7 letters: the fields after the
-// month, the fields after the flag, the figures of the path, the figures of a point.
+// The numbers of a page by name, in 12 letters, and below by unit: the fields after the month, the
+// fields after the flag, the figures of the path, the figures of a point.
 const NAMES: [[u8; 12]; 47] = [
     *b"ssn         ",
     *b"gmt         ",
@@ -66,54 +68,54 @@ const NAMES: [[u8; 12]; 47] = [
     *b"epsilon     ",
 ];
 
-const UNITS: [[u8; 7]; 47] = [
-    *b"       ",
-    *b"hours  ",
-    *b"degrees",
-    *b"degrees",
-    *b"degrees",
-    *b"degrees",
-    *b"       ",
-    *b"       ",
-    *b"       ",
-    *b"       ",
-    *b"degrees",
-    *b"degrees",
-    *b"radians",
-    *b"km     ",
-    *b"radians",
-    *b"radians",
-    *b"degrees",
-    *b"degrees",
-    *b"radians",
-    *b"radians",
-    *b"radians",
-    *b"radians",
-    *b"MHz    ",
-    *b"radians",
-    *b"radians",
-    *b"MHz    ",
-    *b"MHz    ",
-    *b"MHz    ",
-    *b"km     ",
-    *b"km     ",
-    *b"km     ",
-    *b"km     ",
-    *b"km     ",
-    *b"km     ",
-    *b"       ",
-    *b"km     ",
-    *b"       ",
-    *b"       ",
-    *b"hours  ",
-    *b"degrees",
-    *b"degrees",
-    *b"MHz    ",
-    *b"MHz    ",
-    *b"MHz    ",
-    *b"km     ",
-    *b"mhos/m ",
-    *b"       ",
+const UNITS: [Unit; 47] = [
+    Unit::Bare,
+    Unit::Hours,
+    Unit::Degrees,
+    Unit::Degrees,
+    Unit::Degrees,
+    Unit::Degrees,
+    Unit::Bare,
+    Unit::Bare,
+    Unit::Bare,
+    Unit::Bare,
+    Unit::Degrees,
+    Unit::Degrees,
+    Unit::Radians,
+    Unit::Kilometres,
+    Unit::Radians,
+    Unit::Radians,
+    Unit::Degrees,
+    Unit::Degrees,
+    Unit::Radians,
+    Unit::Radians,
+    Unit::Radians,
+    Unit::Radians,
+    Unit::Megahertz,
+    Unit::Radians,
+    Unit::Radians,
+    Unit::Megahertz,
+    Unit::Megahertz,
+    Unit::Megahertz,
+    Unit::Kilometres,
+    Unit::Kilometres,
+    Unit::Kilometres,
+    Unit::Kilometres,
+    Unit::Kilometres,
+    Unit::Kilometres,
+    Unit::Bare,
+    Unit::Kilometres,
+    Unit::Bare,
+    Unit::Bare,
+    Unit::Hours,
+    Unit::Degrees,
+    Unit::Degrees,
+    Unit::Megahertz,
+    Unit::Megahertz,
+    Unit::Megahertz,
+    Unit::Kilometres,
+    Unit::MhosPerMetre,
+    Unit::Bare,
 ];
 
 pub(crate) fn name(k: usize) -> [u8; 12]
@@ -123,152 +125,140 @@ pub(crate) fn name(k: usize) -> [u8; 12]
     NAMES[k]
 }
 
-pub(crate) fn unit(k: usize) -> [u8; 7]
+// The unit after two blanks, where there is one.
+pub(crate) fn unit(k: usize) -> &'static [u8]
     requires { k < 47 }
-    ensures { unit_in result ≡ unit_text (page_row k).unit }
+    ensures { result.now ≡ unit_text (page_row k).unit }
 {
-    UNITS[k]
-}
-
-// Puts the letters before the first blank.
-fn put_word(out: &mut [u8], at: usize, word: &[u8]) -> usize
-    requires { at + length word.now ≤ length out.old }
-    ensures { Put out.old at (letters_in word.now) out.new result }
-{
-    let mut next = at;
-    let mut k: usize = 0;
-    while k < word.len() {
-        if word[k] == b' ' {
-            return next;
-        }
-        let letter = [word[k]];
-        next = put(out, next, &letter);
-        k += 1;
-    }
-    next
-}
-
-// Puts a unit after two blanks, where there is one.
-pub(crate) fn put_unit(out: &mut [u8], at: usize, unit: &[u8; 7]) -> usize
-    requires { at + 9 ≤ length out.old }
-    ensures { Put out.old at (unit_in unit.now) out.new result }
-{
-    if unit[0] == b' ' {
-        return at;
-    }
-    let next = put(out, at, b"  ");
-    put_word(out, next, unit)
+    UNITS[k].words()
 }
 
 // A number: its decimals and its bits.
-fn put_value(out: &mut [u8], at: usize, x: f32) -> usize
-    requires { at + 54 ≤ length out.old }
-    ensures { Put out.old at (value_text x) out.new result }
+#[tactic(auto, using(crate::proofs::Sizes::sizes), unfolding(crate::specs::Page::value_text))]
+fn put_value(text: &mut Text, x: f32)
+    requires { HasRoom text.old 54 }
+    ensures { Puts text.old (value_text x) text.new }
 {
-    let digits = hex(number::bits32(x));
-    let next = put_float(out, at, x);
-    let next = put(out, next, b"  ");
-    put(out, next, &digits)
+    put_float(text, x);
+    text.put(b"  ");
+    text.put(&hex(number::bits32(x)));
 }
 
 // The line of a number, with row k of the table.
-fn put_row(out: &mut [u8], at: usize, k: usize, x: f32) -> usize
+#[tactic(auto, using(crate::proofs::Sizes::sizes), unfolding(crate::specs::Page::row_text))]
+fn put_row(text: &mut Text, k: usize, x: f32)
     requires k_bound { k < 47 }
-    requires at_in_bounds { at + 76 ≤ length out.old }
-    ensures { Put out.old at (row_text (page_row k) x) out.new result }
+    requires at_in_bounds { HasRoom text.old 76 }
+    ensures { Puts text.old (row_text (page_row k) x) text.new }
 {
-    let letters = name(k);
-    let unit = unit(k);
-    let next = put(out, at, &letters);
-    let next = put_value(out, next, x);
-    let next = put_unit(out, next, &unit);
-    put(out, next, b"\n")
+    text.put(&name(k));
+    put_value(text, x);
+    text.put(unit(k));
+    text.put(b"\n");
 }
 
-// The lines of n numbers: the one at `from` + k has row `first` + k.
-fn put_rows(out: &mut [u8], at: usize, first: usize, xs: &[f32], from: usize, n: usize) -> usize
+// The lines of n numbers: the one at `from` + k has row `first` + k. A place and a count beside the
+// slice, as the definition `rows_text` has them. A type for rows would save no clause: their
+// numbers are sums, whose bound is proved at each call.
+#[tactic(auto, using(crate::proofs::Sizes::sizes))]
+fn put_rows(text: &mut Text, first: usize, xs: &[f32], from: usize, n: usize)
     requires n_bound { first + n ≤ 47 }
     requires n_in_bounds { from + n ≤ length xs.now }
-    requires n_in_bounds_2 { at + 76 * n ≤ length out.old }
-    ensures { Put out.old at (rows_text first xs.now from n) out.new result }
+    requires n_in_bounds_2 { HasRoom text.old (76 * n) }
+    ensures { Puts text.old (rows_text first xs.now from n) text.new }
 {
-    let mut next = at;
-    let mut k: usize = 0;
-    while k < n {
-        next = put_row(out, next, first + k, xs[from + k]);
-        k += 1;
+    for k in 0..n {
+        put_row(text, first + k, xs[from + k]);
     }
-    next
+}
+
+#[tactic(auto, using(crate::proofs::Sizes::sizes), unfolding(crate::specs::Page::long_text))]
+fn put_long(text: &mut Text, flag: u32)
+    requires { HasRoom text.old 19 }
+    ensures { Puts text.old (long_text (is_long flag)) text.new }
+{
+    text.put_if(flag != 0, b"the long way round\n");
 }
 
 // The 14 fields that a sheet is of, so that a page stands for itself.
-fn put_fields(out: &mut [u8; PAGE], i: Inputs) -> usize
-    ensures { Put out.old 0 (fields_text i) out.new result }
+#[tactic(auto, using(crate::proofs::Sizes::sizes), unfolding(crate::specs::Page::fields_text))]
+fn put_fields(text: &mut Text, i: Inputs)
+    requires { HasRoom text.old 964 }
+    ensures { Puts text.old (fields_text i) text.new }
 {
     let route = i.route;
-    let tlat = route.tlat;
-    let tlong = route.tlong;
-    let rlat = route.rlat;
-    let rlong = route.rlong;
-    let long = route.long_path != 0;
     let psc = i.psc;
     let pole = i.pole;
-    let pole_lat = pole.lat;
-    let pole_lon = pole.lon;
-    let early = [i.ssn, i.gmt, tlat.0, tlong.0, rlat.0, rlong.0];
-    let late = [psc.e, psc.f1, psc.f2, psc.es, pole_lat.0, pole_lon.0];
-    let next = put(out, 0, b"month       ");
-    let next = put_number(out, next, i.month as u64);
-    let next = put(out, next, b"\n");
-    let next = put_rows(out, next, 0, &early, 0, 6);
-    let next = put_if(out, next, long, b"the long way round\n");
-    put_rows(out, next, 6, &late, 0, 6)
+    let early = [
+        i.ssn,
+        i.gmt,
+        route.tlat.0,
+        route.tlong.0,
+        route.rlat.0,
+        route.rlong.0,
+    ];
+    let late = [psc.e, psc.f1, psc.f2, psc.es, pole.lat.0, pole.lon.0];
+    text.put(b"month       ");
+    text.put_number(i.month as u64);
+    text.put(b"\n");
+    put_rows(text, 0, &early, 0, 6);
+    put_long(text, route.long_path);
+    put_rows(text, 6, &late, 0, 6);
 }
 
 // A point under a line with its number.
-fn put_point(out: &mut [u8], at: usize, figures: &[f32; FIGURES], p: u32) -> usize
+#[tactic(auto, using(crate::proofs::Sizes::sizes), unfolding(crate::specs::Page::point_text))]
+fn put_point(text: &mut Text, figures: &[f32; FIGURES], p: u32)
     requires p_bound { p < 5 }
-    requires at_in_bounds { at + 2231 ≤ length out.old }
-    ensures { Put out.old at (point_text figures.now p) out.new result }
+    requires at_in_bounds { HasRoom text.old 2231 }
+    ensures { Puts text.old (point_text figures.now p) text.new }
 {
-    let next = put(out, at, b"point ");
-    let next = put_number(out, next, (p + 1) as u64);
-    let next = put(out, next, b"\n");
-    put_rows(out, next, 18, figures, 6 + 29 * (p as usize), 29)
+    text.put(b"point ");
+    text.put_number((p + 1) as u64);
+    text.put(b"\n");
+    put_rows(text, 18, figures, 6 + 29 * (p as usize), 29);
 }
 
-fn put_point_there(out: &mut [u8], at: usize, count: u32, figures: &[f32; FIGURES], p: u32) -> usize
+#[tactic(auto, using(crate::proofs::Sizes::sizes), unfolding(crate::specs::Page::there_text))]
+fn put_point_there(text: &mut Text, count: u32, figures: &[f32; FIGURES], p: u32)
     requires p_bound { p < 5 }
-    requires at_in_bounds { at + 2231 ≤ length out.old }
-    ensures { Put out.old at (there_text count figures.now p) out.new result }
+    requires at_in_bounds { HasRoom text.old 2231 }
+    ensures { Puts text.old (there_text count figures.now p) text.new }
 {
     if p < count {
-        return put_point(out, at, figures, p);
+        put_point(text, figures, p);
     }
-    at
 }
 
 // Each point that is there.
-fn put_points(out: &mut [u8], at: usize, count: u32, figures: &[f32; FIGURES]) -> usize
-    requires { at + 11155 ≤ length out.old }
-    ensures { Put out.old at (first_points count figures.now 5) out.new result }
+#[tactic(auto, using(crate::proofs::Sizes::sizes))]
+fn put_points(text: &mut Text, count: u32, figures: &[f32; FIGURES])
+    requires { HasRoom text.old 11155 }
+    ensures { Puts text.old (first_points count figures.now 5) text.new }
 {
-    let mut next = at;
-    let mut p: u32 = 0;
-    while p < 5 {
-        next = put_point_there(out, next, count, figures, p);
-        p += 1;
+    for p in 0..5 {
+        put_point_there(text, count, figures, p);
     }
-    next
 }
 
-// Writes the page, the fields, the six figures of the path and the points that are there, and gives
-// its length in bytes.
+// Puts the page: the fields, the six figures of the path and the points that are there.
+#[tactic(auto, using(crate::proofs::Sizes::sizes), unfolding(crate::specs::Page::page_text))]
+pub(crate) fn put_page(text: &mut Text, i: Inputs, count: u32, figures: &[f32; FIGURES])
+    requires { HasRoom text.old 12800 }
+    ensures { Puts text.old (page_text i count figures.now) text.new }
+{
+    put_fields(text, i);
+    put_rows(text, 12, figures, 0, 6);
+    put_points(text, count, figures);
+}
+
+// Writes the page and gives its length in bytes.
+#[tactic(auto, using(crate::proofs::Sizes::sizes), unfolding(crate::specs::Page::page_text))]
 pub fn page_text(i: Inputs, count: u32, figures: &[f32; FIGURES], out: &mut [u8; PAGE]) -> usize
     ensures text { take result out.new ≡ page_text i count figures.now }
     ensures count { IsPrefixLen result out.new }
 {
-    let next = put_fields(out, i);
-    let next = put_rows(out, next, 12, figures, 0, 6);
-    put_points(out, next, count, figures)
+    let mut text = Text::new(out);
+    put_page(&mut text, i, count, figures);
+    text.len()
 }

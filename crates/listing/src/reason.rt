@@ -1,93 +1,52 @@
 // Why something is refused, in words for people.
 ghost use Rattle.std.specs.Prelude.{◌≡◌, ◌+◌, ◌≤◌, ◌<◌, length};
 ghost use Rattle.wording.specs.Token.{ascii};
-ghost use Rattle.listing.specs.Text.{Put};
-ghost use Rattle.listing.specs.Reason.{reason_of, reason_row, refused_words};
+ghost use Rattle.listing.specs.Text.{Puts, HasRoom};
+ghost use Rattle.listing.specs.Reason.{reason_of, refused_words};
 
-use crate::text::{put, put_number};
+use crate::text::Text;
 use base::refusal::Refusal;
 
-// The reasons in the order of `row_of`, with blanks behind them, and how many letters each has.
-const REASONS: [[u8; 49]; 22] = [
-    *b"the month is not 1 to 12                         ",
-    *b"the sunspot number is not 0 to 300               ",
-    *b"the hour is not 0 to 24                          ",
-    *b"a latitude is not -90 to 90 degrees              ",
-    *b"a longitude is not -180 to 180 degrees           ",
-    *b"a factor is not 0.125 to 8                       ",
-    *b"the long-path flag is neither 0 nor 1            ",
-    *b"the F2 model is neither CCIR nor URSI            ",
-    *b"the F2 record of the month is not whole          ",
-    *b"the month file ends too early                    ",
-    *b"the month file has a wrong marker at this byte   ",
-    *b"the F2 planes have no finite number at this byte ",
-    *b"the month file has no finite number at this byte ",
-    *b"the month file has a bad index table for this map",
-    *b"the buffer has not 151 numbers                   ",
-    *b"there is no such table                           ",
-    *b"there is no such desk                            ",
-    *b"the desk has a draft already                     ",
-    *b"the desk has no draft                            ",
-    *b"the worksheet has moved since the draft began    ",
-    *b"there is nothing to take back                    ",
-    *b"the year file has a bad directory at this pair   ",
-];
-
-const LETTERS: [usize; 22] = [
-    24, 34, 23, 35, 38, 26, 37, 37, 39, 29, 46, 48, 48, 49, 30, 22, 21, 28, 21, 45, 29, 46,
-];
-
-// Which of the reasons is a refusal's.
-fn row_of(why: Refusal) -> usize
-    ensures answer { result ≡ reason_row why }
-    ensures bound { result < 22 }
+// The words of a reason.
+fn reason(why: Refusal) -> &'static [u8]
+    ensures { result.now ≡ ascii (reason_of why) }
 {
     match why {
-        Refusal::Month => 0,
-        Refusal::Sunspot => 1,
-        Refusal::Hour => 2,
-        Refusal::Latitude(_) => 3,
-        Refusal::Longitude(_) => 4,
-        Refusal::Factor(_) => 5,
-        Refusal::Flag => 6,
-        Refusal::Model => 7,
-        Refusal::Record => 8,
-        Refusal::Ended(_) => 9,
-        Refusal::Marker(_) => 10,
-        Refusal::RecordWord(_) => 11,
-        Refusal::MonthWord(_) => 12,
-        Refusal::Index(_) => 13,
-        Refusal::Figures => 14,
-        Refusal::Table => 15,
-        Refusal::Desk => 16,
-        Refusal::Drafted => 17,
-        Refusal::NoDraft => 18,
-        Refusal::Stale => 19,
-        Refusal::NothingEarlier => 20,
-        Refusal::Year(_) => 21,
+        Refusal::Month => b"the month is not 1 to 12",
+        Refusal::Sunspot => b"the sunspot number is not 0 to 300",
+        Refusal::Hour => b"the hour is not 0 to 24",
+        Refusal::Latitude(_) => b"a latitude is not -90 to 90 degrees",
+        Refusal::Longitude(_) => b"a longitude is not -180 to 180 degrees",
+        Refusal::Factor(_) => b"a factor is not 0.125 to 8",
+        Refusal::Flag => b"the long-path flag is neither 0 nor 1",
+        Refusal::Model => b"the F2 model is neither CCIR nor URSI",
+        Refusal::Record => b"the F2 record of the month is not whole",
+        Refusal::Ended(_) => b"the month file ends too early",
+        Refusal::Marker(_) => b"the month file has a wrong marker at this byte",
+        Refusal::RecordWord(_) => b"the F2 planes have no finite number at this byte",
+        Refusal::MonthWord(_) => b"the month file has no finite number at this byte",
+        Refusal::Index(_) => b"the month file has a bad index table for this map",
+        Refusal::Figures => b"the buffer has not 151 numbers",
+        Refusal::Table => b"there is no such table",
+        Refusal::Desk => b"there is no such desk",
+        Refusal::Drafted => b"the desk has a draft already",
+        Refusal::NoDraft => b"the desk has no draft",
+        Refusal::Stale => b"the worksheet has moved since the draft began",
+        Refusal::NothingEarlier => b"there is nothing to take back",
+        Refusal::Year(_) => b"the year file has a bad directory at this pair",
     }
 }
 
-// Puts the words of a reason.
-fn put_reason(out: &mut [u8], at: usize, why: Refusal) -> usize
-    requires { at + 49 ≤ length out.old }
-    ensures { Put out.old at (ascii (reason_of why)) out.new result }
-{
-    let k = row_of(why);
-    let row = REASONS[k];
-    let n = LETTERS[k];
-    put(out, at, &row[..n])
-}
-
 // Puts `refused`, number, place and the reason.
-pub(crate) fn put_refused(out: &mut [u8], at: usize, why: Refusal) -> usize
-    requires { at + 80 ≤ length out.old }
-    ensures { Put out.old at (refused_words why) out.new result }
+#[tactic(auto, using(crate::proofs::Sizes::sizes), unfolding(crate::specs::Reason::refused_words))]
+pub(crate) fn put_refused(text: &mut Text, why: Refusal)
+    requires { HasRoom text.old 80 }
+    ensures { Puts text.old (refused_words why) text.new }
 {
-    let next = put(out, at, b"refused ");
-    let next = put_number(out, next, why.number() as u64);
-    let next = put(out, next, b" ");
-    let next = put_number(out, next, why.place() as u64);
-    let next = put(out, next, b": ");
-    put_reason(out, next, why)
+    text.put(b"refused ");
+    text.put_number(why.number() as u64);
+    text.put(b" ");
+    text.put_number(why.place() as u64);
+    text.put(b": ");
+    text.put(reason(why));
 }

@@ -5,11 +5,11 @@ ghost use Rattle.io.specs.Counts.{IsPrefixLen};
 ghost use Rattle.listing.specs.Answer.{refusal_text};
 ghost use Rattle.listing.specs.Sheet.{sheet_answer, page_for, page_answer};
 
-use crate::answer::{ANSWER, refusal_text, sheet_text};
-use crate::page::{PAGE, page_text};
-use crate::text::put;
+use crate::answer::{ANSWER, put_refusal, sheet_text};
+use crate::page::{PAGE, put_page};
+use crate::text::Text;
 use base::refusal::Refusal;
-use maps::figures::{FIGURES, Shown};
+use maps::figures::FIGURES;
 use maps::inputs::Inputs;
 use worksheet::desks::sheet_opened;
 use worksheet::showing::show;
@@ -27,23 +27,22 @@ pub fn sheet_answer(words: &[u8], f2: &[u8], file: &[u8], out: &mut [u8; ANSWER]
     sheet_text(shown, &figures, out)
 }
 
-fn page_for(i: Inputs, shown: Shown, figures: &[f32; FIGURES], out: &mut [u8; PAGE]) -> usize
+#[tactic(auto, using(crate::proofs::Sizes::sizes), unfolding(crate::specs::Sheet::page_for))]
+fn page_for(
+    i: Inputs,
+    shown: Result<u32, Refusal>,
+    figures: &[f32; FIGURES],
+    out: &mut [u8; PAGE],
+) -> usize
     ensures text { take result out.new ≡ page_for i shown figures.now }
     ensures count { IsPrefixLen result out.new }
 {
+    let mut text = Text::new(out);
     match shown {
-        Shown::Points(count) => page_text(i, count, figures, out),
-        Shown::Refused(why) => put_refusal(why, out),
+        Ok(count) => put_page(&mut text, i, count, figures),
+        Err(why) => put_refusal(&mut text, why),
     }
-}
-
-fn put_refusal(why: Refusal, out: &mut [u8; PAGE]) -> usize
-    ensures text { take result out.new ≡ refusal_text why }
-    ensures count { IsPrefixLen result out.new }
-{
-    let mut line = [0u8; ANSWER];
-    let n = refusal_text(why, &mut line);
-    put(out, 0, &line[..n])
+    text.len()
 }
 
 // Writes the page of the worksheet that the words open, or the line of the refusal, and gives the

@@ -5,17 +5,17 @@ ghost use Rattle.worksheet.specs.Showing.{lent_as};
 ghost use Rattle.worksheet.specs.Journal.{step};
 ghost use Rattle.worksheet.specs.Calls.{called};
 ghost use Rattle.wording.specs.Token.{ascii};
-ghost use Rattle.listing.specs.Text.{Put};
+ghost use Rattle.listing.specs.Text.{Puts, HasRoom};
 ghost use Rattle.listing.specs.Survey.{refused_line};
 ghost use Rattle.listing.specs.Turn.{blank};
 ghost use Rattle.listing.specs.Spoken.{line_mark, verdict_words, points_noun, points_words, shown_words, spoken_text, spoken_verdict, inputs_asked, desk_asked, handed_words};
 
 use crate::columns::{COLUMNS, put_columns};
 use crate::reason::put_refused;
-use crate::text::{put, put_number};
+use crate::text::Text;
 use crate::turn::Turn;
 use base::refusal::{Refusal, Verdict};
-use maps::figures::{FIGURES, Shown};
+use maps::figures::FIGURES;
 use maps::inputs::Inputs;
 use worksheet::desks::Worksheet;
 use worksheet::journal::{Answer, Call, make};
@@ -24,90 +24,77 @@ use worksheet::showing::{Lent, inputs_shown};
 // At least the bytes of the longest answer: a line before the page, and an empty one after it.
 pub const SPOKEN: usize = COLUMNS + 64;
 
-pub(crate) fn put_line_mark(out: &mut [u8], at: usize, line: u64) -> usize
-    requires { at + 27 ≤ length out.old }
-    ensures { Put out.old at (line_mark line) out.new result }
+#[tactic(auto, using(crate::proofs::Sizes::sizes), unfolding(crate::specs::Spoken::line_mark))]
+pub(crate) fn put_line_mark(text: &mut Text, line: u64)
+    requires { HasRoom text.old 27 }
+    ensures { Puts text.old (line_mark line) text.new }
 {
-    let next = put(out, at, b"line ");
-    let next = put_number(out, next, line);
-    put(out, next, b": ")
+    text.put(b"line ");
+    text.put_number(line);
+    text.put(b": ");
 }
 
-fn put_refused_line(out: &mut [u8], at: usize, why: Refusal) -> usize
-    requires { at + 95 ≤ length out.old }
-    ensures { Put out.old at (refused_line why) out.new result }
+#[tactic(auto, using(crate::proofs::Sizes::sizes), unfolding(crate::specs::Survey::refused_line))]
+fn put_refused_line(text: &mut Text, why: Refusal)
+    requires { HasRoom text.old 95 }
+    ensures { Puts text.old (refused_line why) text.new }
 {
-    let next = put_refused(out, at, why);
-    put(out, next, b"\n")
+    put_refused(text, why);
+    text.put(b"\n");
 }
 
-fn put_verdict_words(out: &mut [u8], at: usize, v: Verdict) -> usize
-    requires { at + 95 ≤ length out.old }
-    ensures { Put out.old at (verdict_words v) out.new result }
+#[tactic(auto, unfolding(crate::specs::Spoken::verdict_words))]
+fn put_verdict_words(text: &mut Text, v: Verdict)
+    requires { HasRoom text.old 95 }
+    ensures { Puts text.old (verdict_words v) text.new }
 {
     match v {
-        Verdict::Accepted => put(out, at, b"accepted\n"),
-        Verdict::Refused(why) => put_refused_line(out, at, why),
+        Ok(()) => text.put(b"accepted\n"),
+        Err(why) => put_refused_line(text, why),
     }
 }
 
-fn put_points_noun(out: &mut [u8], at: usize, count: u32) -> usize
-    requires { at + 8 ≤ length out.old }
-    ensures { Put out.old at (ascii (points_noun count)) out.new result }
+fn points_noun(count: u32) -> &'static [u8]
+    ensures { result.now ≡ ascii (points_noun count) }
 {
-    if count == 1 {
-        return put(out, at, b" point\n");
+    match count {
+        1 => b" point\n",
+        _ => b" points\n",
     }
-    put(out, at, b" points\n")
 }
 
 // Puts `shown`, how many points, the page and an empty line.
-fn put_points_words(
-    out: &mut [u8],
-    at: usize,
-    i: Inputs,
-    count: u32,
-    figures: &[f32; FIGURES],
-) -> usize
-    requires { at + 10026 ≤ length out.old }
-    ensures { Put out.old at (points_words i count figures.now) out.new result }
+#[tactic(auto, using(crate::proofs::Sizes::sizes), unfolding(crate::specs::Spoken::points_words))]
+fn put_points_words(text: &mut Text, i: Inputs, count: u32, figures: &[f32; FIGURES])
+    requires { HasRoom text.old 10026 }
+    ensures { Puts text.old (points_words i count figures.now) text.new }
 {
-    let next = put(out, at, b"shown, ");
-    let next = put_number(out, next, count as u64);
-    let next = put_points_noun(out, next, count);
-    let next = put_columns(out, next, i, count, figures);
-    put(out, next, b"\n")
+    text.put(b"shown, ");
+    text.put_number(count as u64);
+    text.put(points_noun(count));
+    put_columns(text, i, count, figures);
+    text.put(b"\n");
 }
 
-fn put_shown_words(
-    out: &mut [u8],
-    at: usize,
-    i: Inputs,
-    s: Shown,
-    figures: &[f32; FIGURES],
-) -> usize
-    requires { at + 10026 ≤ length out.old }
-    ensures { Put out.old at (shown_words i s figures.now) out.new result }
+#[tactic(auto, unfolding(crate::specs::Spoken::shown_words))]
+fn put_shown_words(text: &mut Text, i: Inputs, s: Result<u32, Refusal>, figures: &[f32; FIGURES])
+    requires { HasRoom text.old 10026 }
+    ensures { Puts text.old (shown_words i s figures.now) text.new }
 {
     match s {
-        Shown::Points(count) => put_points_words(out, at, i, count, figures),
-        Shown::Refused(why) => put_refused_line(out, at, why),
+        Ok(count) => put_points_words(text, i, count, figures),
+        Err(why) => put_refused_line(text, why),
     }
 }
 
-fn put_handed_words(
-    out: &mut [u8],
-    at: usize,
-    i: Inputs,
-    a: Answer,
-    figures: &[f32; FIGURES],
-) -> usize
-    requires { at + 10026 ≤ length out.old }
-    ensures { Put out.old at (handed_words i a figures.now) out.new result }
+#[tactic(auto, unfolding(crate::specs::Spoken::handed_words))]
+fn put_handed_words(text: &mut Text, i: Inputs, a: Answer, figures: &[f32; FIGURES])
+    requires { HasRoom text.old 10026 }
+    ensures { Puts text.old (handed_words i a figures.now) text.new }
 {
     match a {
-        Answer::Told(v) => put_verdict_words(out, at, v),
-        Answer::Shown(s) => put_shown_words(out, at, i, s, figures),
+        Answer::Told(v) => put_verdict_words(text, v),
+        Answer::Shown(s) => put_shown_words(text, i, s, figures),
     }
 }
 
@@ -116,16 +103,13 @@ fn desk_asked(call: Call) -> u32
     ensures { result ≡ desk_asked call }
 {
     match call {
-        Call::Begin(_) => 0,
-        Call::Change(_, _) => 0,
-        Call::Commit(_) => 0,
-        Call::Cancel(_) => 0,
-        Call::TakeBack => 0,
         Call::Show(desk) => desk,
+        _ => 0,
     }
 }
 
 // Writes the line of a journal's number and the words of an answer.
+#[tactic(auto, using(crate::proofs::Sizes::sizes))]
 fn handed_spoken(
     line: u64,
     i: Inputs,
@@ -136,8 +120,10 @@ fn handed_spoken(
     ensures text { take result out.new ≡ line_mark line ++ handed_words i a figures.now }
     ensures count { IsPrefixLen result out.new }
 {
-    let next = put_line_mark(out, 0, line);
-    put_handed_words(out, next, i, a, figures)
+    let mut text = Text::new(out);
+    put_line_mark(&mut text, line);
+    put_handed_words(&mut text, i, a, figures);
+    text.len()
 }
 
 // Makes a call, that of the journal's line `line`, as `turn::answered` does, writes its answer in
@@ -160,21 +146,22 @@ pub fn spoken(
     let mut figures = [0.0f32; FIGURES];
     let asked = inputs_shown(w, desk_asked(call));
     let next = make(w, call, lent, a, b, &mut figures);
-    let answer = next.answer;
-    let sheet = next.sheet;
-    let size = handed_spoken(line, asked, answer, &figures, out);
+    let size = handed_spoken(line, asked, next.answer, &figures, out);
     Turn {
-        sheet: sheet,
-        size: size,
+        sheet: next.sheet,
+        size,
     }
 }
 
 // Writes what an opening is answered, that of the journal's line `line`, and gives its length in
 // bytes.
+#[tactic(auto, using(crate::proofs::Sizes::sizes), unfolding(crate::specs::Spoken::spoken_verdict))]
 pub fn opened_text(v: Verdict, line: u64, out: &mut [u8; SPOKEN]) -> usize
     ensures text { take result out.new ≡ spoken_verdict line v }
     ensures count { IsPrefixLen result out.new }
 {
-    let next = put_line_mark(out, 0, line);
-    put_verdict_words(out, next, v)
+    let mut text = Text::new(out);
+    put_line_mark(&mut text, line);
+    put_verdict_words(&mut text, v);
+    text.len()
 }

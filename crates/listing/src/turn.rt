@@ -47,11 +47,9 @@ pub fn answered(
 {
     let mut figures = [0.0f32; FIGURES];
     let next = make(w, call, lent, a, b, &mut figures);
-    let answer = next.answer;
-    let sheet = next.sheet;
-    let size = handed_text(answer, &figures, out);
+    let size = handed_text(next.answer, &figures, out);
     Turn {
-        sheet: sheet,
-        size: size,
+        sheet: next.sheet,
+        size,
     }
 }

@@ -4,11 +4,12 @@ ghost use Rattle.io.specs.Counts.{IsPrefixLen};
 ghost use Rattle.wording.specs.declared.written.WrittenCall.TheVariants.{Show};
 ghost use Rattle.wording.specs.Number.{is_written};
 ghost use Rattle.wording.specs.Token.{ascii};
-ghost use Rattle.listing.specs.Text.{Put, decimal_of};
-ghost use Rattle.listing.specs.Written.{places_text, fraction_text, digits_text, number_text, pair_text, route_text, factors_text, pole_text, model_text, head_text, tail_text, open_text, edit_text, deed_text, call_text, line_text};
+ghost use Rattle.listing.specs.Text.{Puts, HasRoom, decimal_of};
+ghost use Rattle.listing.specs.Written.{places_text, fraction_text, digits_text, number_text, pair_text, long_word, route_text, factors_text, pole_text, model_text, open_text, edit_text, deed_text, call_text, line_text};
 
 use crate::columns::COLUMNS;
-use crate::text::{digit, divided, put, put_if, put_number};
+use crate::decimal::put_minus;
+use crate::text::{Text, digit, divided};
 use wording::line::Line;
 use wording::number::Decimal;
 use wording::written::{
@@ -23,256 +24,258 @@ pub const WRITTEN: usize = COLUMNS;
 fn is_written(d: Decimal) -> bool
     ensures { result ≡ is_written d }
 {
-    if d.digits >= 1000000000000000000 {
-        return false;
-    }
-    d.places <= 18
+    d.digits < 1000000000000000000 && d.places <= 18
 }
 
 // Puts the last digits of n, as many as there are places, zeros with them.
-fn put_places(out: &mut [u8], at: usize, n: u64, places: u32) -> usize
-    requires { at + length (places_text n places) ≤ length out.old }
-    ensures { Put out.old at (places_text n places) out.new result }
+fn put_places(text: &mut Text, n: u64, places: u32)
+    requires { HasRoom text.old (length (places_text n places)) }
+    ensures { Puts text.old (places_text n places) text.new }
 {
-    let mut next = at;
-    let mut k = places;
-    while k > 0 {
-        k -= 1;
-        let digits = [digit(n, k)];
-        next = put(out, next, &digits);
+    for k in (0..places).rev() {
+        text.push(digit(n, k));
     }
-    next
 }
 
-fn put_fraction(out: &mut [u8], at: usize, d: Decimal) -> usize
+#[tactic(auto, using(crate::proofs::Sizes::sizes), unfolding(crate::specs::Written::fraction_text))]
+fn put_fraction(text: &mut Text, d: Decimal)
     requires places_bound { d.places ≤ 18 }
-    requires at_in_bounds { at + 19 ≤ length out.old }
-    ensures text { Put out.old at (fraction_text d) out.new result }
-    ensures bound { result ≤ at + 19 }
+    requires at_in_bounds { HasRoom text.old 19 }
+    ensures text { Puts text.old (fraction_text d) text.new }
+    ensures bound { text.new.len ≤ text.old.len + 19 }
 {
-    if d.places == 0 {
-        return at;
+    if d.places > 0 {
+        text.put(b".");
+        put_places(text, d.digits, d.places);
     }
-    let next = put(out, at, b".");
-    put_places(out, next, d.digits, d.places)
 }
 
-fn put_digits(out: &mut [u8], at: usize, d: Decimal) -> usize
+#[tactic(auto, using(crate::proofs::Sizes::sizes), unfolding(crate::specs::Written::digits_text))]
+fn put_digits(text: &mut Text, d: Decimal)
     requires places_bound { d.places ≤ 18 }
-    requires at_in_bounds { at + 40 ≤ length out.old }
-    ensures text { Put out.old at (digits_text d) out.new result }
-    ensures bound { result ≤ at + 40 }
+    requires at_in_bounds { HasRoom text.old 40 }
+    ensures text { Puts text.old (digits_text d) text.new }
+    ensures bound { text.new.len ≤ text.old.len + 40 }
 {
     let whole = divided(d.digits, 10, d.places);
-    let next = put_if(out, at, d.negative, b"-");
-    let next = put_number(out, next, whole);
-    put_fraction(out, next, d)
+    put_minus(text, d.negative);
+    text.put_number(whole);
+    put_fraction(text, d);
 }
 
-fn put_decimal(out: &mut [u8], at: usize, d: Decimal) -> usize
-    requires { at + 40 ≤ length out.old }
-    ensures text { Put out.old at (number_text d) out.new result }
-    ensures bound { result ≤ at + 40 }
+#[tactic(auto, using(crate::proofs::Sizes::sizes), unfolding(crate::specs::Written::number_text))]
+fn put_decimal(text: &mut Text, d: Decimal)
+    requires { HasRoom text.old 40 }
+    ensures text { Puts text.old (number_text d) text.new }
+    ensures bound { text.new.len ≤ text.old.len + 40 }
 {
     if is_written(d) {
-        return put_digits(out, at, d);
+        put_digits(text, d);
+    } else {
+        text.put(b"no number");
     }
-    put(out, at, b"no number")
 }
 
 // Puts a whole number of at most ten digits, as every u32 is.
-pub(crate) fn put_count(out: &mut [u8], at: usize, n: u32) -> usize
-    requires { at + 10 ≤ length out.old }
-    ensures text { Put out.old at (decimal_of n) out.new result }
-    ensures bound { result ≤ at + 10 }
+#[tactic(auto, using(crate::proofs::Sizes::sizes))]
+pub(crate) fn put_count(text: &mut Text, n: u32)
+    requires { HasRoom text.old 10 }
+    ensures text { Puts text.old (decimal_of n) text.new }
+    ensures bound { text.new.len ≤ text.old.len + 10 }
 {
-    put_number(out, at, n as u64)
+    text.put_number(n as u64);
 }
 
-fn put_pair(out: &mut [u8], at: usize, a: Decimal, b: Decimal) -> usize
-    requires { at + 81 ≤ length out.old }
-    ensures text { Put out.old at (pair_text a b) out.new result }
-    ensures bound { result ≤ at + 81 }
+#[tactic(auto, unfolding(crate::specs::Written::pair_text))]
+fn put_pair(text: &mut Text, a: Decimal, b: Decimal)
+    requires { HasRoom text.old 81 }
+    ensures text { Puts text.old (pair_text a b) text.new }
+    ensures bound { text.new.len ≤ text.old.len + 81 }
 {
-    let next = put_decimal(out, at, a);
-    let next = put(out, next, b" ");
-    put_decimal(out, next, b)
+    put_decimal(text, a);
+    text.put(b" ");
+    put_decimal(text, b);
 }
 
-fn put_route(out: &mut [u8], at: usize, p: WrittenRoute) -> usize
-    requires { at + 176 ≤ length out.old }
-    ensures text { Put out.old at (route_text p) out.new result }
-    ensures bound { result ≤ at + 176 }
+// Puts the last word of a path that goes the long way round.
+#[tactic(auto, using(crate::proofs::Sizes::sizes), unfolding(crate::specs::Written::long_word))]
+fn put_long(text: &mut Text, flag: u32)
+    requires { HasRoom text.old 5 }
+    ensures text { Puts text.old (long_word flag) text.new }
+    ensures bound { text.new.len ≤ text.old.len + 5 }
 {
-    let next = put(out, at, b"from ");
-    let next = put_pair(out, next, p.tlat, p.tlong);
-    let next = put(out, next, b" to ");
-    let next = put_pair(out, next, p.rlat, p.rlong);
-    put_if(out, next, p.long_path != 0, b" long")
+    text.put_if(flag != 0, b" long");
 }
 
-fn put_factors(out: &mut [u8], at: usize, p: WrittenFactors) -> usize
-    requires { at + 171 ≤ length out.old }
-    ensures text { Put out.old at (factors_text p) out.new result }
-    ensures bound { result ≤ at + 171 }
+#[tactic(auto, using(crate::proofs::Sizes::sizes), unfolding(crate::specs::Written::route_text))]
+fn put_route(text: &mut Text, p: WrittenRoute)
+    requires { HasRoom text.old 176 }
+    ensures text { Puts text.old (route_text p) text.new }
+    ensures bound { text.new.len ≤ text.old.len + 176 }
 {
-    let next = put(out, at, b"factors ");
-    let next = put_pair(out, next, p.e, p.f1);
-    let next = put(out, next, b" ");
-    put_pair(out, next, p.f2, p.es)
+    text.put(b"from ");
+    put_pair(text, p.tlat, p.tlong);
+    text.put(b" to ");
+    put_pair(text, p.rlat, p.rlong);
+    put_long(text, p.long_path);
 }
 
-fn put_pole(out: &mut [u8], at: usize, p: WrittenPole) -> usize
-    requires { at + 86 ≤ length out.old }
-    ensures text { Put out.old at (pole_text p) out.new result }
-    ensures bound { result ≤ at + 86 }
+#[tactic(auto, unfolding(crate::specs::Written::factors_text))]
+fn put_factors(text: &mut Text, p: WrittenFactors)
+    requires { HasRoom text.old 171 }
+    ensures text { Puts text.old (factors_text p) text.new }
+    ensures bound { text.new.len ≤ text.old.len + 171 }
 {
-    let next = put(out, at, b"pole ");
-    put_pair(out, next, p.lat, p.lon)
+    text.put(b"factors ");
+    put_pair(text, p.e, p.f1);
+    text.put(b" ");
+    put_pair(text, p.f2, p.es);
 }
 
-fn put_model(out: &mut [u8], at: usize, model: u32) -> usize
-    requires { at + 10 ≤ length out.old }
-    ensures text { Put out.old at (model_text model) out.new result }
-    ensures bound { result ≤ at + 10 }
+#[tactic(auto, unfolding(crate::specs::Written::pole_text))]
+fn put_pole(text: &mut Text, p: WrittenPole)
+    requires { HasRoom text.old 86 }
+    ensures text { Puts text.old (pole_text p) text.new }
+    ensures bound { text.new.len ≤ text.old.len + 86 }
 {
-    let next = put(out, at, b"model ");
+    text.put(b"pole ");
+    put_pair(text, p.lat, p.lon);
+}
+
+#[tactic(auto, using(crate::proofs::Sizes::sizes), unfolding(crate::specs::Written::model_text))]
+fn put_model(text: &mut Text, model: u32)
+    requires { HasRoom text.old 10 }
+    ensures text { Puts text.old (model_text model) text.new }
+    ensures bound { text.new.len ≤ text.old.len + 10 }
+{
+    text.put(b"model ");
     if model == 0 {
-        return put(out, next, b"ccir");
+        text.put(b"ccir");
+    } else {
+        text.put(b"ursi");
     }
-    put(out, next, b"ursi")
-}
-
-// Month, sunspot number and hour of an open.
-fn put_head(out: &mut [u8], at: usize, o: WrittenInputs) -> usize
-    requires { at + 116 ≤ length out.old }
-    ensures text { Put out.old at (head_text o) out.new result }
-    ensures bound { result ≤ at + 116 }
-{
-    let next = put(out, at, b"open month ");
-    let next = put_count(out, next, o.month);
-    let next = put(out, next, b" sunspot ");
-    let next = put_decimal(out, next, o.ssn);
-    let next = put(out, next, b" hour ");
-    put_decimal(out, next, o.gmt)
-}
-
-// Factors, pole and model of an open, each behind a blank.
-fn put_tail(out: &mut [u8], at: usize, o: WrittenInputs) -> usize
-    requires { at + 270 ≤ length out.old }
-    ensures text { Put out.old at (tail_text o) out.new result }
-    ensures bound { result ≤ at + 270 }
-{
-    let next = put(out, at, b" ");
-    let next = put_factors(out, next, o.psc);
-    let next = put(out, next, b" ");
-    let next = put_pole(out, next, o.pole);
-    let next = put(out, next, b" ");
-    put_model(out, next, o.model)
 }
 
 // Puts all that an open says.
-fn put_open(out: &mut [u8; WRITTEN], o: WrittenInputs) -> usize
-    ensures text { Put out.old 0 (open_text o) out.new result }
-    ensures bound { result ≤ 575 }
+#[tactic(auto, unfolding(crate::specs::Written::open_text))]
+fn put_open(text: &mut Text, o: WrittenInputs)
+    requires { HasRoom text.old 575 }
+    ensures text { Puts text.old (open_text o) text.new }
+    ensures bound { text.new.len ≤ text.old.len + 575 }
 {
-    let next = put_head(out, 0, o);
-    let next = put(out, next, b" ");
-    let next = put_route(out, next, o.route);
-    put_tail(out, next, o)
+    text.put(b"open month ");
+    put_count(text, o.month);
+    text.put(b" sunspot ");
+    put_decimal(text, o.ssn);
+    text.put(b" hour ");
+    put_decimal(text, o.gmt);
+    text.put(b" ");
+    put_route(text, o.route);
+    text.put(b" ");
+    put_factors(text, o.psc);
+    text.put(b" ");
+    put_pole(text, o.pole);
+    text.put(b" ");
+    put_model(text, o.model);
 }
 
-fn put_edit(out: &mut [u8], at: usize, e: WrittenEdit) -> usize
-    requires { at + 181 ≤ length out.old }
-    ensures text { Put out.old at (edit_text e) out.new result }
-    ensures bound { result ≤ at + 181 }
+#[tactic(auto, unfolding(crate::specs::Written::edit_text))]
+fn put_edit(text: &mut Text, e: WrittenEdit)
+    requires { HasRoom text.old 181 }
+    ensures text { Puts text.old (edit_text e) text.new }
+    ensures bound { text.new.len ≤ text.old.len + 181 }
 {
     match e {
         WrittenEdit::Sunspot(d) => {
-            let next = put(out, at, b"sunspot ");
-            put_decimal(out, next, d)
+            text.put(b"sunspot ");
+            put_decimal(text, d);
         }
         WrittenEdit::Hour(d) => {
-            let next = put(out, at, b"hour ");
-            put_decimal(out, next, d)
+            text.put(b"hour ");
+            put_decimal(text, d);
         }
         WrittenEdit::Path(p) => {
-            let next = put(out, at, b"path ");
-            put_route(out, next, p)
+            text.put(b"path ");
+            put_route(text, p);
         }
-        WrittenEdit::Psc(p) => put_factors(out, at, p),
-        WrittenEdit::Pole(p) => put_pole(out, at, p),
+        WrittenEdit::Psc(p) => put_factors(text, p),
+        WrittenEdit::Pole(p) => put_pole(text, p),
         WrittenEdit::Month(m) => {
-            let next = put(out, at, b"month ");
-            put_count(out, next, m)
+            text.put(b"month ");
+            put_count(text, m);
         }
-        WrittenEdit::Model(m) => put_model(out, at, m),
+        WrittenEdit::Model(m) => put_model(text, m),
     }
 }
 
-fn put_change(out: &mut [u8], at: usize, n: u32, e: WrittenEdit) -> usize
-    requires { at + 192 ≤ length out.old }
-    ensures text { Put out.old at
-        (deed_text n (edit_text e)) out.new result }
-    ensures bound { result ≤ at + 192 }
+#[tactic(auto, unfolding(crate::specs::Written::deed_text))]
+fn put_change(text: &mut Text, n: u32, e: WrittenEdit)
+    requires { HasRoom text.old 192 }
+    ensures text { Puts text.old (deed_text n (edit_text e)) text.new }
+    ensures bound { text.new.len ≤ text.old.len + 192 }
 {
-    let next = put_count(out, at, n);
-    let next = put(out, next, b" ");
-    put_edit(out, next, e)
+    put_count(text, n);
+    text.put(b" ");
+    put_edit(text, e);
 }
 
 // Puts the desk's number and what it does, in one word.
-fn put_deed(out: &mut [u8], at: usize, n: u32, deed: &[u8]) -> usize
-    requires { at + 11 + length deed.now ≤ length out.old }
-    ensures text { Put out.old at
-        (deed_text n deed.now) out.new result }
-    ensures bound { result ≤ at + 11 + length deed.now }
+#[tactic(auto, unfolding(crate::specs::Written::deed_text))]
+fn put_deed(text: &mut Text, n: u32, deed: &[u8])
+    requires { HasRoom text.old (11 + length deed.now) }
+    ensures text { Puts text.old (deed_text n deed.now) text.new }
+    ensures bound { text.new.len ≤ text.old.len + 11 + length deed.now }
 {
-    let next = put_count(out, at, n);
-    let next = put(out, next, b" ");
-    put(out, next, deed)
+    put_count(text, n);
+    text.put(b" ");
+    text.put(deed);
 }
 
-fn put_show(out: &mut [u8], at: usize, n: u32) -> usize
-    requires { at + 192 ≤ length out.old }
-    ensures text { Put out.old at (call_text (Show n)) out.new result }
-    ensures bound { result ≤ at + 192 }
+#[tactic(auto, using(crate::proofs::Sizes::sizes), unfolding(crate::specs::Written::call_text))]
+fn put_show(text: &mut Text, n: u32)
+    requires { HasRoom text.old 192 }
+    ensures text { Puts text.old (call_text (Show n)) text.new }
+    ensures bound { text.new.len ≤ text.old.len + 192 }
 {
     if n == 0 {
-        return put(out, at, b"show");
+        text.put(b"show");
+    } else {
+        put_deed(text, n, b"show");
     }
-    put_deed(out, at, n, b"show")
 }
 
-fn put_call(out: &mut [u8], at: usize, c: WrittenCall) -> usize
-    requires { at + 192 ≤ length out.old }
-    ensures text { Put out.old at (call_text c) out.new result }
-    ensures bound { result ≤ at + 192 }
+#[tactic(auto, unfolding(crate::specs::Written::call_text))]
+fn put_call(text: &mut Text, c: WrittenCall)
+    requires { HasRoom text.old 192 }
+    ensures text { Puts text.old (call_text c) text.new }
+    ensures bound { text.new.len ≤ text.old.len + 192 }
 {
     match c {
-        WrittenCall::Begin(n) => put_deed(out, at, n, b"begin"),
-        WrittenCall::Change(n, e) => put_change(out, at, n, e),
-        WrittenCall::Commit(n) => put_deed(out, at, n, b"commit"),
-        WrittenCall::Cancel(n) => put_deed(out, at, n, b"cancel"),
-        WrittenCall::TakeBack => put(out, at, b"take back"),
-        WrittenCall::Show(n) => put_show(out, at, n),
+        WrittenCall::Begin(n) => put_deed(text, n, b"begin"),
+        WrittenCall::Change(n, e) => put_change(text, n, e),
+        WrittenCall::Commit(n) => put_deed(text, n, b"commit"),
+        WrittenCall::Cancel(n) => put_deed(text, n, b"cancel"),
+        WrittenCall::TakeBack => text.put(b"take back"),
+        WrittenCall::Show(n) => put_show(text, n),
     }
 }
 
-fn put_open_line(out: &mut [u8; WRITTEN], o: WrittenInputs) -> usize
-    ensures text { take result out.new ≡ open_text o ++ ascii "\n" }
-    ensures count { IsPrefixLen result out.new }
+fn put_line(text: &mut Text, line: Line)
+    requires { HasRoom text.old 576 }
+    ensures { Puts text.old (line_text line) text.new }
 {
-    let next = put_open(out, o);
-    put(out, next, b"\n")
-}
-
-fn put_call_line(out: &mut [u8; WRITTEN], c: WrittenCall) -> usize
-    ensures text { take result out.new ≡ call_text c ++ ascii "\n" }
-    ensures count { IsPrefixLen result out.new }
-{
-    let next = put_call(out, 0, c);
-    put(out, next, b"\n")
+    match line {
+        Line::Blank => {}
+        Line::Open(o) => {
+            put_open(text, o);
+            text.put(b"\n");
+        }
+        Line::Call(c) => {
+            put_call(text, c);
+            text.put(b"\n");
+        }
+        Line::Wrong(_) => {}
+    }
 }
 
 // Writes a line anew, as it is kept, and gives its length in bytes; nothing for one that is no call.
@@ -280,10 +283,7 @@ pub fn line_text(line: Line, out: &mut [u8; WRITTEN]) -> usize
     ensures text { take result out.new ≡ line_text line }
     ensures count { IsPrefixLen result out.new }
 {
-    match line {
-        Line::Blank => 0,
-        Line::Open(o) => put_open_line(out, o),
-        Line::Call(c) => put_call_line(out, c),
-        Line::Wrong(_) => 0,
-    }
+    let mut text = Text::new(out);
+    put_line(&mut text, line);
+    text.len()
 }

@@ -1,12 +1,13 @@
 -- `cngtim` and `geotim` of ionosphere.rs in its order of work, and document 01's **Clocks**.
 -- Assumes nothing.
-use Rattle.std.specs.Prelude.{ℕ, zero, suc, Bool, true, false, cond, pos, ◌+ℤ◌, nat_le, Float}
+use Rattle.base.specs.declared.refusal.Refusal.{Refusal}
+use Rattle.std.specs.Prelude.{ℕ, zero, suc, Bool, true, false, cond, pos, ◌+ℤ◌, nat_le, Float, Err, Ok, Result}
 use Rattle.std.specs.Float.{binary32}
 use Rattle.std.specs.Float.Ieee.{lt, eq, of_int, to_signed}
 use Rattle.base.specs.declared.angle.Degrees.{Degrees}
 use Rattle.base.specs.declared.angle.Radians.{Radians}
 use Rattle.base.specs.declared.refusal.Refusal.TheVariants.{Hour}
-use Rattle.base.specs.declared.refusal.Verdict.{Verdict}
+use Rattle.base.specs.Refusal.{Verdict}
 use Rattle.base.specs.Angle.{radians_of, degrees_of}
 use Rattle.base.specs.Ranges.{hour_check, longitude_check}
 use Rattle.base.specs.Refusal.{refuse_unless, ◌then◌, unless_refused}
@@ -14,13 +15,7 @@ use Rattle.base.specs.Single.{◌⊕◌, ◌⊖◌, ◌⊗◌, ◌⊘◌, decima
 use Rattle.maps.specs.declared.ionosphere.clocks.Direction.{Direction}
 use Rattle.maps.specs.declared.ionosphere.clocks.Direction.TheVariants.{ToLocal, ToUniversal}
 use Rattle.maps.specs.declared.ionosphere.clocks.Shifted.{Shifted}
-use Rattle.maps.specs.declared.ionosphere.clocks.Moved.{Moved}
-use Rattle.maps.specs.declared.ionosphere.clocks.Moved.TheVariants.{To, Refused as NotMoved}
 use Rattle.maps.specs.declared.ionosphere.clocks.HourTimes.{HourTimes}
-use Rattle.maps.specs.declared.ionosphere.clocks.Times.{Times}
-use Rattle.maps.specs.declared.ionosphere.clocks.Times.TheVariants.{Hours, Refused as NoTimes}
-use Rattle.maps.specs.declared.ionosphere.clocks.LocalTime.{LocalTime}
-use Rattle.maps.specs.declared.ionosphere.clocks.LocalTime.TheVariants.{At, Refused as NoLocalTime}
 
 -- ---- CNGTIM
 
@@ -101,15 +96,15 @@ time_check time lon = hour_check time then longitude_check 5 lon
 unfoldable pub hours_check : ℕ → Degrees → Degrees → Verdict
 hours_check hour tlong rlong = refuse_unless (nat_le hour 24) Hour then longitude_check 5 tlong then longitude_check 7 rlong
 
-unfoldable pub moved_of : Float → Degrees → Direction → Moved
-moved_of time lon isw = unless_refused (time_check time lon) (To (cngtim_of time lon isw)) NotMoved
+unfoldable pub moved_of : Float → Degrees → Direction → Result Shifted Refusal
+moved_of time lon isw = unless_refused (time_check time lon) (Ok (cngtim_of time lon isw)) Err
 
 -- 'The Rust's `geotim` gets each longitude times D2R'
-unfoldable pub times_of : ℕ → Bool → Degrees → Degrees → Times
+unfoldable pub times_of : ℕ → Bool → Degrees → Degrees → Result HourTimes Refusal
 times_of hour local tlong rlong =
     unless_refused (hours_check hour tlong rlong)
-    (Hours (geotim_of hour local (radians_of tlong) (radians_of rlong)))
-    NoTimes
+    (Ok (geotim_of hour local (radians_of tlong) (radians_of rlong)))
+    Err
 
-unfoldable pub local_time_of : Float → Degrees → LocalTime
-local_time_of gmt lon = unless_refused (time_check gmt lon) (At (time_at gmt (radians_of lon) ToLocal)) NoLocalTime
+unfoldable pub local_time_of : Float → Degrees → Result Float Refusal
+local_time_of gmt lon = unless_refused (time_check gmt lon) (Ok (time_at gmt (radians_of lon) ToLocal)) Err

@@ -1,16 +1,16 @@
 -- Document 01, Figures: the 151 numbers of a sheet, from its inputs, an F2 record and a month file,
 -- and from nothing else. Assumes nothing.
-use Rattle.std.specs.Prelude.{ℕ, zero, suc, cond, List, [], ◌∷◌, ◌++◌, replicate, nat_lt, slice_index_or, Float}
+use Rattle.base.specs.declared.refusal.Refusal.{Refusal}
+use Rattle.std.specs.Prelude.{ℕ, zero, suc, cond, List, [], ◌∷◌, ◌++◌, replicate, nat_lt, slice_index_or, Float, Err, Ok, Result}
 use Rattle.std.specs.Float.{nan}
-use Rattle.base.specs.declared.refusal.Verdict.{Verdict}
+use Rattle.base.specs.Refusal.{Verdict}
 use Rattle.base.specs.Refusal.{unless_refused, written_over}
 use Rattle.base.specs.Single.{decimal}
 use Rattle.base.specs.Index.{index_of}
 use Rattle.base.specs.Blend.{cofion_of, hmym_of, fakmap_of}
 use Rattle.base.specs.Files.{files_check}
 use Rattle.maps.specs.declared.inputs.Inputs.{Inputs}
-use Rattle.maps.specs.declared.figures.Shown.{Shown}
-use Rattle.maps.specs.declared.figures.Shown.TheVariants.{Points, Refused as NotShown}
+use Rattle.maps.specs.declared.figures.Hour.{Hour}
 use Rattle.maps.specs.declared.geometry.ControlPoint.{ControlPoint}
 use Rattle.maps.specs.declared.geometry.PathGeometry.{PathGeometry}
 use Rattle.maps.specs.declared.magnetic.MagneticVars.{MagneticVars}
@@ -36,6 +36,10 @@ pub record SheetHour : Type 0 where
 
 abbrev pub hour : List Float → List ℕ → Monthly → List Float → List Float → SheetHour
 hour ab index m hmym fakmap = record { ab = ab; index = index; monthly = m; hmym = hmym; fakmap = fakmap }
+
+-- as the source has it
+abbrev pub shared : Hour → SheetHour
+shared h = hour h.maps.ab.now h.maps.index.words.now h.monthly h.hmym.now h.fakmap.now
 
 -- from a month file and the tables that were read
 unfoldable pub hour_from : List ℕ → List ℕ → List Float → List Float → List Float → Inputs → SheetHour
@@ -118,10 +122,10 @@ figures_of f2 file i = figures_to (hour_of f2 file i) i (sheet_path i) 5
 
 -- ---- what `figures` answers, and what the buffer holds afterwards
 
-abbrev pub points_or : Verdict → ℕ → Shown
-points_or v count = unless_refused v (Points count) NotShown
+abbrev pub points_or : Verdict → ℕ → Result ℕ Refusal
+points_or v count = unless_refused v (Ok count) Err
 
-unfoldable pub shown_of : List ℕ → List ℕ → Inputs → Shown
+unfoldable pub shown_of : List ℕ → List ℕ → Inputs → Result ℕ Refusal
 shown_of f2 file i = points_or (files_check f2 file) (sheet_path i).count
 
 unfoldable pub figures_buffer : List ℕ → List ℕ → Inputs → List Float → List Float

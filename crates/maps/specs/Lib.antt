@@ -4,6 +4,7 @@ pub mod Inputs
 pub mod Magnetic
 pub mod Geometry
 pub mod Virtim
+pub mod Good
 pub mod Versy
 pub mod Series
 pub mod Noisy

@@ -11,8 +11,6 @@ use Rattle.base.specs.Fill.{fill, tabulate}
 use Rattle.base.specs.Index.{map_word}
 use Rattle.base.specs.Blend.{IC}
 use Rattle.maps.specs.declared.ionosphere.versy.Gammas.{Gammas}
-use Rattle.maps.specs.declared.ionosphere.versy.Sums.{Sums}
-use Rattle.maps.specs.declared.ionosphere.versy.Triple.{Triple}
 
 -- ---- the geographic functions
 
@@ -138,19 +136,10 @@ unfoldable pub sum_of : List Float → ℕ → (ℕ → Float) → ℕ → Float
 sum_of ab at g zero = g 0 ⊗ get_or ab at nan
 sum_of ab at g (suc n) = narrow_of (sum_of ab at g n) ⊕ get_or ab (at + suc n) nan ⊗ g (suc n)
 
--- three sums at once
-abbrev pub sums_of : List Float → ℕ → (ℕ → Float) → ℕ → (ℕ → Float) → ℕ → (ℕ → Float) → ℕ → Sums
-sums_of ab i g j h k l n = record { a = sum_of ab i g n; b = sum_of ab j h n; c = sum_of ab k l n }
-
--- the maps k, k + 1 and k + 2, from their geographic functions
-unfoldable pub three_of : List Float → List ℕ → ℕ → (ℕ → Float) → (ℕ → Float) → (ℕ → Float) → Triple
-three_of ab index k g h l =
-    record { a = series_of ab index k g; b = series_of ab index (k + 1) h; c = series_of ab index (k + 2) l }
-
--- the same at a place: sx for the first two, sz for the third
-unfoldable pub three_at : List Float → List ℕ → ℕ → Float → Float → Float → Float → Triple
-three_at ab index k sx sz gob clg =
-    three_of ab index k
-    (geographic_of (map_word index k) sx gob clg)
-    (geographic_of (map_word index (k + 1)) sx gob clg)
-    (geographic_of (map_word index (k + 2)) sz gob clg)
+-- the maps k, k + 1 and k + 2 at a place: sx for the first two, sz for the third
+unfoldable pub three_at : List Float → List ℕ → ℕ → Float → Float → Float → Float → Float × Float × Float
+three_at ab index k sx sz gob clg = (
+  series_of ab index k (geographic_of (map_word index k) sx gob clg),
+  series_of ab index (k + 1) (geographic_of (map_word index (k + 1)) sx gob clg),
+  series_of ab index (k + 2) (geographic_of (map_word index (k + 2)) sz gob clg),
+)

@@ -39,7 +39,8 @@ pub struct PathGeometry {
     pub brt: Radians,
     // The receiver's latitude as used: 0.03 degrees from the one typed where both ends coincide.
     pub rlatd: Degrees,
-    // How many of the points are there; the rows past them are +0.0.
+    // How many of the points are there; the rows past them are +0.0. A count beside five rows:
+    // what allocates can fail and `path_geometry` cannot, and its definition `path_of` names both.
     pub count: u32,
     pub points: [ControlPoint; POINTS],
 }
@@ -160,12 +161,11 @@ fn nudge(rlat: Degrees) -> f32
 fn nudged(tlat: Degrees, tlong: Degrees, rlat: Degrees, rlong: Degrees) -> Degrees
     ensures { result ≡ nudged_of tlat tlong rlat rlong }
 {
-    if is_close(tlat, rlat) {
-        if is_close(tlong, rlong) {
-            return Degrees(tlat.0 - nudge(rlat));
-        }
+    if is_close(tlat, rlat) && is_close(tlong, rlong) {
+        Degrees(tlat.0 - nudge(rlat))
+    } else {
+        rlat
     }
-    rlat
 }
 
 fn place_at(lat: f32, lon: f32) -> Place
@@ -341,9 +341,7 @@ fn sample(track: Track, drf: f32) -> Place
 fn pole_place(pole: MagneticPole) -> Place
     ensures { result ≡ pole_place pole }
 {
-    let lat = pole.lat;
-    let lon = pole.lon;
-    place_at(lat.to_radians().0, lon.to_radians().0)
+    place_at(pole.lat.to_radians().0, pole.lon.to_radians().0)
 }
 
 // The geomagnetic latitude of a place against a pole.
@@ -384,6 +382,7 @@ fn row(track: Track, pole: Place, drf: f32, present: bool) -> ControlPoint
 fn rows(track: Track, pole: Place, gcd: f32, count: u32) -> [ControlPoint; POINTS]
     ensures { result ≡ rows_of track pole gcd count }
 {
+    // One by one: of `array::from_fn` a proof does not learn that its closure stays as it is.
     let rd = distances(gcd, count);
     let p1 = row(track, pole, rd[0], 0 < count);
     let p2 = row(track, pole, rd[1], 1 < count);
@@ -405,6 +404,8 @@ pub fn path_geometry(
 ) -> PathGeometry
     ensures { result ≡ path_of tlat tlong rlat rlong long_path pole }
 {
+    // The ends come one by one, and not as a `Route`: this function is public, and `path_of` takes
+    // them so.
     let rlatd = nudged(tlat, tlong, rlat, rlong);
     let tx = end(tlat, tlong);
     let rx = end(rlatd, rlong);
@@ -452,28 +453,21 @@ fn mean_latitude(count: u32, lat1: f32, lat2: f32, lat3: f32) -> f32
 pub fn alatd(g: PathGeometry) -> Degrees
     ensures { result ≡ alatd_of g }
 {
-    let points = g.points;
-    let p1 = points[0];
-    let p2 = points[1];
-    let p3 = points[2];
-    let lat1 = p1.lat;
-    let lat2 = p2.lat;
-    let lat3 = p3.lat;
-    Radians(mean_latitude(g.count, lat1.0, lat2.0, lat3.0)).to_degrees()
+    let [p1, p2, p3, ..] = g.points;
+    Radians(mean_latitude(g.count, p1.lat.0, p2.lat.0, p3.lat.0)).to_degrees()
 }
 
 // The bearing from transmitter to receiver in degrees.
 pub fn btr_deg(g: PathGeometry) -> Degrees
     ensures { result ≡ btr_deg g }
 {
-    let btr = g.btr;
-    btr.to_degrees()
+    // Beside `brt_deg`, and not one for both: each is public and named in docs/CONTRACTS.md.
+    g.btr.to_degrees()
 }
 
 // The bearing from receiver to transmitter in degrees.
 pub fn brt_deg(g: PathGeometry) -> Degrees
     ensures { result ≡ brt_deg g }
 {
-    let brt = g.brt;
-    brt.to_degrees()
+    g.brt.to_degrees()
 }

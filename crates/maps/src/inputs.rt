@@ -46,6 +46,8 @@ impl MagneticPole {
     }
 }
 
+// The month, the flag and the model are any words, and no enums: `from_words` makes inputs of any
+// 15 words, and what is out of range is refused later.
 #[derive(Clone, Copy)]
 pub struct Inputs {
     pub month: u32,
@@ -71,7 +73,8 @@ pub const SHEET_FIELDS: usize = 14;
 pub const SHEET_BYTES: usize = 4 * SHEET_FIELDS;
 
 // The words of the fields: month, flag and model are whole numbers, the others the bits of an
-// `f32`.
+// `f32`. `from_words` and `to_words` are no `From`: they are public, and docs/CONTRACTS.md names
+// them.
 pub type FieldWords = [u32; FIELDS];
 
 fn degrees_in(words: &FieldWords, k: usize) -> Degrees
@@ -132,6 +135,7 @@ pub fn from_words(words: &FieldWords) -> Inputs
 fn words_in(s: &[u8]) -> FieldWords
     ensures { result ≡ words_to (λ (k : ℕ). word_at s.now (4 * k)) }
 {
+    // One by one: of `array::from_fn` a proof does not learn that its closure stays as it is.
     [
         word(s, 0),
         word(s, 4),
@@ -174,30 +178,21 @@ pub fn sheet_inputs_in(s: &[u8]) -> Inputs
 pub fn to_words(i: Inputs) -> FieldWords
     ensures { result ≡ field_words i }
 {
-    let route = i.route;
-    let psc = i.psc;
-    let pole = i.pole;
-    let tlat = route.tlat;
-    let tlong = route.tlong;
-    let rlat = route.rlat;
-    let rlong = route.rlong;
-    let lat = pole.lat;
-    let lon = pole.lon;
     [
         i.month,
         bits32(i.ssn),
         bits32(i.gmt),
-        bits32(tlat.0),
-        bits32(tlong.0),
-        bits32(rlat.0),
-        bits32(rlong.0),
-        route.long_path,
-        bits32(psc.e),
-        bits32(psc.f1),
-        bits32(psc.f2),
-        bits32(psc.es),
-        bits32(lat.0),
-        bits32(lon.0),
+        bits32(i.route.tlat.0),
+        bits32(i.route.tlong.0),
+        bits32(i.route.rlat.0),
+        bits32(i.route.rlong.0),
+        i.route.long_path,
+        bits32(i.psc.e),
+        bits32(i.psc.f1),
+        bits32(i.psc.f2),
+        bits32(i.psc.es),
+        bits32(i.pole.lat.0),
+        bits32(i.pole.lon.0),
         i.model,
     ]
 }

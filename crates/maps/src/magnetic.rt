@@ -72,13 +72,15 @@ fn row_of(n: usize) -> Row
     requires { n < 7 }
     ensures { result ≡ table_row n }
 {
-    let ct = CT[n];
-    let g = G[n];
-    let h = H[n];
-    Row { ct, g, h }
+    Row {
+        ct: CT[n],
+        g: G[n],
+        h: H[n],
+    }
 }
 
-// Latitude and longitude.
+// Latitude and longitude. Not a tuple, as this and the next types of two or three numbers are named
+// by definitions of specs/Magnetic.antt and by laws of the crate results.
 #[derive(Clone, Copy)]
 pub struct Position {
     pub p1: Radians,
@@ -107,7 +109,8 @@ fn clamped(lat: Radians, east_lon: Radians) -> Position
     }
 }
 
-// The sines and cosines of 0 to 6 times the longitude.
+// The sines and cosines of 0 to 6 times the longitude. Two arrays, as the definitions `multiple_of`
+// and `placed_of` have them.
 #[derive(Clone, Copy)]
 pub struct Multiples {
     pub sp: [f32; 7],
@@ -171,19 +174,19 @@ fn placed(lat: Radians, east_lon: Radians, height_m: f32) -> Place
     ensures { result ≡ placed_of lat east_lon height_m }
 {
     let q = clamped(lat, east_lon);
-    let p1 = q.p1;
-    let phi = q.p2;
-    let ar = HC / (HC + height_m);
-    let c = sin32(p1.0);
-    let s = sqrt32(1.0 - c * c);
-    let v = multiples_of(phi);
-    let sp = v.sp;
-    let cp = v.cp;
-    let aor = powers(ar);
-    Place { c, s, sp, cp, aor }
+    let c = sin32(q.p1.0);
+    let Multiples { sp, cp } = multiples_of(q.p2);
+    Place {
+        c,
+        s: sqrt32(1.0 - c * c),
+        sp,
+        cp,
+        aor: powers(HC / (HC + height_m)),
+    }
 }
 
-// The Rust's `t[n][m]`; here the seven rows stand one after the other.
+// The Rust's `t[n][m]`; here the seven rows stand one after the other, as the definitions `at7` and
+// `orders_of` have them.
 fn at(t: &[f32; 49], n: usize, m: usize) -> f32
     requires { (n < 7) × (m < 7) }
     ensures { result ≡ at7 t.now n m }

@@ -1,27 +1,24 @@
 // `desk audit`: where the sheet that a line of a journal shows comes from. The page's lines are
 // `auditing`'s; here the journal is read, what is in the way is said, and the lines are printed in
 // their order.
-ghost use Rattle.std.specs.Prelude.{◌≡◌, ◌≤◌, length};
-ghost use Rattle.io.specs.Counts.{IsPrefixLen};
+ghost use Rattle.std.specs.Prelude.{◌≤◌, length};
 
-use crate::failure::{got, say_unread};
-use crate::files::{Loaded, load};
+use crate::files::{Source, load, read_whole};
 use crate::journal::{CHUNK, is_ended, long_text, say_cut};
 use crate::name::{NAME, argument, is_dash};
 use crate::usage::usage;
 use auditing::accounts::{Showing, showing_at};
-use auditing::gathering::{Gathered, gather, line_end};
+use auditing::gathering::{Gathered, gather};
 use auditing::marks::kept_in;
 use auditing::page::page_part;
 use listing::columns::COLUMNS;
 use listing::spoken::SPOKEN;
 use packing::YEAR_MOST;
-use sitting::{Sitting, Stage, hear, pass, waiting};
+use sitting::{Sitting, pass, waiting};
 use std::io::{Input, Print, Read};
 use std::rt::{Env, Files};
-use system::{arg, opened, print, read_full};
-use wording::number::{Number, number_in};
-use worksheet::showing::Lent;
+use system::{arg, newline_in, opened, print, print_line};
+use wording::number::number_in;
 
 // The most bytes of a journal.
 const TEXT: usize = 1048576;
@@ -30,32 +27,22 @@ const TEXT: usize = 1048576;
 const CALLS: usize = 8192;
 
 fn say_many(out: &impl Print) {
-    print(
+    print_line(
         out,
-        b"the journal has more calls up to that line than an audit holds, which is 8192\n",
+        "the journal has more calls up to that line than an audit holds, which is 8192",
     );
 }
 
 fn say_long_text(out: &impl Print) {
-    if print(
+    print_line(
         out,
-        b"the journal is longer than an audit holds, which is 1048576 bytes: ",
-    ) {
-        print(out, b"audit a copy of it that ends with that line\n");
-    }
-}
-
-// Says words with a line's number between them.
-fn say_around(out: &impl Print, before: &[u8], line: usize, after: &[u8]) {
-    let mut digits = [0u8; 20];
-    let k = io::decimal(line as u64, &mut digits);
-    if print(out, before) && print(out, &digits[..k]) {
-        print(out, after);
-    }
+        "the journal is longer than an audit holds, which is 1048576 bytes: \
+         audit a copy of it that ends with that line",
+    );
 }
 
 fn say_none(out: &impl Print, line: usize) {
-    say_around(out, b"the journal has no line ", line, b"\n");
+    print_line(out, format_args!("the journal has no line {line}"));
 }
 
 // ---- the page
@@ -63,228 +50,162 @@ fn say_none(out: &impl Print, line: usize) {
 // More parts than a page has.
 const PARTS: usize = 3 * CALLS;
 
-// Says part k of the page, and gives whether another follows it.
+// What was gathered of a journal's text up to the line that is audited: where its calls stand, over
+// which files they were made, and of each its mark, the number of its line and the byte where that
+// begins.
+#[derive(Clone, Copy)]
+struct Audited<'a> {
+    text: &'a [u8],
+    line: usize,
+    source: Source<'a>,
+    gathered: Gathered,
+    marks: &'a [u64],
+    numbers: &'a [usize],
+    starts: &'a [usize],
+}
+
+// Says part k of the page, and gives whether another follows it; the shorter list has `size` calls
+// at these places.
 fn say_part(
     out: &impl Print,
-    text: &[u8],
-    line: usize,
-    g: Gathered,
-    marks: &[u64],
-    numbers: &[usize],
-    starts: &[usize],
+    audit: &Audited<'_>,
     places: &[usize],
     size: usize,
-    lent: Lent,
-    a: &[u8],
-    b: &[u8],
     k: usize,
 ) -> bool {
     let mut said = [0u8; COLUMNS];
     let part = page_part(
-        text, line, g, marks, numbers, starts, places, size, lent, a, b, k, &mut said,
+        audit.text,
+        audit.line,
+        audit.gathered,
+        audit.marks,
+        audit.numbers,
+        audit.starts,
+        places,
+        size,
+        audit.source.lent,
+        audit.source.a,
+        audit.source.b,
+        k,
+        &mut said,
     );
-    let n = part.size;
-    print(out, &said[..n]) && !part.last
+    print(out, &said[..part.size]) && !part.last
 }
 
-fn say_page(
-    out: &impl Print,
-    text: &[u8],
-    line: usize,
-    g: Gathered,
-    marks: &[u64],
-    numbers: &[usize],
-    starts: &[usize],
-    places: &[usize],
-    size: usize,
-    lent: Lent,
-    a: &[u8],
-    b: &[u8],
-) {
-    for k in 0..PARTS {
-        if !say_part(
-            out, text, line, g, marks, numbers, starts, places, size, lent, a, b, k,
-        ) {
-            return;
-        }
-    }
+// The shorter list has no more calls than the journal, so that its places fit.
+fn say_page(out: &impl Print, audit: &Audited<'_>) {
+    let mut places = [0usize; CALLS];
+    let size = kept_in(audit.marks, audit.gathered.count, &mut places);
+    (0..PARTS).all(|k| say_part(out, audit, &places, size, k));
 }
 
 // ---- what is audited
 
-// What `desk run` says of a showing of the worksheet that was gathered, on this line.
-fn shown_text(
-    g: Gathered,
-    line: usize,
-    lent: Lent,
-    a: &[u8],
-    b: &[u8],
-    out: &mut [u8; SPOKEN],
-) -> usize
-    ensures { IsPrefixLen result out.new }
-{
-    let sheet = g.sheet;
-    let s = Sitting {
-        stage: Stage::Open,
-        sheet: sheet,
-    };
-    let h = hear(s, b"show", line as u64, lent, a, b, out);
-    h.size
-}
-
-// The shorter list has no more calls than the journal, so that its places fit.
-fn say_shown(
-    out: &impl Print,
-    text: &[u8],
-    line: usize,
-    g: Gathered,
-    lent: Lent,
-    a: &[u8],
-    b: &[u8],
-    marks: &[u64],
-    numbers: &[usize],
-    starts: &[usize],
-) {
-    let mut places = [0usize; CALLS];
-    let size = kept_in(marks, g.count, &mut places);
-    say_page(
-        out, text, line, g, marks, numbers, starts, &places, size, lent, a, b,
-    );
-}
-
-fn say_refused(out: &impl Print, g: Gathered, line: usize, lent: Lent, a: &[u8], b: &[u8]) {
+// Says what `desk run` says of line `number` on this sitting.
+fn say_heard(out: &impl Print, sitting: Sitting, line: &[u8], number: u64, source: Source<'_>) {
     let mut said = [0u8; SPOKEN];
-    let n = shown_text(g, line, lent, a, b, &mut said);
-    print(out, &said[..n]);
+    let heard = source.hear(sitting, line, number, &mut said);
+    print(out, &said[..heard.size]);
+}
+
+// A showing of the worksheet that was gathered is refused as `desk run` refuses it.
+fn say_refused(out: &impl Print, audit: &Audited<'_>) {
+    let sitting = Sitting::Open(audit.gathered.sheet);
+    say_heard(out, sitting, b"show", audit.line as u64, audit.source);
 }
 
 fn say_other(out: &impl Print, line: usize) {
-    say_around(
+    print_line(
         out,
-        b"line ",
-        line,
-        b" does not show the worksheet: an audit is of a line that says show\n",
+        format_args!(
+            "line {line} does not show the worksheet: an audit is of a line that says show"
+        ),
     );
 }
 
 // The page of a line whose call is the last that was gathered, or why there is none.
-fn audit_line(
-    out: &impl Print,
-    text: &[u8],
-    line: usize,
-    g: Gathered,
-    lent: Lent,
-    a: &[u8],
-    b: &[u8],
-    marks: &[u64],
-    numbers: &[usize],
-    starts: &[usize],
-) {
-    match showing_at(marks, numbers, g.count, line) {
-        Showing::Shown => say_shown(out, text, line, g, lent, a, b, marks, numbers, starts),
-        Showing::Refused => say_refused(out, g, line, lent, a, b),
-        Showing::Other => say_other(out, line),
+fn audit_line(out: &impl Print, audit: &Audited<'_>) {
+    match showing_at(audit.marks, audit.numbers, audit.gathered.count, audit.line) {
+        Showing::Shown => say_page(out, audit),
+        Showing::Refused => say_refused(out, audit),
+        Showing::Other => say_other(out, audit.line),
     }
 }
 
-// How far a journal goes, up to a line of it.
+// Why a journal does not go as far as a line of it.
 #[derive(Clone, Copy)]
-enum Reach {
-    // To that line.
-    Whole,
-    // There are fewer lines.
-    Fewer,
-    // The next line ends it.
-    Ends,
-    // The next line is longer than `desk run` reads.
+enum Obstacle<'t> {
+    // There are fewer lines, and these bytes behind the last one.
+    Fewer(&'t [u8]),
+    // This line ends it on this sitting.
+    Ends(Sitting, &'t [u8]),
+    // A line is longer than `desk run` reads.
     Long,
 }
 
-// The lines up to there: the sitting that they leave, how many they are, and where the next one
-// begins and ends.
+// How many lines there are up to there, and what stands in the way behind them.
 #[derive(Clone, Copy)]
-struct Walk {
-    reach: Reach,
-    sitting: Sitting,
+struct Walk<'t> {
     lines: usize,
-    from: usize,
-    to: usize,
+    obstacle: Option<Obstacle<'t>>,
 }
 
 // The first k lines of a text, in silence.
-fn walk_lines(text: &[u8], k: usize) -> Walk
-    ensures from_le_to { (result.from ≤ result.to) × (result.to ≤ length text.now) }
-    ensures lines_in_bounds { result.lines ≤ length text.now }
-{
-    let mut s = waiting();
-    let mut at = 0;
-    for n in 0..k {
-        let end = line_end(text, at);
-        if end - at >= CHUNK {
-            return walked(Reach::Long, s, n, at, at);
+fn walk_lines(text: &[u8], k: usize) -> Walk<'_> {
+    let mut sitting = waiting();
+    let mut rest = text;
+    for lines in 0..k {
+        let size = newline_in(rest).unwrap_or(rest.len());
+        let line = &rest[..size];
+        if size >= CHUNK {
+            return walked(lines, Obstacle::Long);
         }
-        if end >= text.len() {
-            return walked(Reach::Fewer, s, n, at, text.len());
+        if size == rest.len() {
+            return walked(lines, Obstacle::Fewer(line));
         }
-        let after = pass(s, &text[at..end]);
+        let after = pass(sitting, line);
         if is_ended(after) {
-            return walked(Reach::Ends, s, n, at, end);
+            return walked(lines, Obstacle::Ends(sitting, line));
         }
-        s = after;
-        at = end + 1;
+        sitting = after;
+        rest = &rest[size + 1..];
     }
-    walked(Reach::Whole, s, k, at, at)
-}
-
-fn walked(reach: Reach, s: Sitting, lines: usize, from: usize, to: usize) -> Walk
-    ensures { (result.from ≡ from) × (result.to ≡ to) × (result.lines ≡ lines) }
-{
     Walk {
-        reach: reach,
-        sitting: s,
-        lines: lines,
-        from: from,
-        to: to,
+        lines: k,
+        obstacle: None,
     }
 }
 
-// Bytes after the last newline are no line, which is said where they may be meant.
-fn say_fewer(out: &impl Print, w: Walk, line: usize)
-    requires { w.lines ≤ 1048576 }
-{
-    if w.from < w.to {
-        say_cut(w.lines as u64 + 1);
+fn walked<'t>(lines: usize, obstacle: Obstacle<'t>) -> Walk<'t> {
+    Walk {
+        lines,
+        obstacle: Some(obstacle),
     }
-    say_none(out, line);
 }
 
-// What `desk run` says of the line that ends the journal.
-fn say_ended(out: &impl Print, text: &[u8], w: Walk, lent: Lent, a: &[u8], b: &[u8])
-    requires { (w.from ≤ w.to) × (w.to ≤ length text.now) × (w.lines ≤ 1048576) }
-{
-    let from = w.from;
-    let to = w.to;
-    let s = w.sitting;
-    let mut said = [0u8; SPOKEN];
-    let h = hear(
-        s,
-        &text[from..to],
-        w.lines as u64 + 1,
-        lent,
-        a,
-        b,
-        &mut said,
-    );
-    let n = h.size;
-    print(out, &said[..n]);
-}
-
-fn say_long(out: &impl Print, lines: usize)
-    requires { lines ≤ 1048576 }
-{
-    let mut said = [0u8; SPOKEN];
-    let n = long_text(lines as u64 + 1, &mut said);
-    print(out, &said[..n]);
+// Says what is in the way behind the first lines of a journal, of which one is audited. Bytes after
+// the last newline are no line, which is said where they may be meant.
+fn say_obstacle(
+    out: &impl Print,
+    walk: Walk<'_>,
+    obstacle: Obstacle<'_>,
+    line: usize,
+    source: Source<'_>,
+) {
+    let next = (walk.lines as u64).saturating_add(1);
+    match obstacle {
+        Obstacle::Fewer(rest) => {
+            if !rest.is_empty() {
+                say_cut(next);
+            }
+            say_none(out, line);
+        }
+        Obstacle::Ends(sitting, ending) => say_heard(out, sitting, ending, next, source),
+        Obstacle::Long => {
+            let mut said = [0u8; SPOKEN];
+            print(out, long_text(next, &mut said));
+        }
+    }
 }
 
 // Of what is in the way the first is said, by lines: a call too many, or a line that ends the
@@ -293,34 +214,43 @@ fn audit_into(
     out: &impl Print,
     text: &[u8],
     line: usize,
-    lent: Lent,
-    a: &[u8],
-    b: &[u8],
+    source: Source<'_>,
     marks: &mut [u64; CALLS],
     numbers: &mut [usize; CALLS],
     starts: &mut [usize; CALLS],
-)
-    requires { length text.now ≤ 1048576 }
-{
-    let w = walk_lines(text, line);
-    let g = gather(text, w.lines, lent, a, b, marks, numbers, starts);
-    if g.count >= CALLS {
+) {
+    let walk = walk_lines(text, line);
+    let gathered = gather(
+        text,
+        walk.lines,
+        source.lent,
+        source.a,
+        source.b,
+        marks,
+        numbers,
+        starts,
+    );
+    if gathered.count >= CALLS {
         say_many(out);
         return;
     }
-    let reach = w.reach;
-    match reach {
-        Reach::Whole => audit_line(out, text, line, g, lent, a, b, marks, numbers, starts),
-        Reach::Fewer => say_fewer(out, w, line),
-        Reach::Ends => say_ended(out, text, w, lent, a, b),
-        Reach::Long => say_long(out, w.lines),
+    if let Some(obstacle) = walk.obstacle {
+        say_obstacle(out, walk, obstacle, line, source);
+        return;
     }
+    let audit = Audited {
+        text,
+        line,
+        source,
+        gathered,
+        marks,
+        numbers,
+        starts,
+    };
+    audit_line(out, &audit);
 }
 
-// The first n bytes of what was read.
-fn audit_text(out: &impl Print, whole: &[u8], n: usize, line: usize, lent: Lent, a: &[u8], b: &[u8])
-    requires { (n ≤ length whole.now) × (n ≤ 1048576) }
-{
+fn audit_text(out: &impl Print, text: &[u8], line: usize, source: Source<'_>) {
     if line == 0 {
         say_none(out, line);
         return;
@@ -330,11 +260,9 @@ fn audit_text(out: &impl Print, whole: &[u8], n: usize, line: usize, lent: Lent,
     let mut starts = [0usize; CALLS];
     audit_into(
         out,
-        &whole[..n],
+        text,
         line,
-        lent,
-        a,
-        b,
+        source,
         &mut marks,
         &mut numbers,
         &mut starts,
@@ -343,49 +271,15 @@ fn audit_text(out: &impl Print, whole: &[u8], n: usize, line: usize, lent: Lent,
 
 // ---- the journal and the arguments
 
-// Says that there is more of a journal: it does not fit, or, where the buffer is not full, a read
-// before this one has failed.
-fn say_left(out: &impl Print, name: &[u8], full: bool) {
-    if !full {
-        say_unread(name);
-        return;
-    }
-    say_long_text(out);
-}
-
-// Whether a journal has been read to its end; else what is left, or what failed, is said.
-fn is_held(input: &mut impl Read, out: &impl Print, name: &[u8], full: bool) -> bool {
-    let mut more = [0u8; 1];
-    match got(name, input.read(&mut more)) {
-        Some(0) => true,
-        Some(_) => {
-            say_left(out, name, full);
-            false
-        }
-        None => false,
-    }
-}
-
-fn read_into(input: &mut impl Read, journal: &mut [u8; TEXT]) -> usize
-    ensures { result ≤ 1048576 }
-{
-    read_full(input, journal)
-}
-
-fn audit_read(
+// A journal in a buffer; none where it is not read to its end, which is said.
+fn read_journal<'a>(
     input: &mut impl Read,
     out: &impl Print,
     name: &[u8],
-    line: usize,
-    lent: Lent,
-    a: &[u8],
-    b: &[u8],
-    journal: &mut [u8; TEXT],
-) {
-    let n = read_into(input, journal);
-    if is_held(input, out, name, n == TEXT) {
-        audit_text(out, journal, n, line, lent, a, b);
-    }
+    journal: &'a mut [u8; TEXT],
+) -> Option<&'a [u8]> {
+    let n = read_whole(input, name, journal, || say_long_text(out))?;
+    Some(&journal[..n])
 }
 
 fn audit_over(
@@ -393,98 +287,53 @@ fn audit_over(
     out: &impl Print,
     name: &[u8],
     line: usize,
-    lent: Lent,
-    a: &[u8],
-    b: &[u8],
+    source: Source<'_>,
 ) {
     let mut journal = [0u8; TEXT];
-    audit_read(input, out, name, line, lent, a, b, &mut journal);
+    if let Some(text) = read_journal(input, out, name, &mut journal) {
+        audit_text(out, text, line, source);
+    }
 }
 
-fn audit_named(
-    rt: &(impl Files + Input + Print),
-    name: &[u8],
-    line: usize,
-    lent: Lent,
-    a: &[u8],
-    b: &[u8],
-) {
+fn audit_named(rt: &(impl Files + Input + Print), name: &[u8], line: usize, source: Source<'_>) {
     if is_dash(name) {
-        audit_over(&mut rt.reader(), rt, b"standard input", line, lent, a, b);
-        return;
-    }
-    if let Some(mut file) = opened(rt, name) {
-        audit_over(&mut file, rt, name, line, lent, a, b);
+        audit_over(&mut rt.reader(), rt, b"standard input", line, source);
+    } else if let Some(mut file) = opened(rt, name) {
+        audit_over(&mut file, rt, name, line, source);
     }
 }
 
-fn audit_from(rt: &(impl Files + Env + Input + Print), f: Loaded, line: usize, whole: &[u8])
-    requires { (f.first ≤ f.all) × (f.all ≤ length whole.now) }
-{
-    let first = f.first;
-    let all = f.all;
-    let lent = f.lent;
+fn audit_from(rt: &(impl Files + Env + Input + Print), line: usize, source: Source<'_>) {
     let mut name = [0u8; NAME];
-    let n = argument(rt, 2, &mut name);
-    if n > 0 {
-        audit_named(
-            rt,
-            &name[..n],
-            line,
-            lent,
-            &whole[..first],
-            &whole[first..all],
-        );
+    if let Some(name) = argument(rt, 2, &mut name) {
+        audit_named(rt, name, line, source);
     }
 }
 
-fn audit_with(
-    rt: &(impl Files + Env + Input + Print),
-    pair: bool,
-    line: usize,
-    files: &mut [u8; YEAR_MOST],
-) {
-    let f = load(rt, pair, files);
-    if f.good {
-        audit_from(rt, f, line, files);
+// The line that a word asks for, where that is a whole number.
+fn line_of(word: &[u8]) -> Option<usize> {
+    match number_in(word) {
+        Some(d) if !d.negative && d.places == 0 => Some(d.digits as usize),
+        _ => None,
     }
 }
 
-// The line that an audit is asked for, where that is a whole number.
-#[derive(Clone, Copy)]
-struct Asked {
-    line: usize,
-    good: bool,
-}
-
-fn asked_by(n: Number) -> Asked {
-    match n {
-        Number::Is(d) => Asked {
-            line: d.digits as usize,
-            good: !d.negative && d.places == 0,
-        },
-        Number::Not => Asked {
-            line: 0,
-            good: false,
-        },
-    }
-}
-
-fn asked_in(env: &impl Env, i: usize) -> Asked {
+// The line that argument i asks for.
+fn asked_in(env: &impl Env, i: usize) -> Option<usize> {
     let mut word = [0u8; NAME];
     let n = arg(env, i, &mut word);
-    asked_by(number_in(&word[..n]))
+    line_of(&word[..n])
 }
 
 // Audits the journal that argument 2 names at the line of the last argument, over the year file of
 // argument 3, or over the record and the month file of arguments 3 and 4.
 pub fn audit(rt: &(impl Files + Env + Input + Print), pair: bool) {
-    let last = if pair { 5usize } else { 4usize };
-    let asked = asked_in(rt, last);
-    if !asked.good {
+    let Some(line) = asked_in(rt, if pair { 5 } else { 4 }) else {
         usage();
         return;
-    }
+    };
     let mut files = [0u8; YEAR_MOST];
-    audit_with(rt, pair, asked.line, &mut files);
+    if let Some(source) = load(rt, pair, &mut files) {
+        audit_from(rt, line, source);
+    }
 }

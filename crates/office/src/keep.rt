@@ -1,8 +1,6 @@
 // What `desk say` writes: the line of a call behind the journal's others, and what was cut short
 // into a file beside it.
-ghost use Rattle.std.specs.Prelude.{◌≤◌, length};
-
-use crate::failure::{got, is_done};
+use crate::failure::is_done;
 use crate::folder::sync_folder;
 use crate::journal::say_cut;
 use crate::name::{NAME, beside};
@@ -10,7 +8,7 @@ use listing::written::{WRITTEN, line_text};
 use std::fs::OpenFile;
 use std::io::{Error, Seek, SeekFrom, Write};
 use std::rt::Files;
-use system::{STDERR, create, fail, is_missing, open_append, open_update};
+use system::{create, fail, got, is_missing, open_append, open_update, say_of, say_pieces};
 use wording::line::line_in;
 
 // The journal open for reading and writing, made where it is missing; none where it cannot be,
@@ -65,15 +63,15 @@ fn cut(journal: &impl OpenFile, bytes: u64) -> Result<(), Error> {
 // Whether the journal still has so many bytes, as when it was read; else that is said. It is another
 // than that where somebody deleted our lock, or wrote without one.
 fn is_as_read(journal: &mut impl Seek, name: &[u8], bytes: u64) -> bool {
-    if let Ok(size) = journal.seek(SeekFrom::End(0)) {
-        if size == bytes {
-            return true;
-        }
+    if journal
+        .seek(SeekFrom::End(0))
+        .is_ok_and(|size| size == bytes)
+    {
+        return true;
     }
-    io::write_all(STDERR, name);
-    io::write_all(
-        STDERR,
-        b": the journal was changed while it was read: say the call again\n",
+    say_of(
+        name,
+        "the journal was changed while it was read: say the call again",
     );
     false
 }
@@ -85,39 +83,29 @@ pub(crate) fn set_aside<R: Files>(
     name: &[u8],
     bytes: u64,
     rest: &[u8],
-) -> bool
-    requires { (bytes ≤ 72057594037927936) × (length rest.now ≤ 65536) }
-{
-    let size = rest.len() as u64;
+) -> bool {
+    let all = bytes.saturating_add(rest.len() as u64);
     let mut aside = [0u8; NAME];
-    let n = beside(name, b".cut", &mut aside);
-    is_as_read(journal, name, bytes + size)
-        && put_aside(files, &aside[..n], rest)
+    let aside = beside(name, b".cut", &mut aside);
+    is_as_read(journal, name, all)
+        && put_aside(files, aside, rest)
         && is_done(name, cut(journal, bytes))
 }
 
 // Says that line `number` was cut short, and where it was put aside.
 pub(crate) fn say_aside(name: &[u8], number: u64) {
     let mut aside = [0u8; NAME];
-    let n = beside(name, b".cut", &mut aside);
+    let aside = beside(name, b".cut", &mut aside);
     say_cut(number);
-    io::write_all(STDERR, b"it was put aside in ");
-    io::write_all(STDERR, &aside[..n]);
-    io::write_all(STDERR, b"\n");
+    say_pieces(&[b"it was put aside in ", aside]);
 }
 
-// What came of a call.
+// Why the line of a call is not kept.
 #[derive(Clone, Copy)]
-pub(crate) enum Fate {
-    // Its line is on its device.
-    Kept,
-    // It is answered and not kept.
-    Answered,
-    // The journal ends before it.
-    Late,
-    // It was not made; what failed was said.
+pub(crate) enum Unkept {
+    // The journal is as it was; what failed was said.
     Failed,
-    // Its line could not be written, nor the journal be cut back, so that some of it may stand.
+    // The line could not be written, nor the journal be cut back, so that some of it may stand.
     Unsure,
 }
 
@@ -136,17 +124,16 @@ fn append_or_cut<R: Files>(
     name: &[u8],
     bytes: u64,
     line: &[u8],
-) -> Fate {
+) -> Result<(), Unkept> {
     if !is_as_read(journal, name, bytes) {
-        return Fate::Failed;
+        Err(Unkept::Failed)
+    } else if is_done(name, append(files, name, line)) {
+        Ok(())
+    } else if is_done(name, cut(journal, bytes)) {
+        Err(Unkept::Failed)
+    } else {
+        Err(Unkept::Unsure)
     }
-    if is_done(name, append(files, name, line)) {
-        return Fate::Kept;
-    }
-    if is_done(name, cut(journal, bytes)) {
-        return Fate::Failed;
-    }
-    Fate::Unsure
 }
 
 // Keeps the line of a call behind the journal's first bytes, written anew. A journal's first line
@@ -157,11 +144,9 @@ pub(crate) fn keep<R: Files>(
     name: &[u8],
     bytes: u64,
     line: &[u8],
-) -> Fate {
-    if bytes == 0 {
-        if !sync_folder(files, name) {
-            return Fate::Failed;
-        }
+) -> Result<(), Unkept> {
+    if bytes == 0 && !sync_folder(files, name) {
+        return Err(Unkept::Failed);
     }
     let mut text = [0u8; WRITTEN];
     let n = line_text(line_in(line), &mut text);

@@ -1,14 +1,12 @@
 // The journal's lock: a file beside it that only one can make at a time, and that says who made it.
-ghost use Rattle.std.specs.Prelude.{◌≤◌, length};
 ghost use Rattle.io.specs.Counts.{IsPrefixLen};
 
 use crate::failure::is_done;
-use crate::name::join;
 use std::io::Write;
 use std::rt::{Clock, Files, Process};
 use system::{
-    STDERR, create, fail, host_name, is_missing, is_taken, open_read, process_number, read_full,
-    remove, rest,
+    create, fail, host_name, is_missing, is_taken, join, newline_in, open_read, process_number,
+    read_full, remove, rest, say, say_of, say_pieces, written,
 };
 
 // How often the lock is tried for, with rests of two milliseconds: five seconds and more.
@@ -18,89 +16,65 @@ const TRIES: u32 = 2500;
 pub(crate) const LINE: usize = 300;
 
 // What we sign into a lock: the host and the process.
-pub(crate) fn signature(files: &impl Files, process: Process, out: &mut [u8; LINE]) -> usize
-    ensures { IsPrefixLen result out.new }
-{
+pub(crate) fn signature<'a>(
+    files: &impl Files,
+    process: Process,
+    text: &'a mut [u8; LINE],
+) -> &'a [u8] {
     let mut host = [0u8; 256];
     let h = host_name(files, &mut host);
-    let mut digits = [0u8; 20];
-    let d = io::decimal(process_number(process), &mut digits);
-    let n = join(out, 0, b"host ");
-    let n = join(out, n, &host[..h]);
-    let n = join(out, n, b" process ");
-    let n = join(out, n, &digits[..d]);
-    join(out, n, b"\n")
+    let number = process_number(process);
+    let n = join(text, 0, b"host ");
+    let n = join(text, n, &host[..h]);
+    let n = n + written(format_args!(" process {number}\n"), &mut text[n..]);
+    &text[..n]
 }
 
 // A byte as it is told: anybody can have written it, and a terminal obeys some bytes.
 fn plain(byte: u8) -> u8 {
-    if byte < b' ' {
-        return b'?';
+    match byte {
+        b' '..=b'~' => byte,
+        _ => b'?',
     }
-    if byte > b'~' {
-        return b'?';
-    }
-    byte
-}
-
-// How many of the first n bytes of a text are its first line, which is made plain.
-fn first_line(text: &mut [u8], n: usize) -> usize
-    requires { n ≤ length text.old }
-    ensures { IsPrefixLen result text.new }
-{
-    for i in 0..n {
-        if text[i] == b'\n' {
-            return i;
-        }
-        text[i] = plain(text[i]);
-    }
-    n
 }
 
 // What is signed into a lock, 300 bytes of it at most; nothing where it cannot be read.
 fn signed_into(files: &impl Files, lock: &[u8], who: &mut [u8; LINE]) -> usize
     ensures { IsPrefixLen result who.new }
 {
-    match open_read(files, lock) {
-        Ok(mut file) => read_full(&mut file, who),
-        Err(_) => 0,
-    }
+    let Ok(mut file) = open_read(files, lock) else {
+        return 0;
+    };
+    read_full(&mut file, who)
 }
 
 // Its first line, as it is told.
-fn told_of(files: &impl Files, lock: &[u8], who: &mut [u8; LINE]) -> usize
-    ensures { IsPrefixLen result who.new }
-{
+fn told_of<'a>(files: &impl Files, lock: &[u8], who: &'a mut [u8; LINE]) -> &'a [u8] {
     let n = signed_into(files, lock, who);
-    first_line(who, n)
-}
-
-fn say_signed(files: &impl Files, lock: &[u8]) {
-    let mut who = [0u8; LINE];
-    let n = told_of(files, lock, &mut who);
-    if n == 0 {
-        io::write_all(STDERR, b"a process that did not sign it");
+    let size = newline_in(&who[..n]).unwrap_or(n);
+    for byte in &mut who[..size] {
+        *byte = plain(*byte);
     }
-    io::write_all(STDERR, &who[..n]);
-    io::write_all(STDERR, b"\n");
+    &who[..size]
 }
 
 // Says who has the lock, as far as it is signed, and how to lift it.
 fn say_held(files: &impl Files, lock: &[u8]) {
-    io::write_all(STDERR, lock);
-    io::write_all(STDERR, b": the journal is in use; its lock was made by\n");
-    say_signed(files, lock);
-    io::write_all(
-        STDERR,
-        b"Try again; if that process no longer runs, delete the lock and try again.\n",
-    );
+    let mut who = [0u8; LINE];
+    let who = told_of(files, lock, &mut who);
+    say_of(lock, "the journal is in use; its lock was made by");
+    if who.is_empty() {
+        say("a process that did not sign it");
+    } else {
+        say_pieces(&[who]);
+    }
+    say("Try again; if that process no longer runs, delete the lock and try again.");
 }
 
 fn say_lifted() {
-    io::write_all(STDERR, b"the lock was lifted by somebody else meanwhile: ");
-    io::write_all(
-        STDERR,
-        b"see that the journal's last lines are as they were answered\n",
+    say(
+        "the lock was lifted by somebody else meanwhile: \
+         see that the journal's last lines are as they were answered",
     );
 }
 
@@ -112,9 +86,9 @@ fn lift(files: &impl Files, lock: &[u8]) {
     fail(lock, &error);
     if is_missing(&error) {
         say_lifted();
-        return;
+    } else {
+        say("the lock stands: delete it by hand");
     }
-    io::write_all(STDERR, b"the lock stands: delete it by hand\n");
 }
 
 // Signs the lock that was made, at once, so that a stop leaves all of it or nothing; where that
@@ -157,7 +131,7 @@ fn is_anothers(files: &impl Files, lock: &[u8], own: &[u8]) -> bool {
 pub(crate) fn give_back(files: &impl Files, lock: &[u8], own: &[u8]) {
     if is_anothers(files, lock, own) {
         say_lifted();
-        return;
+    } else {
+        lift(files, lock);
     }
-    lift(files, lock);
 }

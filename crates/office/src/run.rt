@@ -1,81 +1,55 @@
 // `desk run`: the answer to each line of a journal.
-ghost use Rattle.std.specs.Prelude.{◌≤◌, length};
-
-use crate::files::{Loaded, load};
-use crate::journal::{CHUNK, State, hear_all, long_text, say_cut};
+use crate::files::{Source, load};
+use crate::journal::{CHUNK, End, hear_all, long_text, say_cut};
 use crate::name::{NAME, argument, is_dash};
 use listing::spoken::SPOKEN;
 use packing::YEAR_MOST;
+use sitting::Sitting;
 use std::io::{Input, Print, Read};
 use std::rt::{Env, Files};
-use system::{STDERR, opened, print};
-use worksheet::showing::Lent;
+use system::{opened, print, say};
 
-fn say_long(out: &impl Print, number: u64) {
-    let mut text = [0u8; SPOKEN];
-    let n = long_text(number, &mut text);
-    print(out, &text[..n]);
-}
-
-fn run_into(
-    input: &mut impl Read,
+// The sitting after a line whose answer is printed, unless it cannot be.
+fn spoken(
     out: &impl Print,
-    name: &[u8],
-    lent: Lent,
-    a: &[u8],
-    b: &[u8],
-    buffer: &mut [u8; CHUNK],
-) {
-    let r = hear_all(input, out, name, true, lent, a, b, buffer);
-    let number = r.lines + 1;
-    let state = r.state;
-    match state {
-        State::Going => {}
-        State::Done => {
-            if r.from < r.to {
-                say_cut(number);
-            } else if r.bytes == 0 {
-                io::write_all(STDERR, b"the journal has no line\n");
-            }
-        }
-        State::Stopped => {}
-        State::Long => say_long(out, number),
-        State::Failed => {}
-    }
+    before: Sitting,
+    line: &[u8],
+    number: u64,
+    source: Source<'_>,
+) -> Option<Sitting> {
+    let mut text = [0u8; SPOKEN];
+    let heard = source.hear(before, line, number, &mut text);
+    print(out, &text[..heard.size]).then_some(heard.sitting)
 }
 
-fn run_over(input: &mut impl Read, out: &impl Print, name: &[u8], lent: Lent, a: &[u8], b: &[u8]) {
+fn run_over(input: &mut impl Read, out: &impl Print, name: &[u8], source: Source<'_>) {
     let mut buffer = [0u8; CHUNK];
-    run_into(input, out, name, lent, a, b, &mut buffer);
+    let (ran, end) = hear_all(input, name, &mut buffer, |before, line, number| {
+        spoken(out, before, line, number, source)
+    });
+    match end {
+        End::Input if ran.from < ran.to => say_cut(ran.number()),
+        End::Input if ran.bytes == 0 => say("the journal has no line"),
+        End::Long => {
+            let mut text = [0u8; SPOKEN];
+            print(out, long_text(ran.number(), &mut text));
+        }
+        End::Input | End::Line | End::Failed => {}
+    }
 }
 
-fn run_named(rt: &(impl Files + Input + Print), name: &[u8], lent: Lent, a: &[u8], b: &[u8]) {
+fn run_named(rt: &(impl Files + Input + Print), name: &[u8], source: Source<'_>) {
     if is_dash(name) {
-        run_over(&mut rt.reader(), rt, b"standard input", lent, a, b);
-        return;
-    }
-    if let Some(mut file) = opened(rt, name) {
-        run_over(&mut file, rt, name, lent, a, b);
+        run_over(&mut rt.reader(), rt, b"standard input", source);
+    } else if let Some(mut file) = opened(rt, name) {
+        run_over(&mut file, rt, name, source);
     }
 }
 
-fn run_from(rt: &(impl Files + Env + Input + Print), f: Loaded, whole: &[u8])
-    requires { (f.first ≤ f.all) × (f.all ≤ length whole.now) }
-{
-    let first = f.first;
-    let all = f.all;
-    let lent = f.lent;
+fn run_from(rt: &(impl Files + Env + Input + Print), source: Source<'_>) {
     let mut name = [0u8; NAME];
-    let n = argument(rt, 2, &mut name);
-    if n > 0 {
-        run_named(rt, &name[..n], lent, &whole[..first], &whole[first..all]);
-    }
-}
-
-fn run_with(rt: &(impl Files + Env + Input + Print), pair: bool, files: &mut [u8; YEAR_MOST]) {
-    let f = load(rt, pair, files);
-    if f.good {
-        run_from(rt, f, files);
+    if let Some(name) = argument(rt, 2, &mut name) {
+        run_named(rt, name, source);
     }
 }
 
@@ -83,5 +57,7 @@ fn run_with(rt: &(impl Files + Env + Input + Print), pair: bool, files: &mut [u8
 // the month file of arguments 3 and 4.
 pub fn run(rt: &(impl Files + Env + Input + Print), pair: bool) {
     let mut files = [0u8; YEAR_MOST];
-    run_with(rt, pair, &mut files);
+    if let Some(source) = load(rt, pair, &mut files) {
+        run_from(rt, source);
+    }
 }

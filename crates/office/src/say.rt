@@ -4,21 +4,20 @@
 ghost use Rattle.std.specs.Prelude.{◌≤◌, length};
 ghost use Rattle.io.specs.Counts.{IsPrefixLen};
 
-use crate::files::{Loaded, load};
-use crate::journal::{CHUNK, Ran, State, hear_all, is_ended, long_text};
-use crate::keep::{Fate, keep, open_journal, say_aside, set_aside};
+use crate::files::{Source, load};
+use crate::journal::{CHUNK, End, Ran, hear_all, is_ended, long_text};
+use crate::keep::{Unkept, keep, open_journal, say_aside, set_aside};
 use crate::link::is_own;
 use crate::lock::{LINE, give_back, signature, take};
-use crate::name::{NAME, argument, beside, is_dash, join};
+use crate::name::{NAME, argument, beside, is_dash};
 use crate::usage::usage;
 use listing::spoken::SPOKEN;
 use packing::YEAR_MOST;
-use sitting::{Sitting, hear};
+use sitting::pass;
 use std::io::Print;
 use std::rt::{Clock, Env, Files, Process};
-use system::{STDERR, arg_count, print};
+use system::{arg_count, join, print};
 use wording::line::{Line, line_in};
-use worksheet::showing::Lent;
 
 // Puts argument k behind the first n bytes of a line, after a blank; where it does not fit the line
 // is full.
@@ -47,212 +46,159 @@ fn words_from(env: &impl Env, i: usize, line: &mut [u8]) -> usize
     n
 }
 
-// What is told once the lock is given back, so that a reader who is slow holds up no other desk: so
-// many bytes of a text, what came of the call, the number of its line or of the one that ends the
-// journal, and whether one of that number was put aside.
+// What came of the call.
 #[derive(Clone, Copy)]
-struct Told {
-    size: usize,
-    fate: Fate,
-    line: u64,
-    cut: bool,
+enum Outcome<'t> {
+    // It is answered so, and its line is on its device.
+    Kept(&'t [u8]),
+    // It is answered so, and not kept.
+    Answered(&'t [u8]),
+    // The journal ends before it, with its line of this number, of which this is said.
+    Late(u64, &'t [u8]),
+    // It was not made; what failed was said.
+    Failed,
+    // Its line could not be written, nor the journal be cut back, so that some of it may stand.
+    Unsure,
 }
 
-// Nothing of the text, and that the call was not made.
-fn unmade(text: &[u8]) -> Told
-    ensures { IsPrefixLen result.size text.now }
-{
-    Told {
-        size: 0,
-        fate: Fate::Failed,
-        line: 0,
-        cut: false,
-    }
+// What is told once the lock is given back, so that a reader who is slow holds up no other desk: the
+// number of a line that was cut short and put aside, and what came of the call.
+#[derive(Clone, Copy)]
+struct Told<'t> {
+    aside: Option<u64>,
+    outcome: Outcome<'t>,
 }
 
-// Keeps the line of a call by the sitting that it left: one that is no call, and an open that is
-// refused, are answered and not kept.
-fn keep_after<R: Files>(
-    files: &R,
-    journal: &mut R::File,
-    after: Sitting,
-    name: &[u8],
-    bytes: u64,
-    line: &[u8],
-) -> Fate {
-    if is_ended(after) {
-        return Fate::Answered;
+impl<'t> Told<'t> {
+    fn only(outcome: Outcome<'t>) -> Told<'t> {
+        Told {
+            aside: None,
+            outcome,
+        }
     }
-    keep(files, journal, name, bytes, line)
 }
 
 // Answers the call of a line on the sitting that the journal left, and keeps its line behind the
-// others.
-fn answer<R: Files>(
+// others: one that is no call, and an open that is refused, are answered and not kept.
+fn answer<'t, R: Files>(
     files: &R,
     journal: &mut R::File,
     name: &[u8],
-    v: Ran,
+    ran: Ran,
     line: &[u8],
-    lent: Lent,
-    a: &[u8],
-    b: &[u8],
-    text: &mut [u8; SPOKEN],
-) -> Told
-    requires { v.lines ≤ 1099511627776 }
-    ensures { IsPrefixLen result.size text.new }
-{
-    let number = v.lines + 1;
-    let sitting = v.sitting;
-    let h = hear(sitting, line, number, lent, a, b, text);
-    let after = h.sitting;
-    let fate = keep_after(files, journal, after, name, v.bytes, line);
-    Told {
-        size: h.size,
-        fate: fate,
-        line: number,
-        cut: v.from < v.to,
+    source: Source<'_>,
+    text: &'t mut [u8; SPOKEN],
+) -> Outcome<'t> {
+    let heard = source.hear(ran.sitting, line, ran.number(), text);
+    let said = &text[..heard.size];
+    if is_ended(heard.sitting) {
+        return Outcome::Answered(said);
+    }
+    match keep(files, journal, name, ran.bytes, line) {
+        Ok(()) => Outcome::Kept(said),
+        Err(Unkept::Failed) => Outcome::Failed,
+        Err(Unkept::Unsure) => Outcome::Unsure,
     }
 }
 
-// Whether what was cut short, if anything, is put aside.
-fn is_clean<R: Files>(files: &R, journal: &mut R::File, name: &[u8], v: Ran, buffer: &[u8]) -> bool
-    requires from_le_to { (v.from ≤ v.to) × (v.to ≤ length buffer.now) × (v.to ≤ 65536) }
-    requires bytes_bound { v.bytes ≤ 72057594037927936 }
-{
-    let from = v.from;
-    let to = v.to;
-    if from == to {
-        return true;
+// The same once what was cut short, if anything, is put aside.
+fn answer_clean<'t, R: Files>(
+    files: &R,
+    journal: &mut R::File,
+    name: &[u8],
+    ran: Ran,
+    rest: &[u8],
+    line: &[u8],
+    source: Source<'_>,
+    text: &'t mut [u8; SPOKEN],
+) -> Told<'t> {
+    if !rest.is_empty() && !set_aside(files, journal, name, ran.bytes, rest) {
+        return Told::only(Outcome::Failed);
     }
-    set_aside(files, journal, name, v.bytes, &buffer[from..to])
+    Told {
+        aside: (!rest.is_empty()).then_some(ran.number()),
+        outcome: answer(files, journal, name, ran, line, source, text),
+    }
 }
 
 // What is said of the line that ends the journal.
-fn why_stopped(
-    v: Ran,
-    lent: Lent,
-    a: &[u8],
-    b: &[u8],
-    buffer: &[u8],
-    text: &mut [u8; SPOKEN],
-) -> Told
-    requires { (v.from ≤ v.to) × (v.to ≤ length buffer.now) × (v.lines ≤ 1099511627776) }
-    ensures { IsPrefixLen result.size text.new }
-{
-    let from = v.from;
-    let to = v.to;
-    let number = v.lines + 1;
-    let sitting = v.sitting;
-    let h = hear(sitting, &buffer[from..to], number, lent, a, b, text);
-    Told {
-        size: h.size,
-        fate: Fate::Late,
-        line: number,
-        cut: false,
-    }
-}
-
-// What is said of a line that is too long.
-fn why_long(number: u64, text: &mut [u8; SPOKEN]) -> Told
-    ensures { IsPrefixLen result.size text.new }
-{
-    let size = long_text(number, text);
-    Told {
-        size: size,
-        fate: Fate::Late,
-        line: number,
-        cut: false,
-    }
+fn why_stopped<'t>(
+    ran: Ran,
+    line: &[u8],
+    source: Source<'_>,
+    text: &'t mut [u8; SPOKEN],
+) -> Outcome<'t> {
+    let number = ran.number();
+    let heard = source.hear(ran.sitting, line, number, text);
+    Outcome::Late(number, &text[..heard.size])
 }
 
 // The journal's lines in silence, then the call; or what ends the journal before it.
-fn say_into<R: Files + Print>(
-    rt: &R,
+fn say_into<'t, R: Files>(
+    files: &R,
     journal: &mut R::File,
     name: &[u8],
     line: &[u8],
-    lent: Lent,
-    a: &[u8],
-    b: &[u8],
-    buffer: &mut [u8; CHUNK],
-    text: &mut [u8; SPOKEN],
-) -> Told
-    ensures { IsPrefixLen result.size text.new }
-{
-    let v = hear_all(journal, rt, name, false, lent, a, b, buffer);
-    let state = v.state;
-    match state {
-        State::Going => unmade(text),
-        State::Done => {
-            if is_clean(rt, journal, name, v, buffer) {
-                return answer(rt, journal, name, v, line, lent, a, b, text);
-            }
-            unmade(text)
-        }
-        State::Stopped => why_stopped(v, lent, a, b, buffer, text),
-        State::Long => why_long(v.lines + 1, text),
-        State::Failed => unmade(text),
+    source: Source<'_>,
+    text: &'t mut [u8; SPOKEN],
+) -> Told<'t> {
+    let mut buffer = [0u8; CHUNK];
+    let (ran, end) = hear_all(journal, name, &mut buffer, |before, line, _| {
+        Some(pass(before, line))
+    });
+    let rest = ran.left(&buffer);
+    match end {
+        End::Input => answer_clean(files, journal, name, ran, rest, line, source, text),
+        End::Line => Told::only(why_stopped(ran, rest, source, text)),
+        End::Long => Told::only(Outcome::Late(ran.number(), long_text(ran.number(), text))),
+        End::Failed => Told::only(Outcome::Failed),
     }
 }
 
-fn say_open(
-    rt: &(impl Files + Print),
+fn say_open<'t>(
+    files: &impl Files,
     name: &[u8],
     line: &[u8],
-    lent: Lent,
-    a: &[u8],
-    b: &[u8],
-    text: &mut [u8; SPOKEN],
-) -> Told
-    ensures { IsPrefixLen result.size text.new }
-{
-    let Some(mut journal) = open_journal(rt, name) else {
-        return unmade(text);
-    };
-    let mut buffer = [0u8; CHUNK];
-    say_into(rt, &mut journal, name, line, lent, a, b, &mut buffer, text)
+    source: Source<'_>,
+    text: &'t mut [u8; SPOKEN],
+) -> Told<'t> {
+    match open_journal(files, name) {
+        Some(mut journal) => say_into(files, &mut journal, name, line, source, text),
+        None => Told::only(Outcome::Failed),
+    }
 }
 
 // The last words wherever there is no answer.
 fn say_unmade() {
-    io::write_all(STDERR, b"the call was not made\n");
-}
-
-fn say_late(line: u64) {
-    io::write_all(STDERR, b"the journal ends at its line ");
-    io::print_decimal(STDERR, line);
-    io::write_all(STDERR, b": the call was not made; mend that line first\n");
+    system::say("the call was not made");
 }
 
 // Tells what was put aside, the answer, and what came of the call where the answer does not say it
 // or could not be written.
-fn tell(out: &impl Print, name: &[u8], t: Told, text: &[u8]) {
-    if t.cut {
-        say_aside(name, t.line);
+fn tell(out: &impl Print, name: &[u8], told: Told<'_>) {
+    if let Some(number) = told.aside {
+        say_aside(name, number);
     }
-    let fate = t.fate;
-    match fate {
-        Fate::Kept => {
+    match told.outcome {
+        Outcome::Kept(text) => {
             if !print(out, text) {
-                io::write_all(STDERR, b"the call was made, and its line is kept\n");
+                system::say("the call was made, and its line is kept");
             }
         }
-        Fate::Answered => {
+        Outcome::Answered(text) => {
             if !print(out, text) {
                 say_unmade();
             }
         }
-        Fate::Late => {
+        Outcome::Late(line, text) => {
             print(out, text);
-            say_late(t.line);
+            system::say(format_args!(
+                "the journal ends at its line {line}: the call was not made; mend that line first"
+            ));
         }
-        Fate::Failed => say_unmade(),
-        Fate::Unsure => {
-            io::write_all(
-                STDERR,
-                b"the journal could not be cut back: look at its last line\n",
-            );
+        Outcome::Failed => say_unmade(),
+        Outcome::Unsure => {
+            system::say("the journal could not be cut back: look at its last line");
         }
     }
 }
@@ -264,115 +210,58 @@ fn say_locked(
     process: Process,
     name: &[u8],
     line: &[u8],
-    lent: Lent,
-    a: &[u8],
-    b: &[u8],
+    source: Source<'_>,
 ) {
     let mut lock = [0u8; NAME];
-    let n = beside(name, b".lock", &mut lock);
+    let lock = beside(name, b".lock", &mut lock);
     let mut own = [0u8; LINE];
-    let m = signature(rt, process, &mut own);
-    if !is_own(rt, name) || !take(rt, &lock[..n], &own[..m]) {
+    let own = signature(rt, process, &mut own);
+    if !is_own(rt, name) || !take(rt, lock, own) {
         say_unmade();
         return;
     }
     let mut text = [0u8; SPOKEN];
-    let t = say_open(rt, name, line, lent, a, b, &mut text);
-    give_back(rt, &lock[..n], &own[..m]);
-    let size = t.size;
-    tell(rt, name, t, &text[..size]);
-}
-
-fn is_blank(line: &[u8]) -> bool {
-    let l = line_in(line);
-    match l {
-        Line::Blank => true,
-        Line::Open(_) => false,
-        Line::Call(_) => false,
-        Line::Wrong(_) => false,
-    }
+    let told = say_open(rt, name, line, source, &mut text);
+    give_back(rt, lock, own);
+    tell(rt, name, told);
 }
 
 fn say_from(
     rt: &(impl Files + Env + Clock + Print),
     process: Process,
-    f: Loaded,
-    whole: &[u8],
     line: &[u8],
-)
-    requires { (f.first ≤ f.all) × (f.all ≤ length whole.now) }
-{
-    let first = f.first;
-    let all = f.all;
-    let lent = f.lent;
+    source: Source<'_>,
+) {
     let mut name = [0u8; NAME];
-    let n = argument(rt, 2, &mut name);
-    if n == 0 {
-        say_unmade();
-        return;
+    match argument(rt, 2, &mut name) {
+        // Standard input is no journal that four desks share.
+        Some(name) if is_dash(name) => usage(),
+        Some(name) => say_locked(rt, process, name, line, source),
+        None => say_unmade(),
     }
-    say_named(
-        rt,
-        process,
-        &name[..n],
-        line,
-        lent,
-        &whole[..first],
-        &whole[first..all],
-    );
-}
-
-// Standard input is no journal that four desks share.
-fn say_named(
-    rt: &(impl Files + Clock + Print),
-    process: Process,
-    name: &[u8],
-    line: &[u8],
-    lent: Lent,
-    a: &[u8],
-    b: &[u8],
-) {
-    if is_dash(name) {
-        usage();
-        return;
-    }
-    say_locked(rt, process, name, line, lent, a, b);
-}
-
-fn say_with(
-    rt: &(impl Files + Env + Clock + Print),
-    process: Process,
-    pair: bool,
-    line: &[u8],
-    files: &mut [u8; YEAR_MOST],
-) {
-    let f = load(rt, pair, files);
-    if !f.good {
-        say_unmade();
-        return;
-    }
-    say_from(rt, process, f, files, line);
 }
 
 fn say_line(rt: &(impl Files + Env + Clock + Print), process: Process, pair: bool, line: &[u8]) {
     if line.len() == NAME {
-        io::write_all(STDERR, b"the call is too long: it has at most 4095 bytes\n");
+        system::say("the call is too long: it has at most 4095 bytes");
         say_unmade();
         return;
     }
-    if is_blank(line) {
+    if matches!(line_in(line), Line::Blank) {
         usage();
         return;
     }
     let mut files = [0u8; YEAR_MOST];
-    say_with(rt, process, pair, line, &mut files);
+    match load(rt, pair, &mut files) {
+        Some(source) => say_from(rt, process, line, source),
+        None => say_unmade(),
+    }
 }
 
 // Says the call that the last arguments are on the journal of argument 2, over the year file of
 // argument 3, or over the record and the month file of arguments 3 and 4.
 pub fn say(rt: &(impl Files + Env + Clock + Print), process: Process, pair: bool) {
     let mut line = [0u8; NAME];
-    let first = if pair { 5usize } else { 4usize };
-    let n = words_from(rt, first, &mut line);
+    let n = words_from(rt, if pair { 5 } else { 4 }, &mut line);
     say_line(rt, process, pair, &line[..n]);
 }

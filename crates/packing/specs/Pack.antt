@@ -1,7 +1,7 @@
 -- Document 02, request 01: a year file made of its parts, one after the other behind the directory;
 -- and one made in a buffer in which they lie so. Assumes nothing.
 use Rattle.std.specs.Prelude.{ℕ, zero, suc, ◌+◌, cond, List, [], ◌∷◌, ◌++◌, map, leb, ltb, length, take, drop}
-use Rattle.base.specs.declared.refusal.Verdict.{Verdict}
+use Rattle.base.specs.Refusal.{Verdict}
 use Rattle.base.specs.Files.{file_check, daw_check}
 use Rattle.base.specs.Words.{four_bytes}
 use Rattle.base.specs.Year.{directory_size}

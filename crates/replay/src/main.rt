@@ -1,23 +1,18 @@
 // The desks' journal from standard input, over a pair of files or, with the argument `year`, over a
 // year file: the answer to each call on standard output.
+// Its src/ is copied to the crate replay_year, as the gate runs a crate once and refuses links.
 #![tactic(auto)]
 
 use replaying::{over_pair, over_year};
-use std::rt::Env;
-use system::{STDERR, arg_count, is_arg};
-
-// Whether the first argument is `year`.
-fn is_year(env: &impl Env) -> bool {
-    is_arg(env, 1, b"year")
-}
+use system::{arg_count, is_arg, say};
 
 fn main(rt: HostRuntime) {
     let count = arg_count(&rt);
     if count < 2 {
         over_pair();
-    } else if count == 2 && is_year(&rt) {
+    } else if count == 2 && is_arg(&rt, 1, b"year") {
         over_year();
     } else {
-        io::write_all(STDERR, b"usage: replay [year] < INPUT\n");
+        say("usage: replay [year] < INPUT");
     }
 }

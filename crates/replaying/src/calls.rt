@@ -1,4 +1,6 @@
-// The calls of standard input.
+// The calls of standard input, read as they come. The program `journals` reads calls too, of bytes
+// that are there already: one reader for both would take a trait with a contract, which is no
+// plainer.
 ghost use Rattle.std.specs.Prelude.{◌≡◌, ◌≤◌};
 ghost use Rattle.base.specs.Words.{word_at};
 ghost use Rattle.listing.specs.Calls.{operation_in, call_in};
@@ -26,18 +28,14 @@ fn rest_call(operation: u32) -> Next
     ensures { result.size ≤ 28 }
 {
     let mut s = [0u8; 24];
-    let from: usize = 0;
     let n = size_of(operation);
-    let got = io::read_full(STDIN, &mut s[from..n]);
+    let got = io::read_full(STDIN, &mut s[..n]);
     let read = if got < n {
         Read::Bad
     } else {
         from_rest(operation, &s)
     };
-    Next {
-        read: read,
-        size: 4 + n,
-    }
+    Next { read, size: 4 + n }
 }
 
 fn from_rest(operation: u32, s: &[u8; 24]) -> Read
@@ -51,18 +49,15 @@ pub fn next_call(lent: Lent) -> Next
     ensures { result.size ≤ 28 }
 {
     let mut head = [0u8; 4];
-    let got = io::read_full(STDIN, &mut head);
-    if got == 0 {
-        return Next {
+    match io::read_full(STDIN, &mut head) {
+        0 => Next {
             read: Read::End,
             size: 0,
-        };
-    }
-    if got < 4 {
-        return Next {
+        },
+        1..=3 => Next {
             read: Read::Bad,
             size: 0,
-        };
+        },
+        _ => rest_call(operation_of(lent, &head)),
     }
-    rest_call(operation_of(lent, &head))
 }

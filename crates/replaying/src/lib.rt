@@ -12,10 +12,10 @@ ghost use Rattle.worksheet.specs.Calls.{called};
 ghost use Rattle.listing.specs.Turn.{blank};
 
 use base::month_file::{MONTH_FILE, RECORD};
-use base::refusal::Verdict;
+use base::refusal::Refusal;
 use base::words::word;
 use calls::next_call;
-use listing::answer::{ANSWER, stopped_text, verdict_text};
+use listing::answer::{ANSWER, refusal_text, stopped_text};
 use listing::call::{Read, START, YEAR_START};
 use listing::turn::answered;
 use maps::inputs::{FIELD_BYTES, SHEET_BYTES};
@@ -24,6 +24,9 @@ use system::{STDIN, STDOUT};
 use worksheet::desks::{Worksheet, opened, sheet_opened};
 use worksheet::journal::Call;
 use worksheet::showing::Lent;
+
+// More calls than any input has.
+const TURNS: u64 = 0x100_0000_0000;
 
 // Answers a call, and hands on the worksheet that it leaves.
 fn answer(w: Worksheet, call: Call, lent: Lent, a: &[u8], b: &[u8]) -> Worksheet
@@ -43,50 +46,42 @@ fn stop(at: u64) {
     io::write_all(STDOUT, &text[..n]);
 }
 
-// Call by call, of which the first starts at `start`: the worksheet is always the one that the calls
-// read so far leave (the contract says: that some calls leave). Nothing says that the input ends, so
-// the turns are counted down from a number that no run uses up.
+// Call by call, of which the first starts at `start`: the worksheet is always the one that the
+// calls read so far leave (the contract says: that some calls leave). Nothing says that the input
+// ends, so the turns are counted.
 fn answer_all(w: Worksheet, lent: Lent, a: &[u8], b: &[u8], start: u32) -> Worksheet
     ensures { (cs : List Called) × (result ≡ (run (lent_as lent a.now b.now) cs w).sheet) }
 {
     let mut w = w;
     let mut at = start as u64;
-    let mut turns: u64 = 0x100_0000_0000;
-    while turns > 0 {
-        turns -= 1;
+    for _turn in 0..TURNS {
         let next = next_call(lent);
-        let read = next.read;
-        match read {
-            Read::Call(call) => {
-                w = answer(w, call, lent, a, b);
-            }
+        match next.read {
+            Read::Call(call) => w = answer(w, call, lent, a, b),
             Read::Bad => {
                 stop(at);
                 return w;
             }
-            Read::End => {
-                return w;
-            }
+            Read::End => return w,
         }
         at += next.size as u64;
     }
     w
 }
 
-fn refuse(verdict: Verdict) {
+fn refuse(why: Refusal) {
     let mut text = [0u8; ANSWER];
-    let n = verdict_text(verdict, &mut text);
+    let n = refusal_text(why, &mut text);
     io::write_all(STDOUT, &text[..n]);
 }
 
 fn replay_pair(words: &[u8], f2: &[u8], file: &[u8]) {
     let o = sheet_opened(words);
-    let verdict = o.answer;
-    match verdict {
-        Verdict::Accepted => {
+    match o.answer {
+        Ok(()) => {
             answer_all(o.sheet, Lent::Pair, f2, file, START);
         }
-        Verdict::Refused(why) => refuse(Verdict::Refused(why)),
+        Err(why) => refuse(why),
     }
 }
 
@@ -146,9 +141,8 @@ pub fn over_year() {
     let mut words = [0u8; FIELD_BYTES];
     let n = io::read_full(STDIN, &mut words);
     let o = opened(&words[..n]);
-    let verdict = o.answer;
-    match verdict {
-        Verdict::Accepted => replay_year(o.sheet),
-        Verdict::Refused(why) => refuse(Verdict::Refused(why)),
+    match o.answer {
+        Ok(()) => replay_year(o.sheet),
+        Err(why) => refuse(why),
     }
 }

@@ -1,7 +1,6 @@
 -- The statements of specs/AsInTheRust.antt, each from where the work is done. Assumes nothing.
-use mathlib.Core.Path.{refl}
-use lib.Dec.{T}
-use lib.Ieee.{Float, le}
+use Rattle.std.proofs.Common.{refl, T, Float}
+use lib.Ieee.{le}
 use lib.Ieee.Fits.{and_l, and_r}
 use Rattle.base.specs.Ranges.{is_to}
 use Rattle.base.proofs.order.Order.{Between}

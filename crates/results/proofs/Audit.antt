@@ -1,6 +1,6 @@
 -- An auditor's question: each statement of specs/Audit.antt, from where the work is done. Assumes
 -- nothing.
-use lib.ListN.{length}
+use Rattle.std.proofs.Common.{length}
 use Rattle.auditing.specs.Marks.{marks_of}
 use Rattle.auditing.specs.Provenance.{standing}
 use Rattle.results.specs.Audit.{NamedMake, NamedMakeLent, NamedStands, OpenedStands, StandingChanges, OriginByMarks, KeptByMarks, KeptPlacesBelow, FateByMarks, FateStands, FateCancelled, FateTakenBack, FateNever, RefusedLast, RefusedNever}

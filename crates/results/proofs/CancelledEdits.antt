@@ -1,10 +1,6 @@
 -- What cancelled edits leave behind: each statement of specs/CancelledEdits.antt, from where the
 -- work is done. Assumes nothing.
-use mathlib.Core.Bool.{false, true≢false}
-use mathlib.Core.List.{List}
-use mathlib.Core.Path.{◌≡◌, refl}
-use Prim.Native.Nat.{ℕ}
-use Rattle.base.specs.declared.refusal.Verdict.TheVariants.{Accepted, Refused}
+use Rattle.std.proofs.Common.{Err, Ok, false, true≢false, List, ◌≡◌, refl, ℕ}
 use Rattle.worksheet.specs.declared.desks.Worksheet.{Worksheet}
 use Rattle.worksheet.specs.Journal.{Answer, told, shown, accepted, step}
 use Rattle.worksheet.specs.Showing.{pair}
@@ -46,8 +42,8 @@ refused_sheet = Effects.refused_unmoved
 
 -- the words by the answer
 unwritten : (r : Answer) (w : Worksheet) (l : List ℕ) → accepted r ≡ false → words_by r w l ≡ l
-unwritten (told Accepted) w l h = absurd (true≢false h)
-unwritten (told (Refused why)) w l h = refl
+unwritten (told (Ok _)) w l h = absurd (true≢false h)
+unwritten (told (Err why)) w l h = refl
 unwritten (shown s after) w l h = refl
 
 pub refused_words_law : RefusedWords

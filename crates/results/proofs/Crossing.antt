@@ -1,7 +1,6 @@
 -- What crosses to bytes and words: each statement of specs/Crossing.antt, from where the work is
 -- done. Assumes nothing.
-use native.Mathlib.Omega.{arith}
-use lib.Dec.{lit<}
+use Rattle.std.proofs.Common.{arith, lit<}
 use Rattle.maps.proofs.sheet.Codec as Codec
 use Rattle.jutetrowel.proofs.crossing.Returned as Returned
 use Rattle.jutetrowel.proofs.lists.Carried as Carried

@@ -1,6 +1,6 @@
 -- The statements of specs/ElementarySteps.antt, each from where the work is done. Assumes nothing.
-use lib.Dec.{T}
-use lib.Ieee.{Float, le}
+use Rattle.std.proofs.Common.{T, Float}
+use lib.Ieee.{le}
 use lib.Ieee.Fits.{and_i}
 use Rattle.base.specs.Ranges.{is_to}
 use Rattle.base.proofs.order.Order.{Between}

@@ -1,6 +1,6 @@
 -- A sitter's question: each statement of specs/Heard.antt, from where the work is done. Assumes
 -- nothing.
-use mathlib.Core.List.{◌∷◌}
+use Rattle.std.proofs.Common.{◌∷◌}
 use Rattle.worksheet.specs.Journal.{run}
 use Rattle.auditing.specs.Gathered.{waiting, sits, ended, calls_told}
 use Rattle.results.specs.Heard.{said_of, HeardWaiting, HeardSits, HeardEnded, SaidEntries, SilentSame}

@@ -1,7 +1,6 @@
 -- The insurer's question: each statement of specs/Insurer.antt, from where the work is done.
 -- Assumes nothing.
-use mathlib.Core.List.{reverse}
-use mathlib.Core.Path.{refl}
+use Rattle.std.proofs.Common.{reverse, refl}
 use Rattle.worksheet.specs.Showing.{pair}
 use Rattle.results.proofs.force.Insured as Line
 use Rattle.results.proofs.force.Lasting as Lasting

@@ -1,8 +1,5 @@
 -- A year file: each statement of specs/OneYear.antt, from where the work is done. Assumes nothing.
-use mathlib.Core.List.{List}
-use mathlib.Core.Path.{refl}
-use lib.Ieee.{Float}
-use Prim.Native.Nat.{ℕ}
+use Rattle.std.proofs.Common.{List, refl, Float, ℕ}
 use Rattle.maps.specs.declared.inputs.Inputs.{Inputs}
 use Rattle.maps.specs.Figures.{hour_from, hour_of, point_row, figure_row, figures_to, sheet_path, figures_of}
 use Rattle.worksheet.specs.Inputs.{edited}

@@ -1,12 +1,11 @@
 -- What of the files? Which files and index tables are accepted, what each refusal names, where the
 -- tables stand and what is handed back, as statements, each proved in proofs/AcceptedFiles.antt.
 -- Assumes nothing.
-use Rattle.std.specs.Prelude.{◌≡◌, List, [], ◌∷◌, ℕ, ◌+◌, ◌-◌, ◌*◌, ◌/◌, ◌≤◌, ◌<◌, T, length, get_or, take, drop, Float}
+use Rattle.std.specs.Prelude.{◌≡◌, List, [], ◌∷◌, ℕ, ◌+◌, ◌-◌, ◌*◌, ◌/◌, ◌≤◌, ◌<◌, T, length, get_or, take, drop, Float, Err, Ok}
 use Rattle.std.specs.Float.Ieee.Scale.{finite}
 use Rattle.std.specs.Borrow.{Bor}
 use Rattle.base.specs.declared.refusal.Refusal.TheVariants.{Ended, Marker, RecordWord, MonthWord, Index}
-use Rattle.base.specs.declared.refusal.Verdict.{Verdict}
-use Rattle.base.specs.declared.refusal.Verdict.TheVariants.{Accepted, Refused}
+use Rattle.base.specs.Refusal.{Verdict}
 use Rattle.base.specs.Refusal.{verdict_report}
 use Rattle.base.specs.Words.{word_at, float_at}
 use Rattle.base.specs.MonthFile.{record_size, month_file_size, month_record_check, month_part, sizes, month_file_check, WellMarked}
@@ -16,7 +15,6 @@ use Rattle.base.specs.Blend.{IA, IB, IC}
 use Rattle.base.specs.Finite.{record_words_check, table_words_check, FiniteRecord, FiniteMonth}
 use Rattle.base.specs.Files.{file_check, files_check}
 use Rattle.maps.specs.declared.inputs.Inputs.{Inputs}
-use Rattle.maps.specs.declared.figures.Shown.TheVariants.{Points}
 use Rattle.maps.specs.Figures.{sheet_path, figures_of, shown_of, figures_buffer}
 use Rattle.results.specs.LaterBytes.{Alike}
 use Rattle.results.specs.ExhibitedFiles.{good_record, good_month_file, Below}
@@ -27,7 +25,7 @@ use Rattle.results.specs.ExhibitedFiles.{good_record, good_month_file, Below}
 abbrev pub MonthFileGood : Type 0
 MonthFileGood =
     (s : List ℕ) →
-    (month_file_check s ≡ Accepted → WellMarked s) × (WellMarked s → month_file_check s ≡ Accepted)
+    (month_file_check s ≡ Ok tt → WellMarked s) × (WellMarked s → month_file_check s ≡ Ok tt)
 
 -- the bytes of records of these sizes, with their markers
 abbrev pub with_markers : List ℕ → ℕ
@@ -54,8 +52,8 @@ pub record EndsAt (s : List ℕ) (at : ℕ) (ns : List ℕ) (p : ℕ) : Type 0 w
 abbrev pub EndedRefused : Type 0
 EndedRefused =
     (s : List ℕ) (p : ℕ) →
-    (month_file_check s ≡ Refused (Ended p) → EndsAt s 0 sizes p)
-    × (EndsAt s 0 sizes p → month_file_check s ≡ Refused (Ended p))
+    (month_file_check s ≡ Err (Ended p) → EndsAt s 0 sizes p)
+    × (EndsAt s 0 sizes p → month_file_check s ≡ Err (Ended p))
 
 -- of the markers of records of the sizes ns from `at` on, the first wrong one is at p
 pub data FirstWrong (s : List ℕ) : ℕ → List ℕ → ℕ → Type 0 where
@@ -76,13 +74,13 @@ pub record WrongMarker (s : List ℕ) (at : ℕ) (ns : List ℕ) (p : ℕ) : Typ
 abbrev pub MarkerRefused : Type 0
 MarkerRefused =
     (s : List ℕ) (p : ℕ) →
-    (month_file_check s ≡ Refused (Marker p) → WrongMarker s 0 sizes p)
-    × (WrongMarker s 0 sizes p → month_file_check s ≡ Refused (Marker p))
+    (month_file_check s ≡ Err (Marker p) → WrongMarker s 0 sizes p)
+    × (WrongMarker s 0 sizes p → month_file_check s ≡ Err (Marker p))
 
 pub data FileAnswer : Verdict → Type 0 where
-  taken : FileAnswer Accepted
-  ended : (p : ℕ) → FileAnswer (Refused (Ended p))
-  wrong : (p : ℕ) → FileAnswer (Refused (Marker p))
+  taken : FileAnswer (Ok tt)
+  ended : (p : ℕ) → FileAnswer (Err (Ended p))
+  wrong : (p : ℕ) → FileAnswer (Err (Marker p))
 
 -- Accepted, 9 and 10 are all the answers that there are.
 abbrev pub FileAnswers : Type 0
@@ -92,7 +90,7 @@ FileAnswers = (s : List ℕ) → FileAnswer (month_file_check s)
 -- n, where the walk stops.
 abbrev pub CutAnywhere : Type 0
 CutAnywhere =
-    (s : List ℕ) (n : ℕ) → WellMarked s → n < month_file_size → month_file_check (take n s) ≡ Refused (Ended (n / 4 * 4))
+    (s : List ℕ) (n : ℕ) → WellMarked s → n < month_file_size → month_file_check (take n s) ≡ Err (Ended (n / 4 * 4))
 
 -- ---- demand 1: the index check
 
@@ -104,8 +102,8 @@ GoodWords month k = GoodIndex (map_word (index_of month) k) (get_or rows k 0) (g
 abbrev pub IndexGood : Type 0
 IndexGood =
     (month : List ℕ) →
-    (index_check month ≡ Accepted → (k : ℕ) → k < 6 → GoodWords month k)
-    × (((k : ℕ) → k < 6 → GoodWords month k) → index_check month ≡ Accepted)
+    (index_check month ≡ Ok tt → (k : ℕ) → k < 6 → GoodWords month k)
+    × (((k : ℕ) → k < 6 → GoodWords month k) → index_check month ≡ Ok tt)
 
 -- the map `place`, counted from 1, is bad and those before it are good
 pub record LowestBad (month : List ℕ) (place : ℕ) : Type 0 where
@@ -118,8 +116,8 @@ pub record LowestBad (month : List ℕ) (place : ℕ) : Type 0 where
 abbrev pub IndexRefused : Type 0
 IndexRefused =
     (month : List ℕ) (place : ℕ) →
-    (index_check month ≡ Refused (Index place) → LowestBad month place)
-    × (LowestBad month place → index_check month ≡ Refused (Index place))
+    (index_check month ≡ Err (Index place) → LowestBad month place)
+    × (LowestBad month place → index_check month ≡ Err (Index place))
 
 -- `virtim` reads the row j of the map k up to the harmonic h: the last of them, `cof[isubc]` or for
 -- h = 0 `cof[isubb - 1]`, lies in the map's own run of COFION and so in COFION; and `ab[isuba - 1]`
@@ -134,14 +132,14 @@ pub record RowInside (k j h : ℕ) : Type 0 where
 -- reads lies in the map's own run of COFION and what it writes in the map's own part of AB.
 abbrev pub VirtimInside : Type 0
 VirtimInside =
-    (month : List ℕ) → index_check month ≡ Accepted → (k : ℕ) → k < 6 →
+    (month : List ℕ) → index_check month ≡ Ok tt → (k : ℕ) → k < 6 →
     (j h : ℕ) → j ≤ map_word (index_of month) k 8 → h ≤ map_word (index_of month) k 9 → RowInside k j h
 
 -- And every word that the ladder reaches is below 76, up to which `versy` writes its basis of 76
 -- numbers, and so is word 8, up to which it reads it.
 abbrev pub VersyInside : Type 0
 VersyInside =
-    (month : List ℕ) → index_check month ≡ Accepted → (k : ℕ) → k < 6 →
+    (month : List ℕ) → index_check month ≡ Ok tt → (k : ℕ) → k < 6 →
     let w = map_word (index_of month) k in ((j : ℕ) → j ≤ 8 → Reaches w j → w j < 76) × (w 8 < 76)
 
 -- ---- request 10: the words of the tables
@@ -150,13 +148,13 @@ VersyInside =
 abbrev pub RecordWordsGood : Type 0
 RecordWordsGood =
     (f2 : List ℕ) →
-    (record_words_check f2 1 ≡ Accepted → FiniteRecord f2) × (FiniteRecord f2 → record_words_check f2 1 ≡ Accepted)
+    (record_words_check f2 1 ≡ Ok tt → FiniteRecord f2) × (FiniteRecord f2 → record_words_check f2 1 ≡ Ok tt)
 
 -- and that of a month file's words exactly where each word of its tables but `ikim` is.
 abbrev pub MonthWordsGood : Type 0
 MonthWordsGood =
     (month : List ℕ) →
-    (table_words_check month ≡ Accepted → FiniteMonth month) × (FiniteMonth month → table_words_check month ≡ Accepted)
+    (table_words_check month ≡ Ok tt → FiniteMonth month) × (FiniteMonth month → table_words_check month ≡ Ok tt)
 
 -- the first word of the record that is no finite number is at the byte p
 pub record FirstInRecord (f2 : List ℕ) (p : ℕ) : Type 0 where
@@ -169,7 +167,7 @@ pub record FirstInRecord (f2 : List ℕ) (p : ℕ) : Type 0 where
 -- the record is whole, the month file passes its walk, and p is the record's first such byte
 pub record RecordRefused (f2 month : List ℕ) (p : ℕ) : Type 0 where
   pub whole : record_size ≤ length f2
-  pub walked : month_file_check month ≡ Accepted
+  pub walked : month_file_check month ≡ Ok tt
   pub first : FirstInRecord f2 p
 
 -- '23, place the first such word's byte within record or month file, the record first, after 10 and
@@ -178,8 +176,8 @@ pub record RecordRefused (f2 month : List ℕ) (p : ℕ) : Type 0 where
 abbrev pub RecordWordRefused : Type 0
 RecordWordRefused =
     (f2 month : List ℕ) (p : ℕ) →
-    (files_check f2 month ≡ Refused (RecordWord p) → RecordRefused f2 month p)
-    × (RecordRefused f2 month p → files_check f2 month ≡ Refused (RecordWord p))
+    (files_check f2 month ≡ Err (RecordWord p) → RecordRefused f2 month p)
+    × (RecordRefused f2 month p → files_check f2 month ≡ Err (RecordWord p))
 
 -- the first word of the month file's tables, `ikim` left out, that is no finite number is at the byte
 -- p, tables coming in the order of the file
@@ -199,7 +197,7 @@ pub record FirstInMonth (month : List ℕ) (p : ℕ) : Type 0 where
 -- byte
 pub record MonthRefused (f2 month : List ℕ) (p : ℕ) : Type 0 where
   pub whole : record_size ≤ length f2
-  pub walked : month_file_check month ≡ Accepted
+  pub walked : month_file_check month ≡ Ok tt
   pub record_finite : FiniteRecord f2
   pub first : FirstInMonth month p
 
@@ -208,12 +206,12 @@ pub record MonthRefused (f2 month : List ℕ) (p : ℕ) : Type 0 where
 abbrev pub MonthWordRefused : Type 0
 MonthWordRefused =
     (f2 month : List ℕ) (p : ℕ) →
-    (files_check f2 month ≡ Refused (MonthWord p) → MonthRefused f2 month p)
-    × (MonthRefused f2 month p → files_check f2 month ≡ Refused (MonthWord p))
+    (files_check f2 month ≡ Err (MonthWord p) → MonthRefused f2 month p)
+    × (MonthRefused f2 month p → files_check f2 month ≡ Err (MonthWord p))
 
 -- the month file passes its walk, and p is its first such byte
 pub record FileRefused (month : List ℕ) (p : ℕ) : Type 0 where
-  pub walked : month_file_check month ≡ Accepted
+  pub walked : month_file_check month ≡ Ok tt
   pub first : FirstInMonth month p
 
 -- Of a month file by itself 23 is given at p exactly where it passes its walk and the first word of its
@@ -221,14 +219,14 @@ pub record FileRefused (month : List ℕ) (p : ℕ) : Type 0 where
 abbrev pub FileWordRefused : Type 0
 FileWordRefused =
     (month : List ℕ) (p : ℕ) →
-    (file_check month ≡ Refused (MonthWord p) → FileRefused month p)
-    × (FileRefused month p → file_check month ≡ Refused (MonthWord p))
+    (file_check month ≡ Err (MonthWord p) → FileRefused month p)
+    × (FileRefused month p → file_check month ≡ Err (MonthWord p))
 
 -- the record is whole, the month file passes its walk, all words are finite, and the lowest bad map of
 -- the index table is `place`
 pub record IndexLast (f2 month : List ℕ) (place : ℕ) : Type 0 where
   pub whole : record_size ≤ length f2
-  pub walked : month_file_check month ≡ Accepted
+  pub walked : month_file_check month ≡ Ok tt
   pub record_finite : FiniteRecord f2
   pub month_finite : FiniteMonth month
   pub lowest : LowestBad month place
@@ -239,38 +237,38 @@ pub record IndexLast (f2 month : List ℕ) (place : ℕ) : Type 0 where
 abbrev pub IndexRefusedLast : Type 0
 IndexRefusedLast =
     (f2 month : List ℕ) (place : ℕ) →
-    (files_check f2 month ≡ Refused (Index place) → IndexLast f2 month place)
-    × (IndexLast f2 month place → files_check f2 month ≡ Refused (Index place))
+    (files_check f2 month ≡ Err (Index place) → IndexLast f2 month place)
+    × (IndexLast f2 month place → files_check f2 month ≡ Err (Index place))
 
 -- the record is whole, the month file passes its walk, all words are finite and the index table is
 -- good
 pub record GoodFiles (f2 month : List ℕ) : Type 0 where
   pub whole : record_size ≤ length f2
-  pub walked : month_file_check month ≡ Accepted
+  pub walked : month_file_check month ≡ Ok tt
   pub record_finite : FiniteRecord f2
   pub month_finite : FiniteMonth month
-  pub index : index_check month ≡ Accepted
+  pub index : index_check month ≡ Ok tt
 
 -- Both files are accepted exactly where the record is whole, the month file passes its walk, each word
 -- of the record and of the tables but `ikim` is a finite number, and the index table is good.
 abbrev pub FilesGood : Type 0
 FilesGood =
     (f2 month : List ℕ) →
-    (files_check f2 month ≡ Accepted → GoodFiles f2 month) × (GoodFiles f2 month → files_check f2 month ≡ Accepted)
+    (files_check f2 month ≡ Ok tt → GoodFiles f2 month) × (GoodFiles f2 month → files_check f2 month ≡ Ok tt)
 
 -- ---- demand 1: 'refusing always is shut out': files that are accepted
 
 -- A month file that is written out passes the walk.
 abbrev pub MonthFileAccepted : Type 0
-MonthFileAccepted = month_file_check good_month_file ≡ Accepted
+MonthFileAccepted = month_file_check good_month_file ≡ Ok tt
 
 -- And the index check.
 abbrev pub IndexAccepted : Type 0
-IndexAccepted = index_check good_month_file ≡ Accepted
+IndexAccepted = index_check good_month_file ≡ Ok tt
 
 -- With a record beside it both files are accepted.
 abbrev pub FilesAccepted : Type 0
-FilesAccepted = files_check good_record good_month_file ≡ Accepted
+FilesAccepted = files_check good_record good_month_file ≡ Ok tt
 
 -- The month file is made of bytes.
 abbrev pub FileOfBytes : Type 0
@@ -279,7 +277,7 @@ FileOfBytes = Below 256 good_month_file
 -- Over these files `figures`, which judges no field, answers any inputs with the number of their
 -- points.
 abbrev pub SheetShown : Type 0
-SheetShown = (x : Inputs) → shown_of good_record good_month_file x ≡ Points (sheet_path x).count
+SheetShown = (x : Inputs) → shown_of good_record good_month_file x ≡ Ok (sheet_path x).count
 
 -- And writes their figures, whatever the buffer held.
 abbrev pub SheetWritten : Type 0
@@ -307,21 +305,21 @@ PlanesFill = part_of xf2cof ≡ record { from = 0; size = record_size }
 -- The part of an accepted Table has 8 bytes or more, all of them inside the file that holds it.
 abbrev pub TableInside : Type 0
 TableInside =
-    (number : ℕ) (f m : Bor (List ℕ)) → table_check number f.now m.now ≡ Accepted →
+    (number : ℕ) (f m : Bor (List ℕ)) → table_check number f.now m.now ≡ Ok tt →
     let part = table_part number f.now m.now in
     (8 ≤ part.size) × (part.from + part.size ≤ length (table_file number f m).now)
 
 -- The part of an accepted month record has 7,904 bytes, all of them inside the file.
 abbrev pub MonthInside : Type 0
 MonthInside =
-    (s : List ℕ) (m : ℕ) → month_record_check s m ≡ Accepted →
+    (s : List ℕ) (m : ℕ) → month_record_check s m ≡ Ok tt →
     ((month_part s m).size ≡ record_size) × ((month_part s m).from + (month_part s m).size ≤ length s)
 
 -- nothing is refused: the number is at most 20, and both files are good
 pub record TableGood (number : ℕ) (f m : List ℕ) : Type 0 where
   pub known : number ≤ 20
   pub planes : record_size ≤ length f
-  pub walked : month_file_check m ≡ Accepted
+  pub walked : month_file_check m ≡ Ok tt
 
 -- 'it gives 0 and 0 exactly when nothing is refused': of a table the one way.
 abbrev pub ZeroThere : Type 0
@@ -339,7 +337,7 @@ pub record MonthGood (s : List ℕ) (m : ℕ) : Type 0 where
 
 -- The record of a month 1 to 12, to whose end the file reaches, is accepted.
 abbrev pub MonthAccepted : Type 0
-MonthAccepted = (s : List ℕ) (m : ℕ) → MonthGood s m → month_record_check s m ≡ Accepted
+MonthAccepted = (s : List ℕ) (m : ℕ) → MonthGood s m → month_record_check s m ≡ Ok tt
 
 -- 'it gives 0 and 0 exactly when nothing is refused', of a month's record.
 abbrev pub MonthZero : Type 0

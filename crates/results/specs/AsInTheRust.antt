@@ -1,14 +1,16 @@
 -- Are the figures the Rust's? By contract every public function is its definition; what is proved
 -- of these definitions beside that, as statements, each proved in proofs/AsInTheRust.antt. Assumes
 -- nothing.
-use Rattle.std.specs.Prelude.{◌≡◌, ◌⊎◌, Bool, true, false, cond, List, ℕ, suc, ◌+◌, ◌-◌, ◌*◌, ◌^◌, ◌≤◌, ◌<◌, T, length, get_or, set, replicate, Float}
+use Rattle.maps.specs.declared.ionosphere.clocks.HourTimes.{HourTimes}
+use Rattle.base.specs.declared.refusal.Refusal.{Refusal}
+use Rattle.maps.specs.declared.ionosphere.clocks.Shifted.{Shifted}
+use Rattle.std.specs.Prelude.{◌≡◌, ◌⊎◌, Bool, true, false, cond, List, ℕ, suc, ◌+◌, ◌-◌, ◌*◌, ◌^◌, ◌≤◌, ◌<◌, T, length, get_or, set, replicate, Float, Err, Ok, Result}
 use Rattle.std.specs.Float.{nan, binary32}
 use Rattle.std.specs.Float.Ieee.{neg, lt, le, eq}
 use Rattle.std.specs.Borrow.{Bor}
 use Rattle.base.specs.declared.angle.Degrees.{Degrees}
 use Rattle.base.specs.declared.angle.Radians.{Radians}
 use Rattle.base.specs.declared.refusal.Refusal.TheVariants.{Ended, Marker}
-use Rattle.base.specs.declared.refusal.Verdict.TheVariants.{Accepted, Refused}
 use Rattle.base.specs.Single.{◌⊕◌, ◌⊖◌, ◌⊗◌, ◌⊘◌, decimal, minus_decimal}
 use Rattle.base.specs.Double.{fraction}
 use Rattle.base.specs.Constants.{PI, PI2}
@@ -24,17 +26,10 @@ use Rattle.base.specs.Blend.{IA, IB, IC, blend_of, height_weights, cofion_of, hm
 use Rattle.maps.specs.declared.inputs.Inputs.{Inputs}
 use Rattle.maps.specs.declared.inputs.MagneticPole.{MagneticPole}
 use Rattle.maps.specs.declared.geometry.ControlPoint.{ControlPoint}
-use Rattle.maps.specs.declared.figures.Shown.TheVariants.{Points}
 use Rattle.maps.specs.declared.magnetic.Place.{Place}
 use Rattle.maps.specs.declared.magnetic.Field.{Field}
 use Rattle.maps.specs.declared.ionosphere.versy.Gammas.{Gammas}
 use Rattle.maps.specs.declared.ionosphere.clocks.Direction.{Direction}
-use Rattle.maps.specs.declared.ionosphere.clocks.Moved.{Moved}
-use Rattle.maps.specs.declared.ionosphere.clocks.Moved.TheVariants.{To, Refused as NotMoved}
-use Rattle.maps.specs.declared.ionosphere.clocks.Times.{Times}
-use Rattle.maps.specs.declared.ionosphere.clocks.Times.TheVariants.{Hours, Refused as NoTimes}
-use Rattle.maps.specs.declared.ionosphere.clocks.LocalTime.{LocalTime}
-use Rattle.maps.specs.declared.ionosphere.clocks.LocalTime.TheVariants.{At, Refused as NoLocalTime}
 use Rattle.maps.specs.Loop.{loop}
 use Rattle.maps.specs.Virtim.{GoodTable, StartsRule, hour_wave, daily_of, coefficient_in, virtim_of}
 use Rattle.maps.specs.Versy.{harmonic_of, geographic_of, filled_of, top_of, versy_of, gammas_of}
@@ -62,7 +57,7 @@ omega_from f2 month ssn gmt clg gob k x =
 -- (crates/maps/specs/Series.antt) over the blended entries of its table.
 abbrev pub Report340 : Type 0
 Report340 =
-    (f2 month : List ℕ) (ssn gmt x clg gob : Float) → index_check month ≡ Accepted → (k : ℕ) → k < 6 →
+    (f2 month : List ℕ) (ssn gmt x clg gob : Float) → index_check month ≡ Ok tt → (k : ℕ) → k < 6 →
     versy_of (hour_maps_of f2 month ssn gmt) (index_of month) (k + 1) x clg gob ≡ omega_from f2 month ssn gmt clg gob k x
 
 -- the six at a place, from each at an angle: the first five at the dip, the sixth, the E map, at
@@ -81,7 +76,7 @@ at_dip_and_latitude omega dip lat =
 -- So all six at a place.
 abbrev pub SixSeries : Type 0
 SixSeries =
-    (f2 month : List ℕ) (ssn gmt dip lat clg gob : Float) → index_check month ≡ Accepted →
+    (f2 month : List ℕ) (ssn gmt dip lat clg gob : Float) → index_check month ≡ Ok tt →
     let omega = omega_from f2 month ssn gmt clg gob in
     gammas_of (hour_maps_of f2 month ssn gmt) (index_of month) dip lat clg gob
     ≡
@@ -91,7 +86,7 @@ SixSeries =
 -- longitude and the cosine of its latitude.
 abbrev pub PointSeries : Type 0
 PointSeries =
-    (f2 file : List ℕ) (i : Inputs) → index_check file ≡ Accepted → (pt : ControlPoint) →
+    (f2 file : List ℕ) (i : Inputs) → index_check file ≡ Ok tt → (pt : ControlPoint) →
     let h = hour_of f2 file i in
     let mag = magvar_of pt.lat pt.lon in
     let omega = omega_from f2 file i.ssn i.gmt (east_of pt.lon).0 (cos32_of pt.lat.0) in
@@ -109,7 +104,7 @@ PointSeries =
 -- times the Es factor.
 abbrev pub FigureSeries : Type 0
 FigureSeries =
-    (f2 file : List ℕ) (i : Inputs) → index_check file ≡ Accepted → (p : ℕ) → 1 ≤ p → p ≤ (sheet_path i).count →
+    (f2 file : List ℕ) (i : Inputs) → index_check file ≡ Ok tt → (p : ℕ) → 1 ≤ p → p ≤ (sheet_path i).count →
     let figure : ℕ → Float = λ k. get_or (figures_of f2 file i) (6 + 29 * (p - 1) + k) nan in
     let pt = get_or (sheet_path i).points (p - 1) nowhere in
     let omega = omega_from f2 file i.ssn i.gmt (east_of pt.lon).0 (cos32_of pt.lat.0) in
@@ -249,7 +244,7 @@ EntriesApart =
 abbrev pub TableEntry : Type 0
 TableEntry =
     (number i j k : ℕ) → HasEntry number i j k →
-    (f m x : Bor (List ℕ)) → table_check number f.now m.now ≡ Accepted →
+    (f m x : Bor (List ℕ)) → table_check number f.now m.now ≡ Ok tt →
     IsPart (table_part number f.now m.now) (table_file number f m) x →
     word_at x.now (4 * entry_word number i j k) ≡ word_at (holding number f.now m.now) (entry_place number i j k)
 
@@ -428,7 +423,7 @@ PointClock =
 -- whatever the files: number 20 of each point that is there.
 abbrev pub ShownClock : Type 0
 ShownClock =
-    (source : Source) (n : ℕ) (lent : List Float) (w : Worksheet) (count : ℕ) → show_of source n lent w ≡ Points count →
+    (source : Source) (n : ℕ) (lent : List Float) (w : Worksheet) (count : ℕ) → show_of source n lent w ≡ Ok count →
     (p : ℕ) → 1 ≤ p → p ≤ count → OnClock (get_or (show_buffer source n lent w) (6 + 29 * (p - 1) + 20) nan)
 
 -- the time before the correction: the hour, and the longitude in hours
@@ -493,17 +488,17 @@ ExactZero =
     (time : Float) (x : Degrees) (isw : Direction) → eq x.0 (decimal 0 1) ≡ false →
     T (eq (after_shift time (theta_of x) isw) (decimal 0 1)) → (cngtim_of time x isw).day ≡ minus_decimal 10 1
 
-abbrev pub MovedInDay : Moved → Type 0
-MovedInDay (To s) = InDay s.time × DayChange s.day
-MovedInDay (NotMoved why) = Unit
+abbrev pub MovedInDay : Result Shifted Refusal → Type 0
+MovedInDay (Ok s) = InDay s.time × DayChange s.day
+MovedInDay (Err why) = Unit
 
-abbrev pub TimesInDay : Times → Type 0
-TimesInDay (Hours t) = InDay t.gmt × InDay t.lmt_tx × InDay t.gmtr
-TimesInDay (NoTimes why) = Unit
+abbrev pub TimesInDay : Result HourTimes Refusal → Type 0
+TimesInDay (Ok t) = InDay t.gmt × InDay t.lmt_tx × InDay t.gmtr
+TimesInDay (Err why) = Unit
 
-abbrev pub LocalInDay : LocalTime → Type 0
-LocalInDay (At t) = InDay t
-LocalInDay (NoLocalTime why) = Unit
+abbrev pub LocalInDay : Result Float Refusal → Type 0
+LocalInDay (Ok t) = InDay t
+LocalInDay (Err why) = Unit
 
 -- Whatever is asked of `cngtim`: an answer that is no refusal is a time from 0 to 24 with the day
 -- change -1, 0 or 1.
@@ -526,11 +521,11 @@ Known = AllHold known_points
 
 -- (b) of every file of 38,551 bytes whose first 17 markers are right: 9 at 38,548.
 abbrev pub CutShort : Type 0
-CutShort = (s : List ℕ) → MarkedToLast s → length s ≡ 38551 → month_file_check s ≡ Refused (Ended 38548)
+CutShort = (s : List ℕ) → MarkedToLast s → length s ≡ 38551 → month_file_check s ≡ Err (Ended 38548)
 
 -- (c) of every file that is long enough and whose first 17 markers are right and the last one
 -- wrong: 10 at 38,548.
 abbrev pub LastWrong : Type 0
 LastWrong =
     (s : List ℕ) → MarkedToLast s → month_file_size ≤ length s → (word_at s 38548 ≡ 1584 → ⊥) →
-    month_file_check s ≡ Refused (Marker 38548)
+    month_file_check s ≡ Err (Marker 38548)

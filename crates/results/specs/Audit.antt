@@ -1,9 +1,8 @@
 -- An auditor's question: which call set each part of the inputs in force, and what became of each
 -- draft? The words of the answer stand in crates/auditing/specs/Provenance.antt, over a run's
 -- entries, and in Marks.antt, by marks and places, as a program computes them. Assumes nothing.
-use Rattle.std.specs.Prelude.{ℕ, zero, suc, ◌+◌, ◌≤◌, ◌<◌, Bool, true, false, not, ◌&&◌, ◌↔◌, ◌≡◌, eqb, length}
-use mathlib.Core.List.{List, [], ◌∷◌, ◌++◌, reverse, Memᴰ}
-use Rattle.base.specs.declared.refusal.Verdict.TheVariants.{Accepted}
+use Rattle.std.specs.Prelude.{ℕ, zero, suc, ◌+◌, ◌≤◌, ◌<◌, Bool, true, false, not, ◌&&◌, ◌↔◌, ◌≡◌, eqb, length, None, Ok, Some, List, [], ◌∷◌, ◌++◌, reverse}
+use mathlib.Core.List.{Memᴰ}
 use Rattle.maps.specs.declared.inputs.Inputs.{Inputs}
 use Rattle.worksheet.specs.declared.desks.Worksheet.{Worksheet}
 use Rattle.worksheet.specs.Desks.{open_of}
@@ -11,7 +10,6 @@ use Rattle.worksheet.specs.Showing.{Source}
 use Rattle.worksheet.specs.Journal.{Call, commit, cancel, take_back, Role, beginning, ending, settling, belonging, returning, showing, Entry, role_in, good, run, begins, shorter, none}
 use Rattle.worksheet.specs.InForce.{changed, changes_by, AcceptedCommit, commits_in_force, in_force, start_left, NeverCancelled}
 use Rattle.auditing.specs.declared.marks.Fate.TheVariants.{Stands, TakenBack, Cancelled, Never}
-use Rattle.auditing.specs.declared.marks.Refused.TheVariants as refused
 use Rattle.auditing.specs.Provenance.{edit_part, StandingChange, standing, last_standing, origin_of, edits_named, named_changes, fate_of, ends_draft, is_refusing, refused_of}
 use Rattle.auditing.specs.Marks.{marks_of, origin_before, fate_from, kept_places}
 use Rattle.results.specs.ExhibitedFiles.{Below}
@@ -150,7 +148,7 @@ pub record NoneRefused (n : ℕ) (later : List Entry) : Type 0 where
 -- the changes named, one at most for each part (`NamedStands`), and no others
 abbrev pub NamedMake : Type 0
 NamedMake =
-    (source : Source) (opened : Inputs) → (open_of opened).answer ≡ Accepted → (cs : List Call) →
+    (source : Source) (opened : Inputs) → (open_of opened).answer ≡ Ok tt → (cs : List Call) →
     let w = (open_of opened).sheet in
     let entries = (run source cs w).entries in
     in_force w entries ≡ changed opened (named_changes w entries)
@@ -247,10 +245,10 @@ FateNever = (n at : ℕ) (later : List Entry) → (fate_of n at later ≡ Never)
 abbrev pub RefusedLast : Type 0
 RefusedLast =
     (n at p : ℕ) (later : List Entry) →
-    (refused_of n refused.Never at later ≡ refused.At p) ↔ RefusedAt n at p later
+    (refused_of n None at later ≡ Some p) ↔ RefusedAt n at p later
 
 -- It is said to have none exactly where no refused commit of the desk is among those
 abbrev pub RefusedNever : Type 0
 RefusedNever =
     (n at : ℕ) (later : List Entry) →
-    (refused_of n refused.Never at later ≡ refused.Never) ↔ NoneRefused n later
+    (refused_of n None at later ≡ None) ↔ NoneRefused n later

@@ -5,11 +5,9 @@
 -- contract every text whose first lines told an open and calls is an `Audited` one where the buffers have
 -- room. That `desk` reads the files, and prints what is spoken of here, is run and not proved
 -- (docs/STORY.md). Assumes nothing.
-use Rattle.std.specs.Prelude.{ℕ, suc, ◌≤◌, min, true, false, cond, List, [], ◌∷◌, ◌++◌, ◌↔◌, ◌≡◌, length, take, Float}
+use Rattle.std.specs.Prelude.{ℕ, suc, ◌≤◌, min, true, false, cond, List, [], ◌∷◌, ◌++◌, ◌↔◌, ◌≡◌, length, take, Float, Err, None, Ok}
 use Rattle.base.specs.declared.refusal.Refusal.{Refusal}
-use Rattle.base.specs.declared.refusal.Verdict.TheVariants.{Accepted, Refused as NotPassed}
 use Rattle.base.specs.Files.{files_check}
-use Rattle.maps.specs.declared.figures.Shown.TheVariants.{Points, Refused as NotShown}
 use Rattle.maps.specs.declared.inputs.Inputs.{Inputs}
 use Rattle.worksheet.specs.declared.desks.Worksheet.{Worksheet}
 use Rattle.worksheet.specs.Inputs.{edited}
@@ -34,7 +32,6 @@ use Rattle.sitting.specs.Sitting.{first_sitting}
 use Rattle.auditing.specs.declared.accounts.Showing.TheVariants.{Shown, Refused}
 use Rattle.auditing.specs.declared.gathering.Gathered.{Gathered}
 use Rattle.auditing.specs.declared.marks.Fate.TheVariants.{Stands}
-use Rattle.auditing.specs.declared.marks.Refused.TheVariants.{Never}
 use Rattle.auditing.specs.Provenance.{StandingChange, last_standing, fate_of, refused_of}
 use Rattle.auditing.specs.Marks.{kept_places}
 use Rattle.auditing.specs.Gathered.{Numbered, sits, told_by, call_told, calls_told, numbers_told, sheet_opened, run_told, Gathers}
@@ -120,7 +117,7 @@ pub record RefusedShowing (a : Audited) (line : ℕ) : Type 0 where
   pub answered :
       entries_in a
       ≡ (run_told a.source a.opening before).entries
-      ++ (record { call = show 0 blank; answer = shown (NotShown why) buffer } ∷ [])
+      ++ (record { call = show 0 blank; answer = shown (Err why) buffer } ∷ [])
 
 -- ---- of which lines there is a page
 
@@ -177,7 +174,7 @@ PageDrafts =
     begins n b ≡ true →
     let p = length front in
     draft_account a.marks a.numbers a.kept.count p
-    ≡ fate_line (lines_in a) n (number_at (lines_in a) p) (balked_by (lines_in a) (refused_of n Never (suc p) later))
+    ≡ fate_line (lines_in a) n (number_at (lines_in a) p) (balked_by (lines_in a) (refused_of n None (suc p) later))
     (fate_of n (suc p) later)
 
 -- and no other call has a line
@@ -234,7 +231,7 @@ PageSameSheet =
     let n = suc (length (calls_kept a)) in
     (before : List ℕ)
     × ((heard_by a.source first_sitting (shorter_text a) n).text
-    ≡ before ++ spoken_text n (in_force (opened_sheet a) (entries_in a)) (shown (Points s.points) s.figures))
+    ≡ before ++ spoken_text n (in_force (opened_sheet a) (entries_in a)) (shown (Ok s.points) s.figures))
 
 -- ---- the sheet
 
@@ -283,7 +280,7 @@ pub record TwoLines (files : Source) (room : ℕ) : Type 0 where
 -- the worksheet, stands on line 2, and was not refused
 abbrev pub PageHad : Type 0
 PageHad =
-    (f2 file : List ℕ) → files_check f2 file ≡ Accepted → (room : ℕ) → 1 ≤ room →
+    (f2 file : List ℕ) → files_check f2 file ≡ Ok tt → (room : ℕ) → 1 ≤ room →
     (two : TwoLines (pair f2 file) room) × ShownLast two.audited 2
 
 -- Over every record and month file that do not pass them there is an audited journal of the same two lines,
@@ -291,5 +288,5 @@ PageHad =
 -- refused by what the files are refused by
 abbrev pub PageRefusedHad : Type 0
 PageRefusedHad =
-    (f2 file : List ℕ) (why : Refusal) → files_check f2 file ≡ NotPassed why → (room : ℕ) → 1 ≤ room →
+    (f2 file : List ℕ) (why : Refusal) → files_check f2 file ≡ Err why → (room : ℕ) → 1 ≤ room →
     (two : TwoLines (pair f2 file) room) × ((showing : RefusedShowing two.audited 2) × (showing.why ≡ why))

@@ -3,12 +3,10 @@
 -- library's words (`Demand3Over`) in crates/jutetrowel/specs/Calls.antt. Where the library's calls
 -- are named, the numbers of their changes are values of an f32 (`CallsSingles`), as every number
 -- that crosses is. Assumes nothing.
-use mathlib.Core.List.{List, [], ◌∷◌, ◌++◌, reverse, Memᴰ}
-use Rattle.std.specs.Prelude.{true, false, ◌⊎◌, ◌≡◌, ℕ, Float}
+use mathlib.Core.List.{Memᴰ}
+use Rattle.std.specs.Prelude.{true, false, ◌⊎◌, ◌≡◌, ℕ, Float, Err, Ok, List, [], ◌∷◌, ◌++◌, reverse}
 use Rattle.base.specs.declared.refusal.Refusal.{Refusal}
-use Rattle.base.specs.declared.refusal.Verdict.TheVariants.{Accepted, Refused}
 use Rattle.maps.specs.declared.inputs.Inputs.{Inputs}
-use Rattle.maps.specs.declared.figures.Shown.TheVariants.{Refused as NotShown}
 use Rattle.worksheet.specs.declared.desks.Worksheet.{Worksheet}
 use Rattle.worksheet.specs.Desks.{open_of, opened_of, sheet_opened_of}
 use Rattle.worksheet.specs.Showing.{Source, pair, show_of, show_buffer}
@@ -25,14 +23,14 @@ use Rattle.results.specs.Insurer.{DesksClosed}
 -- call by call as in the full list, and inputs and earlier set end the same
 abbrev pub DemandThree : Type 0
 DemandThree =
-    (f2 file : List ℕ) (i : Inputs) → (open_of i).answer ≡ Accepted → (cs : List Call) →
+    (f2 file : List ℕ) (i : Inputs) → (open_of i).answer ≡ Ok tt → (cs : List Call) →
     Demand3 (pair f2 file) (open_of i).sheet cs
 
 -- The same of the library's calls, each on the words that the one before it left, whatever words
 -- were lent to the open, if the numbers of the changes are values of an f32
 abbrev pub DemandThreeOver : Type 0
 DemandThreeOver =
-    (f2 file s lent : List ℕ) → (opened_of s).answer ≡ Accepted → (cs : List Call) → CallsSingles cs →
+    (f2 file s lent : List ℕ) → (opened_of s).answer ≡ Ok tt → (cs : List Call) → CallsSingles cs →
     Demand3Over (pair f2 file) (words_after (opened_of s) lent) cs
 
 -- The same over any source of files, of every worksheet whose desks are closed, with or without an
@@ -91,7 +89,7 @@ RefusedWords =
 abbrev pub RefusedBuffer : Type 0
 RefusedBuffer =
     (source : Source) (n : ℕ) (lent : List Float) (w : Worksheet) (why : Refusal) →
-    show_of source n lent w ≡ NotShown why → show_buffer source n lent w ≡ lent
+    show_of source n lent w ≡ Err why → show_buffer source n lent w ≡ lent
 
 -- ---- document 01, Open: 'a refused one gives no worksheet'
 
@@ -99,11 +97,11 @@ RefusedBuffer =
 -- the same number and place, whatever is lent; of its other calls nothing is said
 abbrev pub OpenRefused : Type 0
 OpenRefused =
-    (source : Source) (i : Inputs) (lent : List Float) (why : Refusal) → (open_of i).answer ≡ Refused why →
-    show_of source 0 lent (open_of i).sheet ≡ NotShown why
+    (source : Source) (i : Inputs) (lent : List Float) (why : Refusal) → (open_of i).answer ≡ Err why →
+    show_of source 0 lent (open_of i).sheet ≡ Err why
 
 -- The same of the 14 words of a sheet, with the buffer left as it was lent
 abbrev pub SheetRefused : Type 0
 SheetRefused =
-    (source : Source) (s : List ℕ) (lent : List Float) (why : Refusal) → (sheet_opened_of s).answer ≡ Refused why →
-    (step source (show 0 lent) (sheet_opened_of s).sheet).answer ≡ shown (NotShown why) lent
+    (source : Source) (s : List ℕ) (lent : List Float) (why : Refusal) → (sheet_opened_of s).answer ≡ Err why →
+    (step source (show 0 lent) (sheet_opened_of s).sheet).answer ≡ shown (Err why) lent

@@ -2,14 +2,12 @@
 -- Inputs.antt (`field_words`, `inputs_from`), a worksheet as 96 words crates/jutetrowel/specs/
 -- Words.antt (`sheet_words`, `worksheet_of`), a list of the library's calls Calls.antt beside it.
 -- Assumes nothing.
-use Rattle.std.specs.Prelude.{List, not, ◌⊎◌, ◌≡◌, ℕ, ◌^◌, ◌<◌, T, get_or}
+use Rattle.base.specs.declared.refusal.Refusal.{Refusal}
+use Rattle.std.specs.Prelude.{List, not, ◌⊎◌, ◌≡◌, ℕ, ◌^◌, ◌<◌, T, get_or, Ok, Result}
 use Rattle.std.specs.Float.{binary32}
 use Rattle.std.specs.Float.Ieee.{is_nan, of_bits}
-use Rattle.base.specs.declared.refusal.Verdict.{Verdict}
-use Rattle.base.specs.declared.refusal.Verdict.TheVariants.{Accepted}
+use Rattle.base.specs.Refusal.{Verdict}
 use Rattle.maps.specs.declared.inputs.Inputs.{Inputs}
-use Rattle.maps.specs.declared.figures.Shown.{Shown}
-use Rattle.maps.specs.declared.figures.Shown.TheVariants.{Points}
 use Rattle.maps.specs.Inputs.{inputs_from, words_to, field_words, Singles}
 use Rattle.worksheet.specs.declared.desks.Worksheet.{Worksheet}
 use Rattle.worksheet.specs.Showing.{Source}
@@ -46,11 +44,11 @@ WordsBack =
 -- Where a call that answers by number and place alone (`answer_of`) hands back the number 0, nothing
 -- was refused
 abbrev pub AcceptedNumber : Type 0
-AcceptedNumber = (v : Verdict) → (answer_of v).number ≡ 0 → v ≡ Accepted
+AcceptedNumber = (v : Verdict) → (answer_of v).number ≡ 0 → v ≡ Ok tt
 
 -- Where a showing hands back the number 0, it was accepted with the points that it hands back
 abbrev pub ShownNumber : Type 0
-ShownNumber = (x : Shown) → (showing_of x).number ≡ 0 → x ≡ Points (showing_of x).points
+ShownNumber = (x : Result ℕ Refusal) → (showing_of x).number ≡ 0 → x ≡ Ok (showing_of x).points
 
 -- ---- demand 3 of the library's calls rests on this
 

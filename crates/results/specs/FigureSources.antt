@@ -1,16 +1,14 @@
 -- Do the figures come from nothing else? What a sheet's 151 figures are is crates/maps/specs/
 -- Figures.antt (`figures_of`, `head_of`, `point_row`); files that agree in their first bytes are
 -- LaterBytes.antt's `Alike`, paths and ends that agree SamePaths.antt's. Assumes nothing.
-use Rattle.std.specs.Prelude.{List, ◌++◌, Bool, ◌≡◌, ℕ, ◌+◌, ◌*◌, ◌-◌, ◌≤◌, ◌<◌, get_or, take, drop, Float}
+use Rattle.std.specs.Prelude.{List, ◌++◌, Bool, ◌≡◌, ℕ, ◌+◌, ◌*◌, ◌-◌, ◌≤◌, ◌<◌, get_or, take, drop, Float, Err, Ok}
 use Rattle.std.specs.Float.{nan}
 use Rattle.base.specs.declared.angle.Degrees.{Degrees}
 use Rattle.base.specs.declared.refusal.Refusal.{Refusal}
-use Rattle.base.specs.declared.refusal.Verdict.TheVariants.{Accepted, Refused}
 use Rattle.base.specs.Single.{decimal}
 use Rattle.base.specs.Files.{files_check}
 use Rattle.maps.specs.declared.inputs.Inputs.{Inputs}
 use Rattle.maps.specs.declared.inputs.MagneticPole.{MagneticPole}
-use Rattle.maps.specs.declared.figures.Shown.TheVariants.{Refused as NotShown}
 use Rattle.maps.specs.Geometry.{nudged_of, path_of, nowhere}
 use Rattle.maps.specs.Figures.{hour_of, head_of, point_row, figure_row, sheet_path, figures_of, shown_of, figures_buffer}
 use Rattle.results.specs.LaterBytes.{Alike}
@@ -22,13 +20,13 @@ use Rattle.results.specs.SamePaths.{SamePath, SameEnd, SamePole, SameWork}
 -- Where the files pass their checks, the buffer is the figures, whatever it held
 abbrev pub AllOverwritten : Type 0
 AllOverwritten =
-    (f2 file : List ℕ) (i : Inputs) (b : List Float) → files_check f2 file ≡ Accepted →
+    (f2 file : List ℕ) (i : Inputs) (b : List Float) → files_check f2 file ≡ Ok tt →
     figures_buffer f2 file i b ≡ figures_of f2 file i
 
 -- So two buffers that differed before are alike after, over the same files and inputs
 abbrev pub SameFigures : Type 0
 SameFigures =
-    (f2 file : List ℕ) (i : Inputs) (b c : List Float) → files_check f2 file ≡ Accepted →
+    (f2 file : List ℕ) (i : Inputs) (b c : List Float) → files_check f2 file ≡ Ok tt →
     figures_buffer f2 file i b ≡ figures_buffer f2 file i c
 
 -- ---- demand 1: 'A refusal changes neither worksheet nor lent buffer'
@@ -36,13 +34,13 @@ SameFigures =
 -- Where the files are refused, the buffer stays as it was
 abbrev pub NoneWritten : Type 0
 NoneWritten =
-    (f2 file : List ℕ) (i : Inputs) (b : List Float) (why : Refusal) → files_check f2 file ≡ Refused why →
+    (f2 file : List ℕ) (i : Inputs) (b : List Float) (why : Refusal) → files_check f2 file ≡ Err why →
     figures_buffer f2 file i b ≡ b
 
 -- The same by the answer
 abbrev pub RefusedLeft : Type 0
 RefusedLeft =
-    (f2 file : List ℕ) (i : Inputs) (b : List Float) (why : Refusal) → shown_of f2 file i ≡ NotShown why →
+    (f2 file : List ℕ) (i : Inputs) (b : List Float) (why : Refusal) → shown_of f2 file i ≡ Err why →
     figures_buffer f2 file i b ≡ b
 
 -- ---- the insurer's question: from the first 7,904 bytes of the record and the first 38,552 of the

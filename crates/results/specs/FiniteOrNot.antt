@@ -1,12 +1,11 @@
 -- Can a figure be NaN? What is proved of it, over the 151 figures of a sheet, with the conditions
 -- that the answers need. The proofs are in proofs/FiniteOrNot.antt. Assumes nothing.
-use Rattle.std.specs.Prelude.{◌≡◌, ◌⊎◌, Bool, true, false, not, cond, List, ℕ, ◌+◌, ◌-◌, ◌*◌, ◌≤◌, ◌<◌, T, eqb, leb, ℤ, pos, negsuc, get_or, Float}
+use Rattle.std.specs.Prelude.{◌≡◌, ◌⊎◌, Bool, true, false, not, cond, List, ℕ, ◌+◌, ◌-◌, ◌*◌, ◌≤◌, ◌<◌, T, eqb, leb, ℤ, pos, negsuc, get_or, Float, Ok}
 use Rattle.std.specs.Float.{nan, inf, fin, binary32}
 use Rattle.std.specs.Float.Ieee.{of_bits, lt, le, is_nan}
 use Rattle.std.specs.Float.Ieee.Scale.{finite}
 use Rattle.base.specs.declared.angle.Degrees.{Degrees}
 use Rattle.base.specs.declared.angle.Radians.{Radians}
-use Rattle.base.specs.declared.refusal.Verdict.TheVariants.{Accepted}
 use Rattle.base.specs.Single.{◌⊕◌, ◌⊖◌, ◌⊗◌, ◌⊘◌, decimal, minus_decimal}
 use Rattle.base.specs.Double.{fraction}
 use Rattle.base.specs.Number.{abs_of, min_of, sqrt_of}
@@ -33,7 +32,6 @@ use Rattle.maps.specs.Magnetic.{HC, bv_of, bn_of, magfin_of, magvar_of}
 use Rattle.maps.specs.Layers.{sun_of, ssp_of, ssl_of, monthly_of, layers_of, esind_of, ground_of}
 use Rattle.maps.specs.Ionosphere.{gammas_at}
 use Rattle.maps.specs.Figures.{hour_of, numbers_of, point_row, sheet_path, figures_of}
-use Rattle.maps.specs.declared.figures.Shown.TheVariants.{Points}
 use Rattle.worksheet.specs.declared.desks.Worksheet.{Worksheet}
 use Rattle.worksheet.specs.Inputs.{inputs_check}
 use Rattle.worksheet.specs.Showing.{Source, inputs_shown}
@@ -89,7 +87,7 @@ pub record Bounded (f2 file : List ℕ) : Type 0 where
 pub record SoundSheet (f2 file : List ℕ) (i : Inputs) : Type 0 where
   pub route : RouteInRange i
   pub fields : FieldsInRange i
-  pub index : index_check file ≡ Accepted
+  pub index : index_check file ≡ Ok tt
   pub bounded : Bounded f2 file
 
 -- the point p of a sheet, counted from 1, is one of those that its path has
@@ -154,7 +152,7 @@ PointNumbers =
 -- Inputs that the worksheet accepts have every field in range, but for the flag and the model, of
 -- which nothing is said here.
 abbrev pub AcceptedInRange : Type 0
-AcceptedInRange = (i : Inputs) → inputs_check i ≡ Accepted → RouteInRange i × FieldsInRange i × T (is_month i.month)
+AcceptedInRange = (i : Inputs) → inputs_check i ≡ Ok tt → RouteInRange i × FieldsInRange i × T (is_month i.month)
 
 -- ---- demand 2, the path and the field: no NaN and no infinity, whatever the files
 
@@ -230,7 +228,7 @@ EsHeight = (g : Gammas) (psc3 : Float) → (esind_of g psc3).hs ≡ decimal 1100
 pub record SoundFiles (i : Inputs) : Type 0 where
   pub f2 : List ℕ
   pub file : List ℕ
-  pub accepted : files_check f2 file ≡ Accepted
+  pub accepted : files_check f2 file ≡ Ok tt
   pub sound : SoundSheet f2 file i
 
 -- A sheet is sound if every field but month, flag and model is in range, the index table passes, and every
@@ -426,7 +424,7 @@ pub record FiniteFiles (f2 file : List ℕ) : Type 0 where
 abbrev pub ShownFinite : Type 0
 ShownFinite =
     (source : Source) (w : Worksheet) (n : ℕ) (lent figures : List Float) (count : ℕ) →
-    (step source (show n lent) w).answer ≡ shown (Points count) figures →
+    (step source (show n lent) w).answer ≡ shown (Ok count) figures →
     let i = inputs_shown n w in FiniteFiles (source i).f2 (source i).file
 
 -- of what a sheet takes of a month file and does not blend: the land map's 464 numbers and the four of

@@ -2,9 +2,8 @@
 -- The hearing of a line is that of crates/sitting/specs/Sitting.antt, and what the lines told, with
 -- the run, that of crates/auditing/specs/Gathered.antt. `desk` hears lines of fewer than 65,536 bytes
 -- only: a longer one ends its journal, which no definition here says. Assumes nothing.
-use Rattle.std.specs.Prelude.{ℕ, suc, ◌<◌, List, [], ◌∷◌, ◌++◌, ◌≡◌, length, take, get_or}
+use Rattle.std.specs.Prelude.{ℕ, suc, ◌<◌, List, [], ◌∷◌, ◌++◌, ◌≡◌, length, take, get_or, Err, Ok}
 use Rattle.base.specs.declared.refusal.Refusal.{Refusal}
-use Rattle.base.specs.declared.refusal.Verdict.TheVariants.{Accepted, Refused}
 use Rattle.worksheet.specs.declared.desks.Worksheet.{Worksheet}
 use Rattle.worksheet.specs.Desks.{open_of}
 use Rattle.worksheet.specs.Showing.{Source}
@@ -21,7 +20,7 @@ use Rattle.listing.specs.Turn.{blank}
 use Rattle.listing.specs.Spoken.{spoken_verdict, spoken_text, inputs_asked}
 use Rattle.listing.specs.Fault.{fault_text, again_text, unopened_text}
 use Rattle.sitting.specs.declared.Sitting.{Sitting}
-use Rattle.sitting.specs.declared.Stage.TheVariants.{Waiting, Open, Ended}
+use Rattle.sitting.specs.declared.Sitting.TheVariants.{Waiting, Open, Ended}
 use Rattle.sitting.specs.Sitting.{Hearing, hearing}
 use Rattle.auditing.specs.Gathered.{text_lines, Numbered, Told, waiting, sits, ended, told_by, calls_told, sheet_opened, run_told}
 
@@ -41,8 +40,8 @@ pub data EndingText (n : ℕ) : Told → Line → List ℕ → Type 0 where
       EndingText n (sits o at cs) (line.Open p) (again_text n)
   not_open : {c : WrittenCall} → EndingText n waiting (line.Call c) (unopened_text n)
   open_refused :
-      {o : WrittenInputs} {why : Refusal} → (open_of (inputs_written o)).answer ≡ Refused why →
-      EndingText n waiting (line.Open o) (spoken_verdict n (Refused why))
+      {o : WrittenInputs} {why : Refusal} → (open_of (inputs_written o)).answer ≡ Err why →
+      EndingText n waiting (line.Open o) (spoken_verdict n (Err why))
 
 module _ (source : Source) where
   -- lines, of which the first is line n, each heard on the sitting that the one before left; and all
@@ -72,9 +71,8 @@ module _ (source : Source) where
   -- of the open o on line `at` and the calls cs after it: the worksheet is the one that their run
   -- leaves, and what was said is that the open is accepted, and the answers of that run
   pub record HeardRun (o : WrittenInputs) (at : ℕ) (cs : List Numbered) (h : Hearing) : Type 0 where
-    pub stage : h.sitting.stage ≡ Open
-    pub sheet : h.sitting.sheet ≡ (run_told source o cs).sheet
-    pub text : h.text ≡ spoken_verdict at Accepted ++ said_of (sheet_opened o) cs
+    pub sitting : h.sitting ≡ Open (run_told source o cs).sheet
+    pub text : h.text ≡ spoken_verdict at (Ok tt) ++ said_of (sheet_opened o) cs
 
   -- one of the first k lines of a text ended the journal
   pub record EndedAt (s : Sitting) (text : List ℕ) (k : ℕ) : Type 0 where
@@ -92,14 +90,14 @@ module _ (source : Source) where
     pub ending :
         EndingText (suc before) (told_by text before) (line_in (line_after text before)) (line_heard s text before).text
     -- and the sitting has ended
-    pub stage : (heard_by s text k).sitting.stage ≡ Ended
+    pub sitting : (heard_by s text k).sitting ≡ Ended
 
 -- ---- what the first k lines of a text leave, heard from the first on
 
 -- While they told nothing, being blank, the sitting is as it was, and nothing is said
 abbrev pub HeardWaiting : Type 0
 HeardWaiting =
-    (source : Source) (s : Sitting) → s.stage ≡ Waiting → (text : List ℕ) (k : ℕ) → told_by text k ≡ waiting →
+    (source : Source) (s : Sitting) → s ≡ Waiting → (text : List ℕ) (k : ℕ) → told_by text k ≡ waiting →
     let h = heard_by source s text k in
     (h.sitting ≡ s) × (h.text ≡ [])
 
@@ -107,7 +105,7 @@ HeardWaiting =
 -- calls leaves, and what is said is that the open is accepted and the answers of that run
 abbrev pub HeardSits : Type 0
 HeardSits =
-    (source : Source) (s : Sitting) → s.stage ≡ Waiting →
+    (source : Source) (s : Sitting) → s ≡ Waiting →
     (text : List ℕ) (k : ℕ) (o : WrittenInputs) (at : ℕ) (cs : List Numbered) → told_by text k ≡ sits o at cs →
     HeardRun source o at cs (heard_by source s text k)
 
@@ -116,7 +114,7 @@ HeardSits =
 -- it ended the journal, and nothing of the lines after it; and the sitting has ended
 abbrev pub HeardEnded : Type 0
 HeardEnded =
-    (source : Source) (s : Sitting) → s.stage ≡ Waiting → (text : List ℕ) (k : ℕ) → told_by text k ≡ ended →
+    (source : Source) (s : Sitting) → s ≡ Waiting → (text : List ℕ) (k : ℕ) → told_by text k ≡ ended →
     EndedAt source s text k
 
 -- ---- the answers

@@ -3,12 +3,10 @@
 -- `NeverCancelled`, `taken_back`), those over the library's words in
 -- crates/jutetrowel/specs/Calls.antt. Where the library's calls are named, the numbers of their
 -- changes are values of an f32 (`CallsSingles`), as every number that crosses is. Assumes nothing.
-use mathlib.Core.List.{List, [], ◌∷◌, ◌++◌, reverse, Memᴰ}
-use Rattle.std.specs.Prelude.{true, ◌≡◌, ℕ, length, Float}
-use Rattle.base.specs.declared.refusal.Verdict.TheVariants.{Accepted}
+use mathlib.Core.List.{Memᴰ}
+use Rattle.std.specs.Prelude.{true, ◌≡◌, ℕ, length, Float, Ok, List, [], ◌∷◌, ◌++◌, reverse}
 use Rattle.base.specs.Files.{files_check}
 use Rattle.maps.specs.declared.inputs.Inputs.{Inputs}
-use Rattle.maps.specs.declared.figures.Shown.TheVariants.{Points}
 use Rattle.maps.specs.Figures.{sheet_path, figures_of}
 use Rattle.worksheet.specs.declared.inputs.Edit.{Edit}
 use Rattle.worksheet.specs.declared.desks.Draft.TheVariants.{Closed, Fresh}
@@ -28,7 +26,7 @@ use Rattle.results.specs.ExhibitedFiles.{Below}
 -- the entry of an accepted showing of the worksheet: this buffer was lent to it, and it gave this
 -- many points and these figures
 abbrev pub accepted_showing : List Float → ℕ → List Float → Entry
-accepted_showing lent count figures = record { call = show 0 lent; answer = shown (Points count) figures }
+accepted_showing lent count figures = record { call = show 0 lent; answer = shown (Ok count) figures }
 
 -- no desk has a draft
 pub record DesksClosed (w : Worksheet) : Type 0 where
@@ -49,7 +47,7 @@ pub record DesksClosed (w : Worksheet) : Type 0 where
 -- commit for itself `CommitUndisturbed`)
 abbrev pub InsurersSentence : Type 0
 InsurersSentence =
-    (f2 file : List ℕ) (opened : Inputs) → (open_of opened).answer ≡ Accepted →
+    (f2 file : List ℕ) (opened : Inputs) → (open_of opened).answer ≡ Ok tt →
     (cs : List Call) (before later : List Entry) (lent figures : List Float) (count : ℕ) →
     (run (pair f2 file) cs (open_of opened).sheet).entries ≡ before ++ (accepted_showing lent count figures ∷ later) →
     Insured (pair f2 file) opened before count figures
@@ -58,7 +56,7 @@ InsurersSentence =
 -- were lent to the open, if the numbers of the changes are values of an f32
 abbrev pub InsurersSentenceOpened : Type 0
 InsurersSentenceOpened =
-    (f2 file s words : List ℕ) → (opened_of s).answer ≡ Accepted → (cs : List Call) → CallsSingles cs →
+    (f2 file s words : List ℕ) → (opened_of s).answer ≡ Ok tt → (cs : List Call) → CallsSingles cs →
     (before later : List Entry) (lent figures : List Float) (count : ℕ) →
     entries_over (pair f2 file) cs (words_after (opened_of s) words)
     ≡ before ++ (accepted_showing lent count figures ∷ later) →
@@ -69,7 +67,7 @@ InsurersSentenceOpened =
 -- contract); where r's number is 0, the figures and r's points are insured by the list before
 abbrev pub InsurersSentenceHanded : Type 0
 InsurersSentenceHanded =
-    (f2 file s words : List ℕ) → (opened_of s).answer ≡ Accepted → (cs : List Call) → CallsSingles cs →
+    (f2 file s words : List ℕ) → (opened_of s).answer ≡ Ok tt → (cs : List Call) → CallsSingles cs →
     (lent figures : List Float) (r : Showing) →
     let l = words_after (opened_of s) words in
     Shows (step (pair f2 file) (show 0 lent) (worksheet_of (words_over (pair f2 file) cs l))).answer r figures →
@@ -81,39 +79,39 @@ InsurersSentenceHanded =
 -- After every list of calls on a worksheet that opens, its inputs are in range
 abbrev pub StayInRange : Type 0
 StayInRange =
-    (source : Source) (opened : Inputs) → (open_of opened).answer ≡ Accepted → (cs : List Call) →
-    inputs_check (run source cs (open_of opened).sheet).sheet.inputs ≡ Accepted
+    (source : Source) (opened : Inputs) → (open_of opened).answer ≡ Ok tt → (cs : List Call) →
+    inputs_check (run source cs (open_of opened).sheet).sheet.inputs ≡ Ok tt
 
 -- so over every record and month file that pass their checks a showing of the worksheet is accepted
 -- then, in every buffer of 151 numbers: with the number of points and the figures of its inputs
 abbrev pub AlwaysShown : Type 0
 AlwaysShown =
-    (f2 file : List ℕ) → files_check f2 file ≡ Accepted → (opened : Inputs) → (open_of opened).answer ≡ Accepted →
+    (f2 file : List ℕ) → files_check f2 file ≡ Ok tt → (opened : Inputs) → (open_of opened).answer ≡ Ok tt →
     (cs : List Call) (lent : List Float) → length lent ≡ 151 →
     let w = (run (pair f2 file) cs (open_of opened).sheet).sheet in
     (step (pair f2 file) (show 0 lent) w).answer
-    ≡ shown (Points (sheet_path w.inputs).count) (figures_of f2 file w.inputs)
+    ≡ shown (Ok (sheet_path w.inputs).count) (figures_of f2 file w.inputs)
 
 -- The same of the worksheet that was just opened
 abbrev pub FirstShowing : Type 0
 FirstShowing =
-    (f2 file : List ℕ) → files_check f2 file ≡ Accepted → (i : Inputs) → (open_of i).answer ≡ Accepted →
+    (f2 file : List ℕ) → files_check f2 file ≡ Ok tt → (i : Inputs) → (open_of i).answer ≡ Ok tt →
     (lent : List Float) → length lent ≡ 151 →
     (step (pair f2 file) (show 0 lent) (open_of i).sheet).answer
-    ≡ shown (Points (sheet_path i).count) (figures_of f2 file i)
+    ≡ shown (Ok (sheet_path i).count) (figures_of f2 file i)
 
 -- There are 56 bytes, the 14 words of a sheet, that open; a 15th word, the model, then counts as 0
 abbrev pub SomeOpen : Type 0
-SomeOpen = (s : List ℕ) × ((length s ≡ 56) × (Below 256 s × ((opened_of s).answer ≡ Accepted)))
+SomeOpen = (s : List ℕ) × ((length s ≡ 56) × (Below 256 s × ((opened_of s).answer ≡ Ok tt)))
 
 -- There are a record and a month file over which every worksheet that was just opened is shown as
 -- in `FirstShowing`
 abbrev pub ShowingsExist : Type 0
 ShowingsExist =
     (f2 : List ℕ) × ((file : List ℕ) × (
-    (i : Inputs) → (open_of i).answer ≡ Accepted → (lent : List Float) → length lent ≡ 151 →
+    (i : Inputs) → (open_of i).answer ≡ Ok tt → (lent : List Float) → length lent ≡ 151 →
     (step (pair f2 file) (show 0 lent) (open_of i).sheet).answer
-    ≡ shown (Points (sheet_path i).count) (figures_of f2 file i)))
+    ≡ shown (Ok (sheet_path i).count) (figures_of f2 file i)))
 
 -- ---- the same from other starts: a worksheet that may have an earlier set, any source of files
 
@@ -193,7 +191,7 @@ CommitUndisturbed =
 -- all figures of the inputs in force after the entries before it
 abbrev pub InsurersLine : Type 0
 InsurersLine =
-    (f2 file : List ℕ) (opened : Inputs) → (open_of opened).answer ≡ Accepted →
+    (f2 file : List ℕ) (opened : Inputs) → (open_of opened).answer ≡ Ok tt →
     (cs : List Call) (before later : List Entry) (lent figures : List Float) (count : ℕ) →
     (run (pair f2 file) cs (open_of opened).sheet).entries ≡ before ++ (accepted_showing lent count figures ∷ later) →
     FiguresOf (pair f2 file) (in_force (open_of opened).sheet before) count figures
@@ -209,7 +207,7 @@ InsurersLineLent =
 -- The same of the library's calls, from all words that open
 abbrev pub InsurersLineOver : Type 0
 InsurersLineOver =
-    (f2 file s words : List ℕ) → (opened_of s).answer ≡ Accepted → (cs : List Call) → CallsSingles cs →
+    (f2 file s words : List ℕ) → (opened_of s).answer ≡ Ok tt → (cs : List Call) → CallsSingles cs →
     (before later : List Entry) (lent figures : List Float) (count : ℕ) →
     entries_over (pair f2 file) cs (words_after (opened_of s) words)
     ≡ before ++ (accepted_showing lent count figures ∷ later) →
@@ -220,7 +218,7 @@ InsurersLineOver =
 -- After every list of calls on a worksheet that opens, its inputs are those in force
 abbrev pub OpenedInForce : Type 0
 OpenedInForce =
-    (f2 file : List ℕ) (opened : Inputs) → (open_of opened).answer ≡ Accepted → (cs : List Call) →
+    (f2 file : List ℕ) (opened : Inputs) → (open_of opened).answer ≡ Ok tt → (cs : List Call) →
     (run (pair f2 file) cs (open_of opened).sheet).sheet.inputs
     ≡ in_force (open_of opened).sheet (run (pair f2 file) cs (open_of opened).sheet).entries
 
@@ -264,6 +262,6 @@ InForceExactly =
 -- On a worksheet that opens, they are the opened inputs with the changes of those commits
 abbrev pub OpenedExactly : Type 0
 OpenedExactly =
-    (f2 file : List ℕ) (opened : Inputs) → (open_of opened).answer ≡ Accepted → (cs : List Call) →
+    (f2 file : List ℕ) (opened : Inputs) → (open_of opened).answer ≡ Ok tt → (cs : List Call) →
     let entries = (run (pair f2 file) cs (open_of opened).sheet).entries in
     in_force (open_of opened).sheet entries ≡ changed opened (changes_by (commits_left [] entries))

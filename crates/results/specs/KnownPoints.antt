@@ -1,13 +1,12 @@
 -- Document 01, Known points: 'rows of a table that one theorem covers', (a) to (l). Each row says
 -- that two things are the same. Assumes nothing.
-use Rattle.std.specs.Prelude.{◌≡◌, List, [], ◌∷◌}
+use Rattle.std.specs.Prelude.{◌≡◌, List, [], ◌∷◌, Ok}
 use Rattle.base.specs.Refusal.{verdict_report}
 use Rattle.base.specs.Single.{decimal, minus_decimal}
 use Rattle.base.specs.MonthFile.{month_start, month_file_check}
 use Rattle.base.specs.Tables.{start_of, xpmap, abmap}
 use Rattle.base.specs.Blend.{blend_of, f2_weights, e_weights, height_weights}
 use Rattle.maps.specs.declared.ionosphere.clocks.Direction.TheVariants.{ToLocal, ToUniversal}
-use Rattle.maps.specs.declared.ionosphere.clocks.Moved.TheVariants.{To}
 use Rattle.maps.specs.Clocks.{moved_of}
 use Rattle.results.specs.ExhibitedFiles.{cut_file, wrong_file}
 
@@ -44,11 +43,11 @@ known_points =
     ∷ (blend_of (height_weights (decimal 75 0)) (decimal 1 0) (decimal 2 0) is decimal 15 1)
     -- (j) `cngtim` hour 1, 15 degrees, sign -1: time 0, day -1
     ∷ (moved_of (decimal 1 0) (record { 0 = decimal 15 0 }) ToUniversal
-    is To (record { time = decimal 0 1; day = minus_decimal 1 0 }))
+    is Ok (record { time = decimal 0 1; day = minus_decimal 1 0 }))
     -- (k) hour 23, 15, sign 1: 24, day 1
     ∷ (moved_of (decimal 23 0) (record { 0 = decimal 15 0 }) ToLocal
-    is To (record { time = decimal 24 0; day = decimal 1 0 }))
+    is Ok (record { time = decimal 24 0; day = decimal 1 0 }))
     -- (l) hour 0.5, -15, sign 1: 23.5, day -1
     ∷ (moved_of (decimal 5 1) (record { 0 = minus_decimal 15 0 }) ToLocal
-    is To (record { time = decimal 235 1; day = minus_decimal 1 0 }))
+    is Ok (record { time = decimal 235 1; day = minus_decimal 1 0 }))
     ∷ []

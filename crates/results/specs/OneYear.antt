@@ -6,10 +6,9 @@
 -- `yearly`). Pairs and parts are counted from 0 here, but those that a refusal names, which are
 -- counted from 1. Where the library's calls are named, the numbers of their changes are values of an
 -- f32 (`CallsSingles`), as every number that crosses is. Assumes nothing.
-use Rattle.std.specs.Prelude.{List, [], ◌∷◌, ◌++◌, map, ◌⊎◌, ◌≡◌, ℕ, ◌+◌, ◌-◌, ◌*◌, ◌≤◌, ◌<◌, T, leb, length, get_or, take, drop, replicate, Float}
+use Rattle.std.specs.Prelude.{List, [], ◌∷◌, ◌++◌, map, ◌⊎◌, ◌≡◌, ℕ, ◌+◌, ◌-◌, ◌*◌, ◌≤◌, ◌<◌, T, leb, length, get_or, take, drop, replicate, Float, Err, Ok}
 use Rattle.base.specs.declared.refusal.Refusal.TheVariants.{Record, Year}
-use Rattle.base.specs.declared.refusal.Verdict.{Verdict}
-use Rattle.base.specs.declared.refusal.Verdict.TheVariants.{Accepted, Refused}
+use Rattle.base.specs.Refusal.{Verdict}
 use Rattle.base.specs.Refusal.{refuse_unless, ◌then◌}
 use Rattle.base.specs.Ranges.{is_month, is_bit}
 use Rattle.base.specs.Finite.{record_words_check, table_words_check, FiniteRecord}
@@ -19,7 +18,6 @@ use Rattle.base.specs.MonthFile.{record_size, month_start, month_file_check}
 use Rattle.base.specs.Year.{directory_size, offset_at, length_at, end_at, floor_at, year_check, pair_part, part_bytes}
 use Rattle.packing.specs.Pack.{part_check, packed}
 use Rattle.maps.specs.declared.inputs.Inputs.{Inputs}
-use Rattle.maps.specs.declared.figures.Shown.TheVariants.{Points}
 use Rattle.maps.specs.Figures.{sheet_path, figures_of}
 use Rattle.worksheet.specs.declared.inputs.Edit.TheVariants.{Month, Model}
 use Rattle.worksheet.specs.declared.desks.Worksheet.{Worksheet}
@@ -49,7 +47,7 @@ pub record GoodYear (s : List ℕ) : Type 0 where
 
 -- The check accepts exactly the files whose directory keeps the rule.
 abbrev pub YearGood : Type 0
-YearGood = (s : List ℕ) → (year_check s ≡ Accepted → GoodYear s) × (GoodYear s → year_check s ≡ Accepted)
+YearGood = (s : List ℕ) → (year_check s ≡ Ok tt → GoodYear s) × (GoodYear s → year_check s ≡ Ok tt)
 
 -- the pair p, counted from 1, 'is not wholly there or breaks a rule'
 pub data BrokenPair (s : List ℕ) (p : ℕ) : Type 0 where
@@ -68,12 +66,12 @@ pub record LowestBroken (s : List ℕ) (p : ℕ) : Type 0 where
 abbrev pub YearRefused : Type 0
 YearRefused =
     (s : List ℕ) (p : ℕ) →
-    (year_check s ≡ Refused (Year p) → LowestBroken s p)
-    × (LowestBroken s p → year_check s ≡ Refused (Year p))
+    (year_check s ≡ Err (Year p) → LowestBroken s p)
+    × (LowestBroken s p → year_check s ≡ Err (Year p))
 
 pub data YearAnswer : Verdict → Type 0 where
-  taken : YearAnswer Accepted
-  broken : (p : ℕ) → YearAnswer (Refused (Year p))
+  taken : YearAnswer (Ok tt)
+  broken : (p : ℕ) → YearAnswer (Err (Year p))
 
 -- Accepted and 19 are all the answers that there are.
 abbrev pub YearAnswers : Type 0
@@ -84,20 +82,20 @@ YearAnswers = (s : List ℕ) → YearAnswer (year_check s)
 -- Each of the fourteen parts is where its pair says, behind the directory and within the file.
 abbrev pub PartsInside : Type 0
 PartsInside =
-    (s : List ℕ) → year_check s ≡ Accepted → (k : ℕ) → k < 14 →
+    (s : List ℕ) → year_check s ≡ Ok tt → (k : ℕ) → k < 14 →
     (pair_part s k ≡ record { from = offset_at s k; size = length_at s k })
     × (directory_size ≤ offset_at s k) × (end_at s k ≤ length s)
 
 -- No two of them overlap: each ends at or before the start of every later one.
 abbrev pub PartsApart : Type 0
 PartsApart =
-    (s : List ℕ) → year_check s ≡ Accepted → (j k : ℕ) → j < k → k < 14 → end_at s j ≤ offset_at s k
+    (s : List ℕ) → year_check s ≡ Ok tt → (j k : ℕ) → j < k → k < 14 → end_at s j ≤ offset_at s k
 
 -- Any fourteen files, put one after the other behind their directory (`packed`; `seal` makes it up to
 -- 1,048,576 bytes), are an accepted year. From 2^32 - 112 bytes together on its pairs need not be
 -- bytes any more.
 abbrev pub PackedAccepted : Type 0
-PackedAccepted = (parts : List (List ℕ)) → length parts ≡ 14 → year_check (packed parts) ≡ Accepted
+PackedAccepted = (parts : List (List ℕ)) → length parts ≡ 14 → year_check (packed parts) ≡ Ok tt
 
 -- And each is handed back as it was put in.
 abbrev pub PackedParts : Type 0
@@ -165,7 +163,7 @@ pub record OwnParts (s : List ℕ) (i : Inputs) (count : ℕ) (figures : List Fl
   pub directory : GoodYear s
   pub room : i.month * record_size ≤ length (part_at s (12 + i.model))
   pub words : FiniteRecord (record_at s i.month i.model)
-  pub file : file_check (part_at s (i.month - 1)) ≡ Accepted
+  pub file : file_check (part_at s (i.month - 1)) ≡ Ok tt
   pub points : count ≡ (sheet_path i).count
   pub whole : figures ≡ figures_of (record_at s i.month i.model) (part_at s (i.month - 1)) i
 
@@ -174,7 +172,7 @@ pub record OwnParts (s : List ℕ) (i : Inputs) (count : ℕ) (figures : List Fl
 abbrev pub OneMonthOneModel : Type 0
 OneMonthOneModel =
     (s : List ℕ) (w : Worksheet) (n : ℕ) (lent figures : List Float) (count : ℕ) →
-    (step (yearly s) (show n lent) w).answer ≡ shown (Points count) figures →
+    (step (yearly s) (show n lent) w).answer ≡ shown (Ok count) figures →
     OwnParts s (inputs_shown n w) count figures
 
 -- ---- demand 3 and the insurer's question, 'with the year file lent throughout', whatever months
@@ -185,14 +183,14 @@ OneMonthOneModel =
 -- inputs, month and model among them, and earlier set end the same.
 abbrev pub DemandThreeYear : Type 0
 DemandThreeYear =
-    (s : List ℕ) (i : Inputs) → (open_of i).answer ≡ Accepted → (cs : List Call) →
+    (s : List ℕ) (i : Inputs) → (open_of i).answer ≡ Ok tt → (cs : List Call) →
     Demand3 (yearly s) (open_of i).sheet cs
 
 -- The same of the library's calls, whose showings are by `jt_show_year`, each on the words that the
 -- one before it left, from all words that open.
 abbrev pub DemandThreeYearOver : Type 0
 DemandThreeYearOver =
-    (s words lent : List ℕ) → (opened_of words).answer ≡ Accepted → (cs : List Call) → CallsSingles cs →
+    (s words lent : List ℕ) → (opened_of words).answer ≡ Ok tt → (cs : List Call) → CallsSingles cs →
     Demand3Over (yearly s) (words_after (opened_of words) lent) cs
 
 -- a showing is insured, and of one month, one model and their own two parts
@@ -210,7 +208,7 @@ pub record InsuredInYear
 -- model: the month's part of the file, and the month's record in the model's part.
 abbrev pub InsurersSentenceYear : Type 0
 InsurersSentenceYear =
-    (s : List ℕ) (opened : Inputs) → (open_of opened).answer ≡ Accepted →
+    (s : List ℕ) (opened : Inputs) → (open_of opened).answer ≡ Ok tt →
     (cs : List Call) (before later : List Entry) (lent figures : List Float) (count : ℕ) →
     (run (yearly s) cs (open_of opened).sheet).entries ≡ before ++ (accepted_showing lent count figures ∷ later) →
     InsuredInYear s opened before count figures
@@ -219,7 +217,7 @@ InsurersSentenceYear =
 -- one before it left, whatever words were lent to the open.
 abbrev pub InsurersSentenceYearOver : Type 0
 InsurersSentenceYearOver =
-    (s words lent : List ℕ) → (opened_of words).answer ≡ Accepted → (cs : List Call) → CallsSingles cs →
+    (s words lent : List ℕ) → (opened_of words).answer ≡ Ok tt → (cs : List Call) → CallsSingles cs →
     (before later : List Entry) (buffer figures : List Float) (count : ℕ) →
     entries_over (yearly s) cs (words_after (opened_of words) lent)
     ≡ before ++ (accepted_showing buffer count figures ∷ later) →
@@ -230,7 +228,7 @@ InsurersSentenceYearOver =
 -- number is 0, the figures and r's points are so insured.
 abbrev pub InsurersSentenceYearHanded : Type 0
 InsurersSentenceYearHanded =
-    (s words lent : List ℕ) → (opened_of words).answer ≡ Accepted → (cs : List Call) → CallsSingles cs →
+    (s words lent : List ℕ) → (opened_of words).answer ≡ Ok tt → (cs : List Call) → CallsSingles cs →
     (buffer figures : List Float) (r : Showing) →
     let l = words_after (opened_of words) lent in
     Shows (step (yearly s) (show 0 buffer) (worksheet_of (words_over (yearly s) cs l))).answer r figures →
@@ -244,28 +242,28 @@ InsurersSentenceYearHanded =
 -- have then: with the number of points and the figures of these inputs, from their own two parts.
 abbrev pub YearAlwaysShown : Type 0
 YearAlwaysShown =
-    (s : List ℕ) (opened : Inputs) → (open_of opened).answer ≡ Accepted →
+    (s : List ℕ) (opened : Inputs) → (open_of opened).answer ≡ Ok tt →
     (cs : List Call) (lent : List Float) → length lent ≡ 151 →
     let w = (run (yearly s) cs (open_of opened).sheet).sheet in
     let i = w.inputs in
-    year_files_check s i.month i.model ≡ Accepted →
+    year_files_check s i.month i.model ≡ Ok tt →
     (step (yearly s) (show 0 lent) w).answer
     ≡
-    shown (Points (sheet_path i).count)
+    shown (Ok (sheet_path i).count)
     (figures_of (record_at s i.month i.model) (part_at s (i.month - 1)) i)
 
 -- every month and model of the year file can be shown
 abbrev pub AllShown : List ℕ → Type 0
 AllShown s =
-    (month model : ℕ) → T (is_month month) → T (is_bit model) → year_files_check s month model ≡ Accepted
+    (month model : ℕ) → T (is_month month) → T (is_bit model) → year_files_check s month model ≡ Ok tt
 
 -- Of fourteen files, put together, all months and models can be shown exactly where each file passes
 -- the check that the program `year` makes of it (`part_check`).
 abbrev pub PackedShown : Type 0
 PackedShown =
     (parts : List (List ℕ)) → length parts ≡ 14 →
-    (((k : ℕ) → k < 14 → part_check k (get_or parts k []) ≡ Accepted) → AllShown (packed parts))
-    × (AllShown (packed parts) → (k : ℕ) → k < 14 → part_check k (get_or parts k []) ≡ Accepted)
+    (((k : ℕ) → k < 14 → part_check k (get_or parts k []) ≡ Ok tt) → AllShown (packed parts))
+    × (AllShown (packed parts) → (k : ℕ) → k < 14 → part_check k (get_or parts k []) ≡ Ok tt)
 
 -- a year file that is written out: twelve good month files, and two `.daw` files of zeros
 abbrev pub good_year : List ℕ
@@ -289,16 +287,16 @@ to_december lent = begin 1 ∷ change 1 (Month 12) ∷ change 1 (Model 1) ∷ co
 -- opened inputs with month 12 and model 1, from December's part and December's record in URSI's.
 abbrev pub DecemberShown : Type 0
 DecemberShown =
-    (s : List ℕ) → year_files_check s 12 1 ≡ Accepted →
-    (opened : Inputs) → (open_of opened).answer ≡ Accepted → (lent : List Float) → length lent ≡ 151 →
+    (s : List ℕ) → year_files_check s 12 1 ≡ Ok tt →
+    (opened : Inputs) → (open_of opened).answer ≡ Ok tt → (lent : List Float) → length lent ≡ 151 →
     let i = edited (Model 1) (edited (Month 12) opened) in
     map (λ (e : Entry). e.answer) (run (yearly s) (to_december lent) (open_of opened).sheet).entries
     ≡
-    told Accepted
-    ∷ told Accepted
-    ∷ told Accepted
-    ∷ told Accepted
-    ∷ shown (Points (sheet_path i).count) (figures_of (record_at s 12 1) (part_at s 11) i)
+    told (Ok tt)
+    ∷ told (Ok tt)
+    ∷ told (Ok tt)
+    ∷ told (Ok tt)
+    ∷ shown (Ok (sheet_path i).count) (figures_of (record_at s 12 1) (part_at s 11) i)
     ∷ []
 
 -- ---- '`sheet` keeps its 14 words and two files, with model 0'

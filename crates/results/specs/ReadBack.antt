@@ -1,9 +1,8 @@
 -- A clerk's question: is a journal that was read and then written anew still the same journal? The
 -- text is that of crates/listing/specs/Written.antt, and the reading that of
 -- crates/wording/specs/Line.antt. Assumes nothing.
-use Rattle.std.specs.Prelude.{ℕ, suc, ◌^◌, ◌<◌, true, ◌≡◌, length}
-use mathlib.Core.List.{List, [], ◌∷◌, ◌++◌, Memᴰ}
-use Rattle.base.specs.declared.refusal.Verdict.TheVariants.{Accepted}
+use Rattle.std.specs.Prelude.{ℕ, suc, ◌^◌, ◌<◌, true, ◌≡◌, length, Ok, List, [], ◌∷◌, ◌++◌}
+use mathlib.Core.List.{Memᴰ}
 use Rattle.worksheet.specs.Desks.{open_of}
 use Rattle.wording.specs.declared.number.Decimal.{Decimal}
 use Rattle.wording.specs.declared.line.Line.TheVariants.{Open, Call}
@@ -140,6 +139,6 @@ OpenOneLine =
 -- are told as that open on line 1 and those calls from line 2 on
 abbrev pub JournalRewritten : Type 0
 JournalRewritten =
-    (o : WrittenInputs) (cs : List WrittenCall) → GoodInputs o → (open_of (inputs_written o)).answer ≡ Accepted →
+    (o : WrittenInputs) (cs : List WrittenCall) → GoodInputs o → (open_of (inputs_written o)).answer ≡ Ok tt →
     ((c : WrittenCall) → Memᴰ c cs → GoodCall c) →
     told_by (line_text (Open o) ++ call_lines cs) (suc (length cs)) ≡ sits o 1 (numbered_from 2 cs)

@@ -1,9 +1,8 @@
 -- What a line of a journal does: the sitting that it leaves, and what is said of it. Assumes nothing.
-use Rattle.std.specs.Prelude.{ℕ, List, []}
-use Rattle.base.specs.declared.refusal.Verdict.{Verdict}
-use Rattle.base.specs.declared.refusal.Verdict.TheVariants.{Accepted, Refused}
+use Rattle.std.specs.Prelude.{ℕ, List, [], Err, Ok}
+use Rattle.base.specs.Refusal.{Verdict}
 use Rattle.worksheet.specs.declared.desks.Worksheet.{Worksheet}
-use Rattle.worksheet.specs.Desks.{open_of, opened_of}
+use Rattle.worksheet.specs.Desks.{open_of}
 use Rattle.worksheet.specs.Showing.{Source}
 use Rattle.worksheet.specs.Journal.{step}
 use Rattle.worksheet.specs.Calls.{called}
@@ -18,52 +17,44 @@ use Rattle.listing.specs.Turn.{blank}
 use Rattle.listing.specs.Spoken.{spoken_verdict, spoken_text, inputs_asked}
 use Rattle.listing.specs.Fault.{fault_text, again_text, unopened_text}
 use Rattle.sitting.specs.declared.Sitting.{Sitting}
-use Rattle.sitting.specs.declared.Stage.{Stage}
-use Rattle.sitting.specs.declared.Stage.TheVariants as stage
+use Rattle.sitting.specs.declared.Sitting.TheVariants as stage
 
 -- the sitting after a line, and what is said of the line
 pub record Hearing : Type 0 where
   pub sitting : Sitting
   pub text : List ℕ
 
--- before the first line: the worksheet is that of no words at all, and nothing is made on it
+-- before the first line
 unfoldable pub first_sitting : Sitting
-first_sitting = record { stage = stage.Waiting; sheet = (opened_of []).sheet }
+first_sitting = stage.Waiting
 
--- ---- a line that ends the journal: it is no call, or the open is refused
-
-abbrev pub ended_by : Sitting → Sitting
-ended_by s = record { stage = stage.Ended; sheet = s.sheet }
-
-abbrev pub ended_with : Sitting → List ℕ → Hearing
-ended_with s text = record { sitting = ended_by s; text = text }
-
-abbrev pub stage_after : Verdict → Stage
-stage_after Accepted = stage.Open
-stage_after (Refused why) = stage.Ended
+-- a line that ends the journal: it is no call, or the open is refused
+abbrev pub ended_with : List ℕ → Hearing
+ended_with text = record { sitting = stage.Ended; text = text }
 
 -- 'a refused one gives no worksheet'
+abbrev pub sitting_after : Verdict → Worksheet → Sitting
+sitting_after (Ok _) w = stage.Open w
+sitting_after (Err why) w = stage.Ended
+
 abbrev pub opened_by : ℕ → WrittenInputs → Hearing
 opened_by n o =
     let done = open_of (inputs_written o) in
-    record {
-      sitting = record { stage = stage_after done.answer; sheet = done.sheet };
-      text = spoken_verdict n done.answer;
-    }
+    record { sitting = sitting_after done.answer done.sheet; text = spoken_verdict n done.answer }
 
--- ---- by the stage, at line n; once the journal has ended, nothing is said
+-- ---- by the sitting, at line n; once the journal has ended, nothing is said
 
 -- a journal has one open, its first call
-abbrev pub hear_open : ℕ → WrittenInputs → Stage → Sitting → Hearing
-hear_open n o stage.Waiting s = opened_by n o
-hear_open n o stage.Open s = ended_with s (again_text n)
-hear_open n o stage.Ended s = ended_with s []
+abbrev pub hear_open : ℕ → WrittenInputs → Sitting → Hearing
+hear_open n o stage.Waiting = opened_by n o
+hear_open n o (stage.Open w) = ended_with (again_text n)
+hear_open n o stage.Ended = ended_with []
 
 -- a line that is no call
-abbrev pub hear_wrong : ℕ → Fault → Stage → Sitting → Hearing
-hear_wrong n f stage.Waiting s = ended_with s (fault_text n f)
-hear_wrong n f stage.Open s = ended_with s (fault_text n f)
-hear_wrong n f stage.Ended s = ended_with s []
+abbrev pub hear_wrong : ℕ → Fault → Sitting → Hearing
+hear_wrong n f stage.Waiting = ended_with (fault_text n f)
+hear_wrong n f (stage.Open w) = ended_with (fault_text n f)
+hear_wrong n f stage.Ended = ended_with []
 
 module _ (source : Source) where
   -- on the worksheet that is open
@@ -71,20 +62,20 @@ module _ (source : Source) where
   made_by n c w =
       let next = step source (called (call_written c) blank) w in
       record {
-        sitting = record { stage = stage.Open; sheet = next.sheet };
+        sitting = stage.Open next.sheet;
         text = spoken_text n (inputs_asked (call_written c) w) next.answer;
       }
 
-  abbrev pub hear_call : ℕ → WrittenCall → Stage → Sitting → Hearing
-  hear_call n c stage.Waiting s = ended_with s (unopened_text n)
-  hear_call n c stage.Open s = made_by n c s.sheet
-  hear_call n c stage.Ended s = ended_with s []
+  abbrev pub hear_call : ℕ → WrittenCall → Sitting → Hearing
+  hear_call n c stage.Waiting = ended_with (unopened_text n)
+  hear_call n c (stage.Open w) = made_by n c w
+  hear_call n c stage.Ended = ended_with []
 
   abbrev pub hear_line : ℕ → Sitting → Line → Hearing
   hear_line n s Blank = record { sitting = s; text = [] }
-  hear_line n s (Open o) = hear_open n o s.stage s
-  hear_line n s (Call c) = hear_call n c s.stage s
-  hear_line n s (Wrong f) = hear_wrong n f s.stage s
+  hear_line n s (Open o) = hear_open n o s
+  hear_line n s (Call c) = hear_call n c s
+  hear_line n s (Wrong f) = hear_wrong n f s
 
   -- THE HEARING of line n of a journal
   unfoldable pub hearing : ℕ → Sitting → List ℕ → Hearing

@@ -9,32 +9,28 @@ ghost use Rattle.worksheet.specs.Journal.{step};
 ghost use Rattle.worksheet.specs.Calls.{called};
 ghost use Rattle.listing.specs.Turn.{blank};
 ghost use Rattle.wording.specs.Written.{call_written};
-ghost use Rattle.sitting.specs.Sitting.{first_sitting, ended_by, stage_after, opened_by, hear_open, hear_wrong};
+ghost use Rattle.sitting.specs.Sitting.{first_sitting, sitting_after, opened_by, hear_open, hear_wrong};
+ghost use Rattle.sitting.specs.declared.Sitting.TheVariants.{Ended};
 ghost use Rattle.sitting.specs.Sitting.{made_by, hear_call, hearing};
 
-use base::refusal::Verdict;
 use listing::fault::{again_text, fault_text, unopened_text};
 use listing::spoken::{SPOKEN, opened_text, spoken};
 use maps::figures::FIGURES;
 use wording::line::{Fault, Line, line_in};
 use wording::written::{WrittenCall, WrittenInputs, call_written, inputs_written};
-use worksheet::desks::{Worksheet, open, opened};
+use worksheet::desks::{Outcome, Worksheet, open};
 use worksheet::journal::make;
 use worksheet::showing::Lent;
 
+// What the lines so far left.
 #[derive(Clone, Copy)]
-pub enum Stage {
+pub enum Sitting {
     // Nothing is open yet.
     Waiting,
-    Open,
+    // The worksheet that is open.
+    Open(Worksheet),
     // Something was no call, or the open was refused: nothing is heard any more.
     Ended,
-}
-
-#[derive(Clone, Copy)]
-pub struct Sitting {
-    pub stage: Stage,
-    pub sheet: Worksheet,
 }
 
 // The sitting after a line, and how many bytes are said of it.
@@ -44,35 +40,30 @@ pub struct Heard {
     pub size: usize,
 }
 
-// A sitting before its first line. The worksheet in it is none that anything was opened with.
+// A sitting before its first line.
 pub fn waiting() -> Sitting
     ensures { result ≡ first_sitting }
 {
-    let o = opened(b"");
-    let sheet = o.sheet;
-    Sitting {
-        stage: Stage::Waiting,
-        sheet: sheet,
+    Sitting::Waiting
+}
+
+// What an open leaves: a refused one gives no worksheet.
+fn sitting_after(done: Outcome) -> Sitting
+    ensures { result ≡ sitting_after done.answer done.sheet }
+{
+    match done.answer {
+        Ok(()) => Sitting::Open(done.sheet),
+        Err(_) => Sitting::Ended,
     }
 }
 
-fn stage_after(v: Verdict) -> Stage
-    ensures { result ≡ stage_after v }
+// Nothing is heard any more, and this much is said.
+fn ended_with(size: usize) -> Heard
+    ensures { result ≡ record { sitting = Ended; size = size } }
 {
-    match v {
-        Verdict::Accepted => Stage::Open,
-        Verdict::Refused(_) => Stage::Ended,
-    }
-}
-
-// Nothing is heard any more.
-fn ended(s: Sitting) -> Sitting
-    ensures { result ≡ ended_by s }
-{
-    let sheet = s.sheet;
-    Sitting {
-        stage: Stage::Ended,
-        sheet: sheet,
+    Heard {
+        sitting: Sitting::Ended,
+        size,
     }
 }
 
@@ -83,36 +74,22 @@ fn open_first(number: u64, o: WrittenInputs, out: &mut [u8; SPOKEN]) -> Heard
     ensures count { IsPrefixLen result.size out.new }
 {
     let done = open(inputs_written(o));
-    let verdict = done.answer;
-    let sheet = done.sheet;
-    let size = opened_text(verdict, number, out);
-    let stage = stage_after(verdict);
     Heard {
-        sitting: Sitting {
-            stage: stage,
-            sheet: sheet,
-        },
-        size: size,
+        sitting: sitting_after(done),
+        size: opened_text(done.answer, number, out),
     }
 }
 
-// What is said of an open by the stage: a journal has one, its first call.
+// What is said of an open by the sitting: a journal has one, its first call.
 fn hear_open(s: Sitting, number: u64, o: WrittenInputs, out: &mut [u8; SPOKEN]) -> Heard
-    ensures sitting { result.sitting ≡ (hear_open number o s.stage s).sitting }
-    ensures text { take result.size out.new ≡ (hear_open number o s.stage s).text }
+    ensures sitting { result.sitting ≡ (hear_open number o s).sitting }
+    ensures text { take result.size out.new ≡ (hear_open number o s).text }
     ensures count { IsPrefixLen result.size out.new }
 {
-    let stage = s.stage;
-    match stage {
-        Stage::Waiting => open_first(number, o, out),
-        Stage::Open => Heard {
-            sitting: ended(s),
-            size: again_text(number, out),
-        },
-        Stage::Ended => Heard {
-            sitting: ended(s),
-            size: 0,
-        },
+    match s {
+        Sitting::Waiting => open_first(number, o, out),
+        Sitting::Open(_) => ended_with(again_text(number, out)),
+        Sitting::Ended => ended_with(0),
     }
 }
 
@@ -133,17 +110,13 @@ fn call_open(
     ensures count { IsPrefixLen result.size out.new }
 {
     let turn = spoken(w, call_written(c), number, lent, a, b, out);
-    let sheet = turn.sheet;
     Heard {
-        sitting: Sitting {
-            stage: Stage::Open,
-            sheet: sheet,
-        },
+        sitting: Sitting::Open(turn.sheet),
         size: turn.size,
     }
 }
 
-// What is said of a call by the stage: it stands after the open.
+// What is said of a call by the sitting: it stands after the open.
 fn hear_call(
     s: Sitting,
     number: u64,
@@ -154,48 +127,27 @@ fn hear_call(
     out: &mut [u8; SPOKEN],
 ) -> Heard
     ensures sitting { let source = lent_as lent a.now b.now in
-        result.sitting ≡ (hear_call source number c s.stage s).sitting }
+        result.sitting ≡ (hear_call source number c s).sitting }
     ensures text { let source = lent_as lent a.now b.now in
-        take result.size out.new ≡ (hear_call source number c s.stage s).text }
+        take result.size out.new ≡ (hear_call source number c s).text }
     ensures count { IsPrefixLen result.size out.new }
 {
-    let stage = s.stage;
-    match stage {
-        Stage::Waiting => Heard {
-            sitting: ended(s),
-            size: unopened_text(number, out),
-        },
-        Stage::Open => {
-            let w = s.sheet;
-            call_open(w, number, c, lent, a, b, out)
-        }
-        Stage::Ended => Heard {
-            sitting: ended(s),
-            size: 0,
-        },
+    match s {
+        Sitting::Waiting => ended_with(unopened_text(number, out)),
+        Sitting::Open(w) => call_open(w, number, c, lent, a, b, out),
+        Sitting::Ended => ended_with(0),
     }
 }
 
-// What is said of a line that is no call by the stage: nothing, once the journal has ended.
+// What is said of a line that is no call by the sitting: nothing, once the journal has ended.
 fn hear_wrong(s: Sitting, number: u64, f: Fault, out: &mut [u8; SPOKEN]) -> Heard
-    ensures sitting { result.sitting ≡ (hear_wrong number f s.stage s).sitting }
-    ensures text { take result.size out.new ≡ (hear_wrong number f s.stage s).text }
+    ensures sitting { result.sitting ≡ (hear_wrong number f s).sitting }
+    ensures text { take result.size out.new ≡ (hear_wrong number f s).text }
     ensures count { IsPrefixLen result.size out.new }
 {
-    let stage = s.stage;
-    match stage {
-        Stage::Waiting => Heard {
-            sitting: ended(s),
-            size: fault_text(number, f, out),
-        },
-        Stage::Open => Heard {
-            sitting: ended(s),
-            size: fault_text(number, f, out),
-        },
-        Stage::Ended => Heard {
-            sitting: ended(s),
-            size: 0,
-        },
+    match s {
+        Sitting::Waiting | Sitting::Open(_) => ended_with(fault_text(number, f, out)),
+        Sitting::Ended => ended_with(0),
     }
 }
 
@@ -216,8 +168,7 @@ pub fn hear(
         take result.size out.new ≡ (hearing source number s line.now).text }
     ensures count { IsPrefixLen result.size out.new }
 {
-    let read = line_in(line);
-    match read {
+    match line_in(line) {
         Line::Blank => Heard {
             sitting: s,
             size: 0,
@@ -233,45 +184,24 @@ fn sheet_after(w: Worksheet, c: WrittenCall) -> Worksheet
     ensures { (source : Source) → result ≡ (step source (called (call_written c) blank) w).sheet }
 {
     let mut figures = [0.0f32; FIGURES];
-    let next = make(w, call_written(c), Lent::Pair, b"", b"", &mut figures);
-    next.sheet
+    make(w, call_written(c), Lent::Pair, b"", b"", &mut figures).sheet
 }
 
 fn pass_open(s: Sitting, o: WrittenInputs) -> Sitting
-    ensures { (n : ℕ) → result ≡ (hear_open n o s.stage s).sitting }
+    ensures { (n : ℕ) → result ≡ (hear_open n o s).sitting }
 {
-    let stage = s.stage;
-    match stage {
-        Stage::Waiting => {
-            let done = open(inputs_written(o));
-            let verdict = done.answer;
-            let sheet = done.sheet;
-            let stage = stage_after(verdict);
-            Sitting {
-                stage: stage,
-                sheet: sheet,
-            }
-        }
-        Stage::Open => ended(s),
-        Stage::Ended => ended(s),
+    match s {
+        Sitting::Waiting => sitting_after(open(inputs_written(o))),
+        Sitting::Open(_) | Sitting::Ended => Sitting::Ended,
     }
 }
 
 fn pass_call(s: Sitting, c: WrittenCall) -> Sitting
-    ensures { (source : Source) (n : ℕ) → result ≡ (hear_call source n c s.stage s).sitting }
+    ensures { (source : Source) (n : ℕ) → result ≡ (hear_call source n c s).sitting }
 {
-    let stage = s.stage;
-    match stage {
-        Stage::Waiting => ended(s),
-        Stage::Open => {
-            let w = s.sheet;
-            let sheet = sheet_after(w, c);
-            Sitting {
-                stage: Stage::Open,
-                sheet: sheet,
-            }
-        }
-        Stage::Ended => ended(s),
+    match s {
+        Sitting::Open(w) => Sitting::Open(sheet_after(w, c)),
+        Sitting::Waiting | Sitting::Ended => Sitting::Ended,
     }
 }
 
@@ -279,11 +209,10 @@ fn pass_call(s: Sitting, c: WrittenCall) -> Sitting
 pub fn pass(s: Sitting, line: &[u8]) -> Sitting
     ensures { (source : Source) (n : ℕ) → result ≡ (hearing source n s line.now).sitting }
 {
-    let read = line_in(line);
-    match read {
+    match line_in(line) {
         Line::Blank => s,
         Line::Open(o) => pass_open(s, o),
         Line::Call(c) => pass_call(s, c),
-        Line::Wrong(_) => ended(s),
+        Line::Wrong(_) => Sitting::Ended,
     }
 }

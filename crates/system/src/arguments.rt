@@ -11,51 +11,41 @@ const EINVAL: i32 = 22;
 
 const ENAMETOOLONG: i32 = 36;
 
+// Linux gives a program no argument of more bytes.
+const LONGEST: usize = 131072;
+
 // Argument i at the start of buf, and its length. One that is missing is told as an invalid
 // argument; of one that is too long the first bytes are in buf. Argument 0 is the program's name.
 pub fn argument(env: &impl Env, i: usize, buf: &mut [u8]) -> io::Result<usize>
     ensures { ReadsAtMost result buf.new }
 {
-    match env.arg(i, buf) {
-        Ok(n) => Ok(n),
-        Err(FillError::NotPresent) => Err(io::Error::from_raw_os_error(EINVAL)),
-        Err(FillError::TooLong) => Err(io::Error::from_raw_os_error(ENAMETOOLONG)),
-    }
+    env.arg(i, buf).map_err(|error| {
+        io::Error::from_raw_os_error(match error {
+            FillError::NotPresent => EINVAL,
+            FillError::TooLong => ENAMETOOLONG,
+        })
+    })
 }
 
 // The same, with the length 0 where there is no such argument or it is too long.
 pub fn arg(env: &impl Env, i: usize, buf: &mut [u8]) -> usize
     ensures { IsPrefixLen result buf.new }
 {
-    match argument(env, i, buf) {
-        Ok(n) => n,
-        Err(_) => 0,
-    }
+    // 0, and no Option: to the programs one that is missing reads as an empty one.
+    argument(env, i, buf).unwrap_or(0)
 }
 
-// Whether argument i is this word, of at most 16 bytes.
+// Whether argument i is this word.
 pub fn is_arg(env: &impl Env, i: usize, word: &[u8]) -> bool {
-    let mut text = [0u8; 16];
-    match argument(env, i, &mut text) {
-        Ok(n) => &text[..n] == word,
-        Err(_) => false,
-    }
+    let mut text = [0u8; LONGEST];
+    env.arg(i, &mut text).is_ok_and(|n| &text[..n] == word)
 }
 
 fn is_there(env: &impl Env, i: usize) -> bool {
-    match env.arg(i, &mut []) {
-        Ok(_) => true,
-        Err(FillError::TooLong) => true,
-        Err(FillError::NotPresent) => false,
-    }
+    !matches!(env.arg(i, &mut []), Err(FillError::NotPresent))
 }
 
 // How many arguments there are, the program's name among them.
 pub fn arg_count(env: &impl Env) -> usize {
-    for i in 0..usize::MAX {
-        if !is_there(env, i) {
-            return i;
-        }
-    }
-    usize::MAX
+    (0..usize::MAX).take_while(|i| is_there(env, *i)).count()
 }

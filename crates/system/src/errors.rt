@@ -1,10 +1,11 @@
 // What the system says of a failure.
-ghost use Rattle.std.specs.Prelude.{◌≡◌, ◌↔◌, IsTrue};
+ghost use Rattle.std.specs.Prelude.{◌≡◌, ◌↔◌, IsTrue, IfOk, IfSome};
 ghost use Rattle.io.specs.Counts.{IsPrefixLen};
 ghost use Rattle.std.specs.IoError.{error_kind};
 
-use crate::streams::STDERR;
-use std::io::{Cursor, Error, ErrorKind, Write};
+use crate::streams::say_pieces;
+use crate::text::written;
+use std::io::{Error, ErrorKind};
 
 // The most bytes of an error's text.
 const TEXT: usize = 128;
@@ -13,29 +14,13 @@ const TEXT: usize = 128;
 fn bracket_place(text: &[u8]) -> usize
     ensures { IsPrefixLen result text.now }
 {
-    let mut i = text.len();
-    while i > 1 {
-        i -= 1;
-        if text[i - 1] == b' ' && text[i] == b'(' {
-            return i - 1;
-        }
-    }
-    text.len()
-}
-
-// An error as std writes it, at the start of a text: the system's with its number in brackets.
-fn written(error: &Error, text: &mut [u8]) -> usize
-    ensures { IsPrefixLen result text.new }
-{
-    let mut rest = Cursor::new(&mut text[..]);
-    // What does not fit is left out.
-    let _ = write!(rest, "{error}");
-    let n = rest.position() as usize;
-    n.min(text.len())
+    text.windows(2)
+        .rposition(|pair| pair == b" (".as_slice())
+        .unwrap_or(text.len())
 }
 
 // The system's words for an error at the start of buf, and their length; what std itself refuses is
-// told in std's words.
+// told in std's words. Std puts the system's number in brackets behind its words.
 pub fn error_text(error: &Error, buf: &mut [u8]) -> usize
     ensures { IsPrefixLen result buf.new }
 {
@@ -51,10 +36,21 @@ pub fn error_text(error: &Error, buf: &mut [u8]) -> usize
 pub fn fail(what: &[u8], error: &Error) {
     let mut text = [0u8; TEXT];
     let n = error_text(error, &mut text);
-    io::write_all(STDERR, what);
-    io::write_all(STDERR, b": ");
-    io::write_all(STDERR, &text[..n]);
-    io::write_all(STDERR, b"\n");
+    say_pieces(&[what, b": ", &text[..n]]);
+}
+
+// What came of it, unless it failed: then that is said, as `fail` says it.
+pub fn got<T>(what: &[u8], done: Result<T, Error>) -> Option<T>
+    ensures none_made { IfSome result (λ value. done ≡ Ok value) }
+    ensures none_lost { IfOk done (λ value. result ≡ Some value) }
+{
+    match done {
+        Ok(value) => Some(value),
+        Err(error) => {
+            fail(what, &error);
+            None
+        }
+    }
 }
 
 // Whether there is no such file (ENOENT).

@@ -3,7 +3,7 @@
 ghost use Rattle.std.specs.Prelude.{◌≡◌, ◌↔◌, IsOk, IfOk, OnOk, IsUtf8};
 ghost use Rattle.io.specs.Counts.{IsPrefixLen};
 
-use crate::errors::fail;
+use crate::errors::got;
 use std::fs::OpenOptions;
 use std::io::Read;
 use std::rt::Files;
@@ -17,10 +17,7 @@ fn name_text(name: &[u8]) -> io::Result<&str>
     ensures value { IfOk result (λ text. text.now ≡ name.now) }
     ensures variant { IsOk result ↔ IsUtf8 name.now }
 {
-    match std::str::from_utf8(name) {
-        Ok(text) => Ok(text),
-        Err(_) => Err(io::Error::from_raw_os_error(EILSEQ)),
-    }
+    std::str::from_utf8(name).map_err(|_| io::Error::from_raw_os_error(EILSEQ))
 }
 
 // Opens a file for reading.
@@ -32,13 +29,7 @@ pub fn open_read<R: Files>(files: &R, name: &[u8]) -> io::Result<R::File>
 
 // The file of this name, open for reading; where it cannot be, that is said.
 pub fn opened<R: Files>(files: &R, name: &[u8]) -> Option<R::File> {
-    match open_read(files, name) {
-        Ok(file) => Some(file),
-        Err(error) => {
-            fail(name, &error);
-            None
-        }
-    }
+    got(name, open_read(files, name))
 }
 
 // Opens a file for reading and writing and leaves its bytes as they are.
@@ -84,10 +75,7 @@ fn link_at(files: &impl Files, name: &[u8]) -> io::Result<bool> {
 
 // Whether a name is a link's; not where nothing can be learnt of it.
 pub fn is_link(files: &impl Files, name: &[u8]) -> bool {
-    match link_at(files, name) {
-        Ok(answer) => answer,
-        Err(_) => false,
-    }
+    link_at(files, name).unwrap_or(false)
 }
 
 // Reads until buf is full, the file ends or a read fails, and gives how many bytes it put at the
@@ -95,6 +83,7 @@ pub fn is_link(files: &impl Files, name: &[u8]) -> bool {
 pub fn read_full(file: &mut impl Read, buf: &mut [u8]) -> usize
     ensures { IsPrefixLen result buf.new }
 {
+    // By hand: no read of std's counts up to an error.
     let mut done = 0usize;
     while done < buf.len() {
         match file.read(&mut buf[done..]) {

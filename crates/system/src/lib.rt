@@ -6,11 +6,15 @@
 mod arguments;
 mod errors;
 mod files;
+mod printing;
 mod process;
 mod streams;
+mod text;
 
 pub use arguments::{arg, arg_count, argument, is_arg};
-pub use errors::{error_text, fail, is_invalid, is_missing, is_taken};
+pub use errors::{error_text, fail, got, is_invalid, is_missing, is_taken};
 pub use files::{create, is_link, open_append, open_read, open_update, opened, read_full, remove};
+pub use printing::{print, print_line};
 pub use process::{host_name, process_number, rest};
-pub use streams::{STDERR, STDIN, STDOUT, print};
+pub use streams::{STDERR, STDIN, STDOUT, Stream, say, say_of, say_pieces};
+pub use text::{join, newline_in, written};

@@ -2,6 +2,7 @@
 ghost use Rattle.io.specs.Counts.{IsPrefixLen};
 
 use crate::files::{open_read, read_full};
+use crate::text::newline_in;
 use std::rt::{Clock, Files, Process};
 use std::time::Duration;
 use std::{process, thread};
@@ -14,32 +15,15 @@ pub fn process_number(handle: Process) -> u64 {
     u64::from(process::id(handle))
 }
 
-// How many bytes of a text stand before its first newline.
-fn line_size(text: &[u8]) -> usize
-    ensures { IsPrefixLen result text.now }
-{
-    let mut i = 0usize;
-    while i < text.len() {
-        if text[i] == b'\n' {
-            return i;
-        }
-        i += 1;
-    }
-    i
-}
-
 // The host's name at the start of buf, and its length; 0 where it cannot be read.
 pub fn host_name(files: &impl Files, buf: &mut [u8]) -> usize
     ensures { IsPrefixLen result buf.new }
 {
-    match open_read(files, HOST) {
-        Ok(file) => {
-            let mut file = file;
-            let n = read_full(&mut file, buf);
-            line_size(&buf[..n])
-        }
-        Err(_) => 0,
-    }
+    let Ok(mut file) = open_read(files, HOST) else {
+        return 0;
+    };
+    let n = read_full(&mut file, buf);
+    newline_in(&buf[..n]).unwrap_or(n)
 }
 
 // Rests for two milliseconds.

@@ -1,5 +1,6 @@
 // The standard streams.
-use crate::errors::fail;
+use std::fmt::Display;
+use std::io::{Error, ErrorKind, Result, Write};
 
 // POSIX's numbers of the three.
 pub const STDIN: i32 = 0;
@@ -8,13 +9,39 @@ pub const STDOUT: i32 = 1;
 
 pub const STDERR: i32 = 2;
 
-// Whether all of it could be written to standard output; else what failed is said.
-pub fn print(out: &impl Print, text: &[u8]) -> bool {
-    match out.write_all(text) {
-        Ok(()) => true,
-        Err(error) => {
-            fail(b"standard output", &error);
-            false
+// A stream as a writer, by its number, for those who have no handle of it.
+#[derive(Clone, Copy)]
+pub struct Stream(pub i32);
+
+impl Write for Stream {
+    fn write(&mut self, bytes: &[u8]) -> Result<usize> {
+        if io::write_all(self.0, bytes) {
+            Ok(bytes.len())
+        } else {
+            Err(Error::from(ErrorKind::WriteZero))
         }
     }
+
+    fn flush(&mut self) -> Result<()> {
+        Ok(())
+    }
+}
+
+// Writes a line to standard error. Where that fails there is nobody to tell, here and below.
+pub fn say(line: impl Display + Drop) {
+    let _ = writeln!(Stream(STDERR), "{line}");
+}
+
+// Writes a line to standard error, of pieces that need not be text.
+pub fn say_pieces(pieces: &[&[u8]]) {
+    for piece in pieces {
+        io::write_all(STDERR, piece);
+    }
+    io::write_all(STDERR, b"\n");
+}
+
+// Writes a line to standard error: what it is about, a colon and what is said of it.
+pub fn say_of(what: &[u8], said: impl Display + Drop) {
+    io::write_all(STDERR, what);
+    say(format_args!(": {said}"));
 }

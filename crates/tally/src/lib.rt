@@ -2,14 +2,29 @@
 // print.
 #![tactic(auto)]
 
+mod reading;
+
 ghost use Rattle.std.specs.Prelude.{◌≡◌, ◌+◌, ◌%◌, ◌^◌, if◌then◌else◌};
 
-use system::STDOUT;
+pub use reading::{next, next_bytes, next_size, part};
+use std::fmt;
+use std::fmt::{Display, Formatter};
+use std::io::Write;
+use system::{STDOUT, Stream};
 
 #[derive(Clone, Copy)]
 pub struct Tally {
     pub compared: u64,
     pub differ: u64,
+}
+
+// The end of a line, after its name.
+impl Display for Tally {
+    fn fmt<W: fmt::Write>(&self, f: &mut Formatter<W>) -> fmt::Result {
+        let compared = self.compared;
+        let differ = self.differ;
+        write!(f, " {compared} compared, {differ} differ")
+    }
 }
 
 // Nothing compared yet.
@@ -41,13 +56,22 @@ pub fn counted(t: Tally, right: bool) -> Tally
     }
 }
 
+// So many answers more, each right or not.
+pub fn counted_all<F: FnMut() -> bool>(t: Tally, count: u32, mut is_right: F) -> Tally
+    requires { F.IsAlwaysCallable is_right }
+    ensures { result.compared ≡ (t.compared + count) % 2 ^ 64 }
+{
+    let mut all = t;
+    for i in 0..count {
+        all = counted(all, is_right());
+    }
+    all
+}
+
 // The end of a line, after its name. What is written no contract can say.
 pub fn print(t: Tally) {
-    io::write_all(STDOUT, b" ");
-    io::print_decimal(STDOUT, t.compared);
-    io::write_all(STDOUT, b" compared, ");
-    io::print_decimal(STDOUT, t.differ);
-    io::write_all(STDOUT, b" differ\n");
+    // By the stream's number, since `print` is public and takes no handle.
+    let _ = writeln!(Stream(STDOUT), "{t}");
 }
 
 // A line with its name. What is written no contract can say.

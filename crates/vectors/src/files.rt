@@ -1,30 +1,17 @@
 // The files: damaged month files, month records, index tables, every word of three pairs of files
 // and every blended coefficient of two, in what `oracle files` writes.
-ghost use Rattle.std.specs.Prelude.{◌≤◌, length};
-
 use crate::row::is_float;
 use base::blend::{COFION, PLANE};
 use base::files::{cofion, hmym};
 use base::index::index_check;
 use base::month_file::{MONTH_FILE, RECORD, month_file_check, month_record, month_record_check};
 use base::number;
-use base::refusal::Verdict;
-use base::words::{TableWord, integer, table_word, word};
+use base::refusal::{Report, Verdict};
+use base::words::{integer, table_word, word};
 use std::io::Read;
 use std::rt::Files;
 use system::{opened, read_full};
-use tally::{Tally, counted, none, print_line};
-
-// The next word of a file; 0 where it has ended.
-pub fn next(file: &mut impl Read) -> u32 {
-    let mut four = [0u8; 4];
-    read_full(file, &mut four);
-    word(&four, 0)
-}
-
-pub fn index(w: u32) -> usize {
-    w as usize
-}
+use tally::{Tally, counted, counted_all, next, next_size, none, part, print_line};
 
 // A file's bytes, as many as the buffer takes; false where there is no such file, which is said.
 pub fn load(rt: &impl Files, path: &[u8], buf: &mut [u8]) -> bool {
@@ -38,26 +25,18 @@ pub fn load(rt: &impl Files, path: &[u8], buf: &mut [u8]) -> bool {
 }
 
 pub fn is_report(v: Verdict, wanted: u32, place: u32) -> bool {
-    v.number() == wanted && v.place() == place
-}
-
-// The part of a file up to n, or all of it.
-pub fn cut(s: &[u8], n: usize) -> &[u8] {
-    if s.len() < n {
-        return s;
-    }
-    let a = 0usize;
-    &s[a..n]
+    let Report(number, at) = Report::from(v);
+    number == wanted && at == place
 }
 
 fn walk(month: &[u8; 38616], len: usize) -> Verdict {
-    month_file_check(cut(month, len))
+    month_file_check(part(month, 0, len))
 }
 
 // One damaged month file: cut to a length, with one byte changed.
 fn is_walk(file: &mut impl Read, month: [u8; 38616]) -> bool {
-    let len = index(next(file));
-    let at = index(next(file));
+    let len = next_size(file);
+    let at = next_size(file);
     let b = (next(file) % 256) as u8;
     let number = next(file);
     let place = next(file);
@@ -69,43 +48,35 @@ fn is_walk(file: &mut impl Read, month: [u8; 38616]) -> bool {
 }
 
 fn walks(file: &mut impl Read, month: [u8; 38616]) -> Tally {
-    let mut t = none();
-    for _ in 0..2204u32 {
-        t = counted(t, is_walk(file, month));
-    }
-    t
+    counted_all(none(), 2204, || is_walk(file, month))
 }
 
 // Whether a record is the wanted part: by its length and its first and last words.
-fn is_part(s: &[u8], start: usize, part: &[u8], accepted: bool) -> bool {
+fn is_part(s: &[u8], start: usize, record: &[u8], accepted: bool) -> bool {
     if !accepted {
-        return part.len() == 0;
+        return record.is_empty();
     }
     if start > 86944 {
         return false;
     }
-    part.len() == RECORD
-        && word(part, 0) == word(s, start)
-        && word(part, RECORD - 4) == word(s, start + RECORD - 4)
+    record.len() == RECORD
+        && word(record, 0) == word(s, start)
+        && word(record, RECORD - 4) == word(s, start + RECORD - 4)
 }
 
 fn is_record(file: &mut impl Read, daw: &[u8]) -> bool {
-    let len = index(next(file));
+    let len = next_size(file);
     let month = next(file);
     let number = next(file);
     let place = next(file);
-    let start = index(next(file));
-    let s = cut(daw, len);
+    let start = next_size(file);
+    let s = part(daw, 0, len);
     is_report(month_record_check(s, month), number, place)
         && is_part(s, start, month_record(s, month), number == 0)
 }
 
 fn records(file: &mut impl Read, daw: &[u8]) -> Tally {
-    let mut t = none();
-    for _ in 0..450u32 {
-        t = counted(t, is_record(file, daw));
-    }
-    t
+    counted_all(none(), 450, || is_record(file, daw))
 }
 
 fn checked(month: &[u8; 244]) -> Verdict {
@@ -122,18 +93,14 @@ fn is_index(file: &mut impl Read) -> bool {
 }
 
 fn indexes(file: &mut impl Read) -> Tally {
-    let mut t = none();
-    for _ in 0..3160u32 {
-        t = counted(t, is_index(file));
-    }
-    t
+    counted_all(none(), 3160, || is_index(file))
 }
 
 // Whether a table's word is the Rust's: its number, or that it is none.
-fn is_word(w: TableWord, wanted: u32) -> bool {
+fn is_word(w: Option<f32>, wanted: u32) -> bool {
     match w {
-        TableWord::Finite(x) => is_float(x, wanted),
-        TableWord::NotFinite => wanted % 0x8000_0000 >= 0x7f80_0000,
+        Some(x) => is_float(x, wanted),
+        None => wanted % 0x8000_0000 >= 0x7f80_0000,
     }
 }
 
@@ -141,8 +108,7 @@ fn is_word(w: TableWord, wanted: u32) -> bool {
 fn floats(file: &mut impl Read, s: &[u8], at: usize, n: usize, t: Tally) -> Tally {
     let mut t = t;
     for k in 0..n {
-        let place = std::num::wrapping_add_usize(at, std::num::wrapping_add_usize(k, k));
-        let place = std::num::wrapping_add_usize(place, std::num::wrapping_add_usize(k, k));
+        let place = at.wrapping_add(k.wrapping_mul(4));
         t = counted(t, is_word(table_word(s, place), next(file)));
     }
     t
@@ -156,17 +122,34 @@ fn integers(file: &mut impl Read, month: &[u8], t: Tally) -> Tally {
     t
 }
 
-// The words of the records' bodies after the first, which stand between markers of four bytes.
-const BODIES: [usize; 8] = [2796, 1332, 882, 792, 480, 1782, 1100, 396];
-
-const STARTS: [usize; 8] = [252, 11444, 16780, 20316, 23492, 25420, 32556, 36964];
+// Where the bodies of the records after the first start, which stand between markers of four bytes,
+// and how many words each has.
+const BODIES: [(usize, usize); 8] = [
+    (252, 2796),
+    (11444, 1332),
+    (16780, 882),
+    (20316, 792),
+    (23492, 480),
+    (25420, 1782),
+    (32556, 1100),
+    (36964, 396),
+];
 
 // Every word of a pair, as the Rust reads it.
 fn words(file: &mut impl Read, record: &[u8], month: &[u8]) -> Tally {
     let t = floats(file, record, 0, 1976, none());
     let mut t = integers(file, month, t);
-    for k in 0..8usize {
-        t = floats(file, month, STARTS[k], BODIES[k], t);
+    for (start, n) in BODIES {
+        t = floats(file, month, start, n, t);
+    }
+    t
+}
+
+// Whether each float is the file's next.
+fn are_next(file: &mut impl Read, all: &[f32], t: Tally) -> Tally {
+    let mut t = t;
+    for x in all {
+        t = counted(t, is_float(*x, next(file)));
     }
     t
 }
@@ -175,22 +158,14 @@ fn words(file: &mut impl Read, record: &[u8], month: &[u8]) -> Tally {
 // has, so that a refusal would count.
 fn cofions(file: &mut impl Read, record: &[u8], month: &[u8], ssn: f32, t: Tally) -> Tally {
     let mut all = [-12345.0f32; COFION];
-    cofion(record, month, ssn, &mut all);
-    let mut t = t;
-    for k in 0..COFION {
-        t = counted(t, is_float(all[k], next(file)));
-    }
-    t
+    let _ = cofion(record, month, ssn, &mut all);
+    are_next(file, &all, t)
 }
 
 fn heights(file: &mut impl Read, month: &[u8], ssn: f32, t: Tally) -> Tally {
     let mut all = [-12345.0f32; PLANE];
-    hmym(month, ssn, &mut all);
-    let mut t = t;
-    for k in 0..PLANE {
-        t = counted(t, is_float(all[k], next(file)));
-    }
-    t
+    let _ = hmym(month, ssn, &mut all);
+    are_next(file, &all, t)
 }
 
 fn blends(file: &mut impl Read, record: &[u8], month: &[u8], t: Tally) -> Tally {

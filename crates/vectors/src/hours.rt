@@ -3,27 +3,24 @@
 // 2,604 and no map has a harmonic: what is wanted there is where each series starts.
 use crate::files;
 use crate::row::is_float;
-use crate::sheets::{LENT, next_month, next_record};
+use crate::sheets::LENT;
 use base::month_file::{MONTH_FILE, RECORD};
 use base::words;
 use maps::ionosphere::hour_maps;
 use maps::ionosphere::starts::AB_ROWS;
 use std::io::Read;
 use std::rt::Files;
-use system::{opened, read_full};
-use tally::{Tally, counted, none, print_line};
+use system::opened;
+use tally::{Tally, counted_all, next, next_bytes, none, print_line};
 
 // The bytes of a row: the sunspot number, the hour and what is wanted.
 const ROW: usize = 1280;
 
 // Whether the array holds what a row wants.
 fn is_wanted(ab: &[f32; AB_ROWS], row: &[u8; ROW]) -> bool {
-    for k in 0..AB_ROWS {
-        if !is_float(ab[k], words::word(row, 8 + 4 * k)) {
-            return false;
-        }
-    }
-    true
+    ab.iter()
+        .zip(row[8..].chunks_exact(4))
+        .all(|(x, wanted)| is_float(*x, words::word(wanted, 0)))
 }
 
 // All of the array must be overwritten.
@@ -37,22 +34,15 @@ fn is_hour(row: &[u8; ROW], record: &[u8; RECORD], month: &[u8; MONTH_FILE]) -> 
 
 // A pair of files and the hours worked out from it.
 fn section(file: &mut impl Read, t: Tally) -> Tally {
-    let mut t = t;
-    let record = next_record(file);
-    let month = next_month(file);
-    let count = files::next(file);
-    for _ in 0..count {
-        let mut row = [0u8; ROW];
-        read_full(file, &mut row);
-        t = counted(t, is_hour(&row, &record, &month));
-    }
-    t
+    let record = next_bytes::<RECORD>(file);
+    let month = next_bytes::<MONTH_FILE>(file);
+    let count = next(file);
+    counted_all(t, count, || is_hour(&next_bytes(file), &record, &month))
 }
 
 fn sections(file: &mut impl Read) -> Tally {
     let mut t = none();
-    let count = files::next(file);
-    for _ in 0..count {
+    for _ in 0..next(file) {
         t = section(file, t);
     }
     t

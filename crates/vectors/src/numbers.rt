@@ -1,39 +1,23 @@
 // The arithmetic: the answers of data/numbers.bin, function by function. A row is three
 // little-endian words of 64 bits: the function's number, the argument and the answer, as oracle/
 // writes them. A row of function 0 holds the name of the function that follows.
-ghost use Rattle.std.specs.Prelude.{◌+◌, ◌^◌, ◌<◌};
+ghost use Rattle.std.specs.Prelude.{◌≤◌};
 
-use crate::row::print_name;
+use crate::row::print_groups;
 use base::angle::{Degrees, Radians};
-use base::{constants, elementary, number};
+use base::{constants, elementary, number, words};
 use maps::geometry;
 use maps::inputs::MagneticPole;
-use std::io::Read;
 use std::rt::Files;
-use system::{opened, read_full};
-use tally::{counted, none, print_line};
+use system::opened;
 
-fn wide(x: u8) -> u64
-    ensures { result < 256 }
-{
-    x as u64
-}
+// The bytes of a row.
+const ROW: usize = 24;
 
-// Four bytes of a row as a little-endian number.
-fn half(row: &[u8; 24], at: usize) -> u64
-    requires { at + 4 < 25 }
-    ensures { result < 2 ^ 32 }
+fn word(row: &[u8], at: usize) -> u64
+    requires { at ≤ 16 }
 {
-    wide(row[at])
-        + wide(row[at + 1]) * 256
-        + wide(row[at + 2]) * 65536
-        + wide(row[at + 3]) * 16777216
-}
-
-fn word(row: &[u8; 24], at: usize) -> u64
-    requires { at + 8 < 25 }
-{
-    half(row, at) + half(row, at + 4) * 4294967296
+    u64::from(words::word(row, at)) | u64::from(words::word(row, at + 4)) << 32
 }
 
 fn low(w: u64) -> u32 {
@@ -59,14 +43,10 @@ fn constant(k: u64) -> f32 {
         return list[k as usize];
     }
     let pole = MagneticPole::built_in();
-    let lat = pole.lat;
-    let lon = pole.lon;
-    if k == 9 {
-        lat.0
-    } else if k == 10 {
-        lon.0
-    } else {
-        0.0 / 0.0
+    match k {
+        9 => pole.lat.0,
+        10 => pole.lon.0,
+        _ => 0.0 / 0.0,
     }
 }
 
@@ -102,13 +82,11 @@ fn of_double(f: u64, x: f64) -> f64 {
 
 // The angles, which have types of their own.
 fn radians(x: f32) -> f32 {
-    let a = Degrees(x).to_radians();
-    a.0
+    Degrees(x).to_radians().0
 }
 
 fn degrees(x: f32) -> f32 {
-    let a = Radians(x).to_degrees();
-    a.0
+    Radians(x).to_degrees().0
 }
 
 // What `base` answers, and `maps` for `sign`, as a row's word.
@@ -141,34 +119,21 @@ fn is_right(f: u64, w: u64, wanted: u64) -> bool {
     }
 }
 
-// The rows of a file, with a line for each function and one for all.
-fn rows(file: &mut impl Read) {
-    let mut part = none();
-    let mut all = none();
-    for _ in 0..1000000u32 {
-        let mut row = [0u8; 24];
-        if read_full(file, &mut row) < 24 {
-            break;
-        }
-        let f = word(&row, 0);
-        if f == 0 {
-            if part.compared > 0 {
-                tally::print(part);
-            }
-            print_name(&row, 8);
-            part = none();
-        } else {
-            let right = is_right(f, word(&row, 8), word(&row, 16));
-            part = counted(part, right);
-            all = counted(all, right);
-        }
-    }
-    tally::print(part);
-    print_line(b"numbers", all);
+// A row of function 0 heads a group.
+fn is_heading(row: &[u8]) -> bool {
+    word(row, 0) == 0
 }
 
 pub fn replay(rt: &impl Files) {
     if let Some(mut file) = opened(rt, b"numbers.bin") {
-        rows(&mut file);
+        print_groups(
+            &mut file,
+            1000000,
+            &mut [0u8; ROW],
+            b"numbers",
+            8,
+            |row| is_heading(row),
+            |row| is_right(word(row, 0), word(row, 8), word(row, 16)),
+        );
     }
 }

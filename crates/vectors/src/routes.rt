@@ -4,16 +4,17 @@
 // holds the name of the routes that follow.
 ghost use Rattle.std.specs.Prelude.{◌+◌, ◌*◌, ◌<◌, ◌≤◌, length};
 
-use crate::row::{is_float, print_name};
+use crate::row::{is_float, print_groups};
 use base::angle::Degrees;
 use base::words;
-use maps::geometry::{ControlPoint, PathGeometry};
+use maps::geometry::{ControlPoint, POINTS, PathGeometry};
 use maps::inputs::MagneticPole;
 use maps::{geometry, magnetic};
-use std::io::Read;
 use std::rt::Files;
-use system::{opened, read_full};
-use tally::{counted, none, print_line};
+use system::opened;
+
+// The bytes of a row.
+const ROW: usize = 196;
 
 // The word k of a row.
 fn word(row: &[u8], k: usize) -> u32
@@ -44,17 +45,12 @@ fn path(row: &[u8]) -> PathGeometry {
 }
 
 fn is_head(row: &[u8], g: PathGeometry) -> bool {
-    let gcd = g.gcd;
-    let btr = g.btr;
-    let brt = g.brt;
-    let rlatd = g.rlatd;
-    let alatd = geometry::alatd(g);
-    is_float(gcd.0, word(row, 7))
+    is_float(g.gcd.0, word(row, 7))
         && is_float(g.gcd_km, word(row, 8))
-        && is_float(btr.0, word(row, 9))
-        && is_float(brt.0, word(row, 10))
-        && is_float(rlatd.0, word(row, 11))
-        && is_float(alatd.0, word(row, 12))
+        && is_float(g.btr.0, word(row, 9))
+        && is_float(g.brt.0, word(row, 10))
+        && is_float(g.rlatd.0, word(row, 11))
+        && is_float(geometry::alatd(g).0, word(row, 12))
         && g.count == word(row, 13)
 }
 
@@ -62,14 +58,10 @@ fn is_head(row: &[u8], g: PathGeometry) -> bool {
 fn is_place(row: &[u8], k: usize, p: ControlPoint) -> bool
     requires { k < 50 }
 {
-    let rd = p.rd;
-    let lat = p.lat;
-    let lon = p.lon;
-    let gmlat = p.gmlat;
-    is_float(rd.0, word(row, k))
-        && is_float(lat.0, word(row, k + 1))
-        && is_float(lon.0, word(row, k + 2))
-        && is_float(gmlat.0, word(row, k + 3))
+    is_float(p.rd.0, word(row, k))
+        && is_float(p.lat.0, word(row, k + 1))
+        && is_float(p.lon.0, word(row, k + 2))
+        && is_float(p.gmlat.0, word(row, k + 3))
 }
 
 // The field at a point that is there, from the word k on.
@@ -77,11 +69,9 @@ fn is_field(row: &[u8], k: usize, p: ControlPoint) -> bool
     requires { k < 50 }
 {
     let m = magnetic::magvar(p.lat, p.lon);
-    let gmdip = m.gmdip;
-    let east = m.east_lon;
     is_float(m.gyz, word(row, k))
-        && is_float(gmdip.0, word(row, k + 1))
-        && is_float(east.0, word(row, k + 2))
+        && is_float(m.gmdip.0, word(row, k + 1))
+        && is_float(m.east_lon.0, word(row, k + 2))
 }
 
 // The field of a point that is absent: three zeros.
@@ -110,49 +100,23 @@ fn is_route(row: &[u8]) -> bool {
     if !is_head(row, g) {
         return false;
     }
-    let points = g.points;
-    is_point(row, 0, g.count, points[0])
-        && is_point(row, 1, g.count, points[1])
-        && is_point(row, 2, g.count, points[2])
-        && is_point(row, 3, g.count, points[3])
-        && is_point(row, 4, g.count, points[4])
+    (0..POINTS).all(|i| is_point(row, i, g.count, g.points[i]))
 }
 
-// The rows of a file, with a line for each group and one for all.
-fn rows(file: &mut impl Read) {
-    let mut part = none();
-    let mut all = none();
-    for _ in 0..100000000u32 {
-        let mut row = [0u8; 196];
-        if read_full(file, &mut row) < 196 {
-            break;
-        }
-        if is_heading(&row) {
-            if part.compared > 0 {
-                tally::print(part);
-            }
-            print_name(&row, 4);
-            part = none();
-        } else {
-            let right = is_right(&row);
-            part = counted(part, right);
-            all = counted(all, right);
-        }
-    }
-    tally::print(part);
-    print_line(b"routes", all);
-}
-
-fn is_heading(row: &[u8; 196]) -> bool {
+fn is_heading(row: &[u8]) -> bool {
     words::word(row, 0) == 0xffff_ffff
-}
-
-fn is_right(row: &[u8; 196]) -> bool {
-    is_route(row)
 }
 
 pub fn replay(rt: &impl Files) {
     if let Some(mut file) = opened(rt, b"routes.bin") {
-        rows(&mut file);
+        print_groups(
+            &mut file,
+            100000000,
+            &mut [0u8; ROW],
+            b"routes",
+            4,
+            |row| is_heading(row),
+            |row| is_route(row),
+        );
     }
 }

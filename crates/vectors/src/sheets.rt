@@ -1,101 +1,54 @@
 // The sheets: all 151 figures of each sheet of sheets.bin, over the files that it holds; and the
 // refusals of refused-sheets.bin, which leave the buffer as it was.
-ghost use Rattle.std.specs.Prelude.{◌+◌, ◌*◌, ◌<◌, ◌≤◌, length};
-
-use crate::files;
 use crate::row::is_float;
 use base::angle::Degrees;
 use base::month_file::{MONTH_FILE, RECORD};
 use base::words;
 use maps::figures;
-use maps::figures::{FIGURES, Shown};
+use maps::figures::FIGURES;
 use maps::inputs::{Factors, Inputs, MagneticPole, Route, inputs_in};
 use std::io::Read;
 use std::rt::Files;
-use system::{opened, read_full};
-use tally::{Tally, counted, none, print_line};
+use system::opened;
+use tally::{Tally, counted_all, next, next_bytes, next_size, none, part, print_line};
 use worksheet::showing::drawn;
 
 // What no sheet has: each buffer is lent full of it.
 pub const LENT: f32 = -12345.0;
 
+// The bytes of a row: the inputs' words, the number of points and the figures.
+const ROW: usize = 664;
+
 // The largest buffer that is lent to a refused showing.
 const LARGEST: usize = 200;
 
-// The word k of a row.
-fn word(row: &[u8], k: usize) -> u32
-    requires { k < 200 }
-{
-    words::word(row, 4 * k)
-}
-
 // Whether the buffer holds a row's figures.
-fn is_figures(out: &[f32; FIGURES], row: &[u8]) -> bool {
-    for k in 0..FIGURES {
-        if !is_float(out[k], word(row, 15 + k)) {
-            return false;
-        }
-    }
-    true
-}
-
-// What a showing answers: a refusal's number and place, or 0 and the points.
-#[derive(Clone, Copy)]
-struct Spoken {
-    number: u32,
-    place: u32,
-}
-
-fn told(shown: Shown) -> Spoken {
-    match shown {
-        Shown::Points(count) => Spoken {
-            number: 0,
-            place: count,
-        },
-        Shown::Refused(why) => Spoken {
-            number: why.number(),
-            place: why.place(),
-        },
-    }
+fn is_figures(out: &[f32; FIGURES], row: &[u8; ROW]) -> bool {
+    out.iter()
+        .zip(row[60..].chunks_exact(4))
+        .all(|(x, wanted)| is_float(*x, words::word(wanted, 0)))
 }
 
 // All of the buffer must be overwritten.
-fn is_sheet(row: &[u8; 664], record: &[u8; RECORD], month: &[u8; MONTH_FILE]) -> bool {
+fn is_sheet(row: &[u8; ROW], record: &[u8; RECORD], month: &[u8; MONTH_FILE]) -> bool {
     let mut out = [LENT; FIGURES];
-    let t = told(figures::figures(inputs_in(row), record, month, &mut out));
-    t.number == 0 && t.place == word(row, 14) && is_figures(&out, row)
-}
-
-pub fn next_record(file: &mut impl Read) -> [u8; RECORD] {
-    let mut record = [0u8; RECORD];
-    read_full(file, &mut record);
-    record
-}
-
-pub fn next_month(file: &mut impl Read) -> [u8; MONTH_FILE] {
-    let mut month = [0u8; MONTH_FILE];
-    read_full(file, &mut month);
-    month
+    match figures::figures(inputs_in(row), record, month, &mut out) {
+        Ok(count) => count == words::word(row, 56) && is_figures(&out, row),
+        Err(_) => false,
+    }
 }
 
 // A pair of files and the sheets made of it.
 fn section(file: &mut impl Read, t: Tally) -> Tally {
-    let mut t = t;
-    let record = next_record(file);
-    let month = next_month(file);
-    let count = files::next(file);
-    for _ in 0..count {
-        let mut row = [0u8; 664];
-        read_full(file, &mut row);
-        t = counted(t, is_sheet(&row, &record, &month));
-    }
-    t
+    let record = next_bytes::<RECORD>(file);
+    let month = next_bytes::<MONTH_FILE>(file);
+    let count = next(file);
+    counted_all(t, count, || is_sheet(&next_bytes(file), &record, &month))
 }
 
 fn replay_sheets(file: &mut impl Read) {
     let mut t = none();
-    let count = files::next(file);
-    for _ in 0..count {
+    for _ in 0..next(file) {
         t = section(file, t);
     }
     print_line(b"sheets", t);
@@ -126,39 +79,18 @@ fn in_range() -> Inputs {
 }
 
 fn is_as_lent(out: &[f32; LARGEST]) -> bool {
-    for k in 0..LARGEST {
-        if out[k] != LENT {
-            return false;
-        }
-    }
-    true
-}
-
-// The answer of a showing over files cut to these lengths.
-fn shown_of(
-    record: &[u8; RECORD],
-    record_length: usize,
-    month: &[u8; MONTH_FILE],
-    month_length: usize,
-    out: &mut [f32],
-) -> Spoken {
-    told(drawn(
-        in_range(),
-        files::cut(record, record_length),
-        files::cut(month, month_length),
-        out,
-    ))
+    out.iter().all(|x| *x == LENT)
 }
 
 // Files cut to a length, one byte of the month file changed, and a buffer of some length.
 fn is_refused(file: &mut impl Read, record: &[u8; RECORD], month: [u8; MONTH_FILE]) -> bool {
-    let record_length = files::index(files::next(file));
-    let month_length = files::index(files::next(file));
-    let at = files::index(files::next(file));
-    let b = (files::next(file) % 256) as u8;
-    let size = files::index(files::next(file));
-    let number = files::next(file);
-    let place = files::next(file);
+    let record_length = next_size(file);
+    let month_length = next_size(file);
+    let at = next_size(file);
+    let b = (next(file) % 256) as u8;
+    let size = next_size(file);
+    let number = next(file);
+    let place = next(file);
     let mut damaged = month;
     if at < MONTH_FILE {
         damaged[at] = b;
@@ -167,28 +99,19 @@ fn is_refused(file: &mut impl Read, record: &[u8; RECORD], month: [u8; MONTH_FIL
         return false;
     }
     let mut out = [LENT; LARGEST];
-    let from = 0usize;
-    let t = shown_of(
-        record,
-        record_length,
-        &damaged,
-        month_length,
-        &mut out[from..size],
-    );
-    if number == 0 {
-        return t.number == 0 && t.place > 0;
+    let record = part(record, 0, record_length);
+    let month = part(&damaged, 0, month_length);
+    match drawn(in_range(), record, month, &mut out[..size]) {
+        Ok(count) => number == 0 && count > 0,
+        Err(why) => why.number() == number && why.place() == place && is_as_lent(&out),
     }
-    t.number == number && t.place == place && is_as_lent(&out)
 }
 
 fn replay_refused(file: &mut impl Read) {
-    let mut t = none();
-    let record = next_record(file);
-    let month = next_month(file);
-    let count = files::next(file);
-    for _ in 0..count {
-        t = counted(t, is_refused(file, &record, month));
-    }
+    let record = next_bytes::<RECORD>(file);
+    let month = next_bytes::<MONTH_FILE>(file);
+    let count = next(file);
+    let t = counted_all(none(), count, || is_refused(file, &record, month));
     print_line(b"refused sheets", t);
 }
 

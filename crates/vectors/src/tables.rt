@@ -1,14 +1,13 @@
 // The tables: the answers of tables.bin over two pairs of files, cut and damaged, and of what is
 // handed back every byte, which words.bin has.
-ghost use Rattle.std.specs.Prelude.{◌≤◌};
-
 use crate::files;
+use crate::row::counted_rows;
 use base::month_file::RECORD;
 use base::{tables, words};
 use std::io::Read;
 use std::rt::Files;
 use system::{opened, read_full};
-use tally::{Tally, counted, none, print_line};
+use tally::{next, part, print_line};
 
 // A row's answer: the refusal, the part's place in its file, and its first word in words.bin.
 #[derive(Clone, Copy)]
@@ -22,7 +21,7 @@ struct Answer {
 
 // The word at `at` of a row.
 fn index(row: &[u8], at: usize) -> usize {
-    files::index(words::word(row, at))
+    words::word(row, at) as usize
 }
 
 fn wanted(row: &[u8]) -> Answer {
@@ -35,20 +34,6 @@ fn wanted(row: &[u8]) -> Answer {
     }
 }
 
-// Whether a part is what words.bin has from a byte on.
-fn is_part(part: &[u8], all: &[u8; 46384], from: usize) -> bool {
-    for k in 0..part.len() {
-        let at = std::num::wrapping_add_usize(from, k);
-        if at >= 46384 {
-            return false;
-        }
-        if part[k] != all[at] {
-            return false;
-        }
-    }
-    true
-}
-
 // Whether a table is handed back, or refused, as wanted.
 fn is_answer<'a>(
     number: u32,
@@ -58,8 +43,8 @@ fn is_answer<'a>(
     w: Answer,
 ) -> bool {
     let v = tables::table_check(number, record, month);
-    let part = tables::table(number, record, month);
-    if !files::is_report(v, w.number, w.place) || part.len() != w.size {
+    let table = tables::table(number, record, month);
+    if !files::is_report(v, w.number, w.place) || table.len() != w.size {
         return false;
     }
     if w.number != 0 {
@@ -69,7 +54,7 @@ fn is_answer<'a>(
     if w.first > 11596 {
         return false;
     }
-    place.start == w.start && place.size == w.size && is_part(part, all, 4 * w.first)
+    place.start == w.start && place.size == w.size && all[4 * w.first..].starts_with(table)
 }
 
 fn is_damaged<'a>(
@@ -80,11 +65,11 @@ fn is_damaged<'a>(
     all: &[u8; 46384],
     w: Answer,
 ) -> bool {
-    is_answer(number, record, files::cut(month, length), all, w)
+    is_answer(number, record, part(month, 0, length), all, w)
 }
 
 // A table of files cut to a length, one byte of the month file changed.
-fn is_table(row: &[u8; 40], record: &[u8], month: [u8; 38616], all: &[u8; 46384]) -> bool {
+fn is_table(row: &[u8], record: &[u8], month: [u8; 38616], all: &[u8; 46384]) -> bool {
     let at = index(row, 12);
     let mut damaged = month;
     if at < 38616 {
@@ -92,28 +77,12 @@ fn is_table(row: &[u8; 40], record: &[u8], month: [u8; 38616], all: &[u8; 46384]
     }
     is_damaged(
         words::word(row, 0),
-        files::cut(record, index(row, 4)),
+        part(record, 0, index(row, 4)),
         &damaged,
         index(row, 8),
         all,
         wanted(row),
     )
-}
-
-// The next row; one that is cut is wrong.
-fn next_table(file: &mut impl Read, record: &[u8], month: [u8; 38616], all: &[u8; 46384]) -> bool {
-    let mut row = [0u8; 40];
-    let got = read_full(file, &mut row);
-    got == 40 && is_table(&row, record, month, all)
-}
-
-fn rows(file: &mut impl Read, record: &[u8], month: [u8; 38616], all: &[u8; 46384]) -> Tally {
-    let mut t = none();
-    let count = files::next(file);
-    for _ in 0..count {
-        t = counted(t, next_table(file, record, month, all));
-    }
-    t
 }
 
 // One pair of files against the next answers of tables.bin and the next words of words.bin. The
@@ -135,7 +104,15 @@ fn replay_pair(
     if !files::load(rt, month_path, &mut month) {
         return;
     }
-    print_line(b"tables", rows(file, &daw[RECORD..15872], month, &all));
+    let count = next(file);
+    let record = &daw[RECORD..15872];
+    let t = counted_rows(
+        file,
+        count,
+        &mut [0u8; 40],
+        |row| is_table(row, record, month, &all),
+    );
+    print_line(b"tables", t);
 }
 
 pub fn replay(rt: &impl Files) {

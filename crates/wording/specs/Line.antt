@@ -1,14 +1,15 @@
 -- A line of a journal, as docs/PROGRAMS.md has the words of each call. Every form is checked from
 -- the left, and the first word that does not fit decides. Assumes nothing.
-use Rattle.std.specs.Prelude.{ℕ, suc, ◌+◌, ◌^◌, Bool, true, false, cond, not, ◌&&◌, List, eqb, ltb}
+use Rattle.std.specs.Prelude.{Result, Ok, Err, ℕ, suc, ◌+◌, ◌^◌, Bool, true, false, cond, not, ◌&&◌, List, eqb, ltb}
 use Rattle.wording.specs.declared.number.Decimal.{Decimal}
+use Rattle.wording.specs.declared.token.Word.{Word}
+use Rattle.wording.specs.declared.token.Word.TheVariants as word
 use Rattle.wording.specs.declared.token.Token.{Token}
 use Rattle.wording.specs.declared.token.Token.TheVariants as token
 use Rattle.wording.specs.declared.token.Tokens.{Tokens}
 use Rattle.wording.specs.declared.line.Wanted.{Wanted}
-use Rattle.wording.specs.declared.line.Wanted.TheVariants.{Start, Deed, Word, Number, Whole, Model as AModel, Nothing}
-use Rattle.wording.specs.declared.line.Fit.{Fit}
-use Rattle.wording.specs.declared.line.Fit.TheVariants.{Good, Wrong}
+use Rattle.wording.specs.declared.line.Wanted.TheVariants.{Start, Deed, Word as AWord, Number, Whole, Model as AModel, Nothing}
+use Rattle.wording.specs.declared.line.Fault.{Fault}
 use Rattle.wording.specs.declared.line.Line.{Line}
 use Rattle.wording.specs.declared.line.Line.TheVariants as line
 use Rattle.wording.specs.declared.written.WrittenRoute.{WrittenRoute}
@@ -19,74 +20,15 @@ use Rattle.wording.specs.declared.written.WrittenEdit.{WrittenEdit}
 use Rattle.wording.specs.declared.written.WrittenEdit.TheVariants.{Sunspot, Hour, Path, Psc, Pole, Month, Model}
 use Rattle.wording.specs.declared.written.WrittenCall.{WrittenCall}
 use Rattle.wording.specs.declared.written.WrittenCall.TheVariants.{Begin, Change, Commit, Cancel, TakeBack, Show}
-use Rattle.wording.specs.Token.{tokens_of, token_at}
-
--- ---- the words by number, as `names` of Token.antt has them
-
-abbrev pub OPEN : ℕ
-OPEN = 0
-
-abbrev pub MONTH : ℕ
-MONTH = 1
-
-abbrev pub SUNSPOT : ℕ
-SUNSPOT = 2
-
-abbrev pub HOUR : ℕ
-HOUR = 3
-
-abbrev pub FROM : ℕ
-FROM = 4
-
-abbrev pub TO : ℕ
-TO = 5
-
-abbrev pub LONG : ℕ
-LONG = 6
-
-abbrev pub FACTORS : ℕ
-FACTORS = 7
-
-abbrev pub POLE : ℕ
-POLE = 8
-
-abbrev pub MODEL : ℕ
-MODEL = 9
-
-abbrev pub CCIR : ℕ
-CCIR = 10
-
-abbrev pub URSI : ℕ
-URSI = 11
-
-abbrev pub BEGIN : ℕ
-BEGIN = 12
-
-abbrev pub PATH : ℕ
-PATH = 13
-
-abbrev pub COMMIT : ℕ
-COMMIT = 14
-
-abbrev pub CANCEL : ℕ
-CANCEL = 15
-
-abbrev pub SHOW : ℕ
-SHOW = 16
-
-abbrev pub TAKE : ℕ
-TAKE = 17
-
-abbrev pub BACK : ℕ
-BACK = 18
+use Rattle.wording.specs.Token.{word_place, tokens_of, token_at}
 
 -- ---- one word
 
-abbrev pub is_named : ℕ → Token → Bool
-is_named w (token.Word k) = eqb k w
-is_named w (token.Number d) = false
-is_named w token.Other = false
-is_named w token.End = false
+abbrev pub is_named : Word → Token → Bool
+is_named x (token.Word y) = eqb (word_place y) (word_place x)
+is_named x (token.Number d) = false
+is_named x token.Other = false
+is_named x token.End = false
 
 abbrev pub is_number : Token → Bool
 is_number (token.Word k) = false
@@ -122,15 +64,22 @@ decimal_in token.End = nought
 
 -- ---- whether words fit
 
+-- nothing where they do, else the first that does not
+abbrev pub Fit : Type 0
+Fit = Result (Unit {0}) Fault
+
+abbrev pub Good : Fit
+Good = Ok tt
+
 -- the word at place k is the (k + 1)th
 abbrev pub fit_unless : Bool → ℕ → Wanted → Fit
-fit_unless good k wanted = cond good Good (Wrong (record { word = suc k; wanted = wanted }))
+fit_unless good k wanted = cond good Good (Err (record { word = suc k; wanted = wanted }))
 
 infixr 20 ◌and_then◌
 -- the first that does not fit
 abbrev pub ◌and_then◌ : Fit → Fit → Fit
-Good and_then f = f
-(Wrong x) and_then f = Wrong x
+(Ok u) and_then f = f
+(Err x) and_then f = Err x
 
 -- ---- what an open has where it says nothing else: '1 1 1 1, 78.5 -69, ccir'
 
@@ -150,8 +99,8 @@ usual_pole =
 -- ---- a line, if all its words fit
 
 abbrev pub line_if : Fit → Line → Line
-line_if Good l = l
-line_if (Wrong x) l = line.Wrong x
+line_if (Ok u) l = l
+line_if (Err x) l = line.Wrong x
 
 abbrev pub call_if : Fit → WrittenCall → Line
 call_if f c = line_if f (line.Call c)
@@ -159,25 +108,25 @@ call_if f c = line_if f (line.Call c)
 module _ (t : Tokens) where
   -- ---- whether the word at place k fits
 
-  unfoldable pub word_fit : ℕ → ℕ → Fit
-  word_fit k w = fit_unless (is_named w (token_at t k)) k (Word w)
+  abbrev pub word_fit : ℕ → Word → Fit
+  word_fit k w = fit_unless (is_named w (token_at t k)) k (AWord w)
 
-  unfoldable pub number_fit : ℕ → Fit
+  abbrev pub number_fit : ℕ → Fit
   number_fit k = fit_unless (is_number (token_at t k)) k Number
 
-  unfoldable pub whole_fit : ℕ → Fit
+  abbrev pub whole_fit : ℕ → Fit
   whole_fit k = fit_unless (is_whole (token_at t k)) k Whole
 
   -- 'ccir or ursi'
   unfoldable pub model_fit : ℕ → Fit
-  model_fit k = cond (is_named CCIR (token_at t k)) Good (fit_unless (is_named URSI (token_at t k)) k AModel)
+  model_fit k = cond (is_named word.Ccir (token_at t k)) Good (fit_unless (is_named word.Ursi (token_at t k)) k AModel)
 
-  unfoldable pub end_fit : ℕ → Fit
+  abbrev pub end_fit : ℕ → Fit
   end_fit k = fit_unless (is_end (token_at t k)) k Nothing
 
   -- ---- the numbers at place k
 
-  unfoldable pub decimal_at : ℕ → Decimal
+  abbrev pub decimal_at : ℕ → Decimal
   decimal_at k = decimal_in (token_at t k)
 
   unfoldable pub whole_at : ℕ → ℕ
@@ -185,7 +134,7 @@ module _ (t : Tokens) where
 
   -- '(0 CCIR, 1 URSI)'
   unfoldable pub model_at : ℕ → ℕ
-  model_at k = cond (is_named URSI (token_at t k)) 1 0
+  model_at k = cond (is_named word.Ursi (token_at t k)) 1 0
 
   -- ---- the parts of the inputs, from place k on
 
@@ -198,10 +147,12 @@ module _ (t : Tokens) where
 
   -- 'from LAT LON to LAT LON', and 'long' or not
   unfoldable pub route_fit : ℕ → Fit
-  route_fit k = word_fit k FROM and_then pair_fit (k + 1) and_then word_fit (k + 3) TO and_then pair_fit (k + 4)
+  route_fit k =
+      word_fit k word.From and_then pair_fit (k + 1)
+      and_then word_fit (k + 3) word.To and_then pair_fit (k + 4)
 
   abbrev pub is_long_at : ℕ → Bool
-  is_long_at k = is_named LONG (token_at t (k + 6))
+  is_long_at k = is_named word.Long (token_at t (k + 6))
 
   unfoldable pub route_at : ℕ → WrittenRoute
   route_at k =
@@ -231,11 +182,11 @@ module _ (t : Tokens) where
   -- from month to path: the thirteen words after which the others may stand
   unfoldable pub head_fit : Fit
   head_fit =
-      word_fit 1 MONTH and_then whole_fit 2 and_then word_fit 3 SUNSPOT and_then number_fit 4
-      and_then word_fit 5 HOUR and_then number_fit 6 and_then route_fit 7
+      word_fit 1 word.Month and_then whole_fit 2 and_then word_fit 3 word.Sunspot and_then number_fit 4
+      and_then word_fit 5 word.Hour and_then number_fit 6 and_then route_fit 7
 
   -- whether the word at place k brings an optional part
-  abbrev pub brings : ℕ → ℕ → Bool
+  abbrev pub brings : Word → ℕ → Bool
   brings w k = is_named w (token_at t k)
 
   -- where the factors, the pole, the model and the end of the line are to be
@@ -243,34 +194,34 @@ module _ (t : Tokens) where
   factors_start = route_end 7
 
   unfoldable pub pole_start : ℕ
-  pole_start = cond (brings FACTORS factors_start) (factors_start + 5) factors_start
+  pole_start = cond (brings word.Factors factors_start) (factors_start + 5) factors_start
 
   unfoldable pub model_start : ℕ
-  model_start = cond (brings POLE pole_start) (pole_start + 3) pole_start
+  model_start = cond (brings word.Pole pole_start) (pole_start + 3) pole_start
 
   unfoldable pub open_end : ℕ
-  open_end = cond (brings MODEL model_start) (model_start + 2) model_start
+  open_end = cond (brings word.Model model_start) (model_start + 2) model_start
 
   unfoldable pub factors_fit : Fit
-  factors_fit = cond (brings FACTORS factors_start) (four_fit (factors_start + 1)) Good
+  factors_fit = cond (brings word.Factors factors_start) (four_fit (factors_start + 1)) Good
 
   unfoldable pub pole_fit : Fit
-  pole_fit = cond (brings POLE pole_start) (pair_fit (pole_start + 1)) Good
+  pole_fit = cond (brings word.Pole pole_start) (pair_fit (pole_start + 1)) Good
 
   unfoldable pub models_fit : Fit
-  models_fit = cond (brings MODEL model_start) (model_fit (model_start + 1)) Good
+  models_fit = cond (brings word.Model model_start) (model_fit (model_start + 1)) Good
 
   unfoldable pub open_fit : Fit
   open_fit = head_fit and_then factors_fit and_then pole_fit and_then models_fit and_then end_fit open_end
 
   unfoldable pub opening_factors : WrittenFactors
-  opening_factors = cond (brings FACTORS factors_start) (factors_at (factors_start + 1)) usual_factors
+  opening_factors = cond (brings word.Factors factors_start) (factors_at (factors_start + 1)) usual_factors
 
   unfoldable pub opening_pole : WrittenPole
-  opening_pole = cond (brings POLE pole_start) (pole_at (pole_start + 1)) usual_pole
+  opening_pole = cond (brings word.Pole pole_start) (pole_at (pole_start + 1)) usual_pole
 
   unfoldable pub opening_model : ℕ
-  opening_model = cond (brings MODEL model_start) (model_at (model_start + 1)) 0
+  opening_model = cond (brings word.Model model_start) (model_at (model_start + 1)) 0
 
   unfoldable pub opening_at : WrittenInputs
   opening_at =
@@ -287,24 +238,23 @@ module _ (t : Tokens) where
   -- ---- a call of desk n, what it does being the word w at place 1
 
   -- a change
-  unfoldable pub change_line : ℕ → ℕ → Line
-  change_line n w =
-      cond (eqb w SUNSPOT) (call_if (number_fit 2 and_then end_fit 3) (Change n (Sunspot (decimal_at 2))))
-      (cond (eqb w HOUR) (call_if (number_fit 2 and_then end_fit 3) (Change n (Hour (decimal_at 2))))
-      (cond (eqb w PATH) (call_if (route_fit 2 and_then end_fit (route_end 2)) (Change n (Path (route_at 2))))
-      (cond (eqb w FACTORS) (call_if (four_fit 2 and_then end_fit 6) (Change n (Psc (factors_at 2))))
-      (cond (eqb w POLE) (call_if (pair_fit 2 and_then end_fit 4) (Change n (Pole (pole_at 2))))
-      (cond (eqb w MONTH) (call_if (whole_fit 2 and_then end_fit 3) (Change n (Month (whole_at 2))))
-      (cond (eqb w MODEL) (call_if (model_fit 2 and_then end_fit 3) (Change n (Model (model_at 2))))
-      (line.Wrong (record { word = 2; wanted = Deed }))))))))
+  unfoldable pub change_line : ℕ → Word → Line
+  change_line n word.Sunspot = call_if (number_fit 2 and_then end_fit 3) (Change n (Sunspot (decimal_at 2)))
+  change_line n word.Hour = call_if (number_fit 2 and_then end_fit 3) (Change n (Hour (decimal_at 2)))
+  change_line n word.Path = call_if (route_fit 2 and_then end_fit (route_end 2)) (Change n (Path (route_at 2)))
+  change_line n word.Factors = call_if (four_fit 2 and_then end_fit 6) (Change n (Psc (factors_at 2)))
+  change_line n word.Pole = call_if (pair_fit 2 and_then end_fit 4) (Change n (Pole (pole_at 2)))
+  change_line n word.Month = call_if (whole_fit 2 and_then end_fit 3) (Change n (Month (whole_at 2)))
+  change_line n word.Model = call_if (model_fit 2 and_then end_fit 3) (Change n (Model (model_at 2)))
+  change_line n w = line.Wrong (record { word = 2; wanted = Deed })
 
   -- any call
-  unfoldable pub deed_line : ℕ → ℕ → Line
-  deed_line n w =
-      cond (eqb w BEGIN) (call_if (end_fit 2) (Begin n))
-      (cond (eqb w COMMIT) (call_if (end_fit 2) (Commit n))
-      (cond (eqb w CANCEL) (call_if (end_fit 2) (Cancel n))
-      (cond (eqb w SHOW) (call_if (end_fit 2) (Show n)) (change_line n w))))
+  unfoldable pub deed_line : ℕ → Word → Line
+  deed_line n word.Begin = call_if (end_fit 2) (Begin n)
+  deed_line n word.Commit = call_if (end_fit 2) (Commit n)
+  deed_line n word.Cancel = call_if (end_fit 2) (Cancel n)
+  deed_line n word.Show = call_if (end_fit 2) (Show n)
+  deed_line n w = change_line n w
 
   -- what it does being the word at place 1, if that is one
   abbrev pub desk_line : ℕ → Token → Line
@@ -316,12 +266,11 @@ module _ (t : Tokens) where
   -- ---- a line
 
   -- one that begins with the word w
-  unfoldable pub word_line : ℕ → Line
-  word_line w =
-      cond (eqb w OPEN) (line_if open_fit (line.Open opening_at))
-      (cond (eqb w SHOW) (call_if (end_fit 1) (Show 0))
-      (cond (eqb w TAKE) (call_if (word_fit 1 BACK and_then end_fit 2) TakeBack)
-      (line.Wrong (record { word = 1; wanted = Start }))))
+  unfoldable pub word_line : Word → Line
+  word_line word.Open = line_if open_fit (line.Open opening_at)
+  word_line word.Show = call_if (end_fit 1) (Show 0)
+  word_line word.Take = call_if (word_fit 1 word.Back and_then end_fit 2) TakeBack
+  word_line w = line.Wrong (record { word = 1; wanted = Start })
 
   -- one that begins with a number, the desk's
   unfoldable pub number_line : Decimal → Line
@@ -345,47 +294,44 @@ line_in l = let t = tokens_of l in start_line t (token_at t 0)
 -- they then are, each by itself.
 
 module _ (t : Tokens) where
-  unfoldable pub change_fit : ℕ → Fit
-  change_fit w =
-      cond (eqb w SUNSPOT) (number_fit t 2 and_then end_fit t 3)
-      (cond (eqb w HOUR) (number_fit t 2 and_then end_fit t 3)
-      (cond (eqb w PATH) (route_fit t 2 and_then end_fit t (route_end t 2))
-      (cond (eqb w FACTORS) (four_fit t 2 and_then end_fit t 6)
-      (cond (eqb w POLE) (pair_fit t 2 and_then end_fit t 4)
-      (cond (eqb w MONTH) (whole_fit t 2 and_then end_fit t 3)
-      (cond (eqb w MODEL) (model_fit t 2 and_then end_fit t 3) (Wrong (record { word = 2; wanted = Deed }))))))))
+  unfoldable pub change_fit : Word → Fit
+  change_fit word.Sunspot = number_fit t 2 and_then end_fit t 3
+  change_fit word.Hour = number_fit t 2 and_then end_fit t 3
+  change_fit word.Path = route_fit t 2 and_then end_fit t (route_end t 2)
+  change_fit word.Factors = four_fit t 2 and_then end_fit t 6
+  change_fit word.Pole = pair_fit t 2 and_then end_fit t 4
+  change_fit word.Month = whole_fit t 2 and_then end_fit t 3
+  change_fit word.Model = model_fit t 2 and_then end_fit t 3
+  change_fit w = Err (record { word = 2; wanted = Deed })
 
-  unfoldable pub change_edit : ℕ → WrittenEdit
-  change_edit w =
-      cond (eqb w SUNSPOT) (Sunspot (decimal_at t 2))
-      (cond (eqb w HOUR) (Hour (decimal_at t 2))
-      (cond (eqb w PATH) (Path (route_at t 2))
-      (cond (eqb w FACTORS) (Psc (factors_at t 2))
-      (cond (eqb w POLE) (Pole (pole_at t 2)) (cond (eqb w MONTH) (Month (whole_at t 2)) (Model (model_at t 2)))))))
+  unfoldable pub change_edit : Word → WrittenEdit
+  change_edit word.Sunspot = Sunspot (decimal_at t 2)
+  change_edit word.Hour = Hour (decimal_at t 2)
+  change_edit word.Path = Path (route_at t 2)
+  change_edit word.Factors = Psc (factors_at t 2)
+  change_edit word.Pole = Pole (pole_at t 2)
+  change_edit word.Month = Month (whole_at t 2)
+  change_edit w = Model (model_at t 2)
 
-  unfoldable pub deed_fit : ℕ → Fit
-  deed_fit w =
-      cond (eqb w BEGIN) (end_fit t 2)
-      (cond (eqb w COMMIT) (end_fit t 2)
-      (cond (eqb w CANCEL) (end_fit t 2) (cond (eqb w SHOW) (end_fit t 2) (change_fit w))))
+  unfoldable pub deed_fit : Word → Fit
+  deed_fit word.Begin = end_fit t 2
+  deed_fit word.Commit = end_fit t 2
+  deed_fit word.Cancel = end_fit t 2
+  deed_fit word.Show = end_fit t 2
+  deed_fit w = change_fit w
 
-  unfoldable pub deed_call : ℕ → ℕ → WrittenCall
-  deed_call n w =
-      cond (eqb w BEGIN) (Begin n)
-      (cond (eqb w COMMIT) (Commit n)
-      (cond (eqb w CANCEL) (Cancel n) (cond (eqb w SHOW) (Show n) (Change n (change_edit w)))))
+  unfoldable pub deed_call : ℕ → Word → WrittenCall
+  deed_call n word.Begin = Begin n
+  deed_call n word.Commit = Commit n
+  deed_call n word.Cancel = Cancel n
+  deed_call n word.Show = Show n
+  deed_call n w = Change n (change_edit w)
 
-  unfoldable pub bare_fit : ℕ → Fit
-  bare_fit w =
-      cond (eqb w SHOW) (end_fit t 1)
-      (cond (eqb w TAKE) (word_fit t 1 BACK and_then end_fit t 2) (Wrong (record { word = 1; wanted = Start })))
+  unfoldable pub bare_fit : Word → Fit
+  bare_fit word.Show = end_fit t 1
+  bare_fit word.Take = word_fit t 1 word.Back and_then end_fit t 2
+  bare_fit w = Err (record { word = 1; wanted = Start })
 
-unfoldable pub bare_call : ℕ → WrittenCall
-bare_call w = cond (eqb w SHOW) (Show 0) TakeBack
-
--- no word has the number 19
-abbrev pub word_number : Token → ℕ
-word_number (token.Word w) = w
-word_number (token.Number d) = 19
-word_number token.Other = 19
-word_number token.End = 19
+unfoldable pub bare_call : Word → WrittenCall
+bare_call word.Show = Show 0
+bare_call w = TakeBack

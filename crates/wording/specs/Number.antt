@@ -1,11 +1,10 @@
 -- A number as people write it, and the `f32` that it is. Assumes nothing.
-use Rattle.std.specs.Prelude.{ℕ, ◌+◌, ◌-◌, ◌*◌, ◌^◌, Bool, true, false, cond, ◌&&◌, List, [], ◌∷◌, ◌++◌, eqb, leb, ltb, length, Float}
+use Rattle.std.specs.Prelude.{Option, Some, None, option_and_then, ℕ, ◌+◌, ◌-◌, ◌*◌, ◌^◌, Bool, true, false, cond, ◌&&◌, List, [], ◌∷◌, ◌++◌, eqb, leb, ltb, length, Float}
+use Rattle.std.specs.Bool.{then_some}
 use Rattle.std.specs.Float.{nan, binary32}
 use Rattle.std.specs.Float.Ieee.{round}
 use Rattle.wording.specs.declared.number.Decimal.{Decimal}
 use Rattle.wording.specs.declared.number.Scan.{Scan}
-use Rattle.wording.specs.declared.number.Number.{Number}
-use Rattle.wording.specs.declared.number.Number.TheVariants.{Is, Not}
 
 -- ---- reading
 
@@ -42,15 +41,15 @@ is_unsigned l =
     all_digits (digits_in l) && ltb 0 (length (digits_in l))
     && ltb (value_from 0 (digits_in l)) (10 ^ 18) && leb (length (after_point l)) 18
 
-unfoldable pub unsigned_in : Bool → List ℕ → Number
+unfoldable pub unsigned_in : Bool → List ℕ → Option Decimal
 unsigned_in negative l =
     cond (is_unsigned l)
-    (Is (record { negative = negative; digits = value_from 0 (digits_in l); places = length (after_point l) }))
-    Not
+    (Some (record { negative = negative; digits = value_from 0 (digits_in l); places = length (after_point l) }))
+    None
 
 -- with '-' (45), '+' (43) or no sign
-unfoldable pub number_in : List ℕ → Number
-number_in [] = Not
+unfoldable pub number_in : List ℕ → Option Decimal
+number_in [] = None
 number_in (c ∷ l) = cond (eqb c 45) (unsigned_in true l) (cond (eqb c 43) (unsigned_in false l) (unsigned_in false (c ∷ l)))
 
 -- ---- its value
@@ -68,38 +67,27 @@ float_of d = cond (is_written d) (round binary32 d.negative d.digits (10 ^ d.pla
 
 -- nothing is read yet
 abbrev pub unread : Scan
-unread = record { digits = 0; places = 0; any = false; point = false; good = true }
+unread = record { digits = 0; places = 0; any = false; point = false }
 
--- no number, whatever follows
-abbrev pub spoilt : Scan
-spoilt = record { digits = 0; places = 0; any = false; point = false; good = false }
-
--- with a digit after what is read, a point after it, any byte after it
-unfoldable pub with_digit : Scan → ℕ → Scan
+-- with a digit after what is read, a point after it, any byte after it: none where it is no number,
+-- whatever follows
+abbrev pub with_digit : Scan → ℕ → Option Scan
 with_digit s x =
     cond (ltb s.digits (10 ^ 17) && ltb s.places 18)
-    (record {
-      digits = 10 * s.digits + x;
-      places = s.places + cond s.point 1 0;
-      any = true;
-      point = s.point;
-      good = s.good;
-    })
-    spoilt
+    (Some (record { digits = 10 * s.digits + x; places = s.places + cond s.point 1 0; any = true; point = s.point }))
+    None
 
-unfoldable pub with_point : Scan → Scan
+abbrev pub with_point : Scan → Option Scan
 with_point s =
-    cond s.point spoilt
-    (record { digits = s.digits; places = s.places; any = s.any; point = true; good = s.good })
+    cond s.point None (Some (record { digits = s.digits; places = s.places; any = s.any; point = true }))
 
-unfoldable pub with_byte : Scan → ℕ → Scan
-with_byte s c = cond (is_digit c) (with_digit s (c - 48)) (cond (eqb c 46) (with_point s) spoilt)
+abbrev pub with_byte : Scan → ℕ → Option Scan
+with_byte s c = cond (is_digit c) (with_digit s (c - 48)) (cond (eqb c 46) (with_point s) None)
 
-unfoldable pub scanned : Scan → List ℕ → Scan
-scanned s [] = s
-scanned s (c ∷ l) = scanned (with_byte s c) l
+unfoldable pub scanned : Scan → List ℕ → Option Scan
+scanned s [] = Some s
+scanned s (c ∷ l) = option_and_then (λ t. scanned t l) (with_byte s c)
 
 -- what is read, as a number with this sign
-unfoldable pub number_of : Bool → Scan → Number
-number_of negative s =
-    cond (s.good && s.any) (Is (record { negative = negative; digits = s.digits; places = s.places })) Not
+abbrev pub number_of : Bool → Scan → Option Decimal
+number_of negative s = then_some s.any (record { negative = negative; digits = s.digits; places = s.places })

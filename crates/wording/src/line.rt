@@ -3,13 +3,10 @@
 ghost use Rattle.std.specs.Prelude.{◌≡◌, cond, ◌+◌, ◌≤◌, ◌<◌};
 ghost use Rattle.wording.specs.Token.{token_at};
 ghost use Rattle.wording.specs.declared.line.Line.TheVariants.{Open, Wrong};
-ghost use Rattle.wording.specs.Line.{is_named, is_number, is_whole_decimal, is_whole, is_end, decimal_in, fit_unless, ◌and_then◌, usual_factors, usual_pole, line_if, call_if, word_fit, number_fit, whole_fit, model_fit, end_fit, decimal_at, whole_at, model_at, pair_fit, four_fit, route_fit, is_long_at, route_at, route_end, factors_at, pole_at, head_fit, brings, factors_start, pole_start, model_start, open_end, factors_fit, pole_fit, models_fit, open_fit, opening_factors, opening_pole, opening_model, opening_at, deed_line, number_line, word_line, start_line, line_in, change_fit, change_edit, deed_fit, deed_call, word_number, bare_fit, bare_call};
+ghost use Rattle.wording.specs.Line.{is_named, is_number, is_whole_decimal, is_whole, is_end, decimal_in, fit_unless, line_if, call_if, word_fit, number_fit, whole_fit, model_fit, end_fit, decimal_at, whole_at, model_at, pair_fit, four_fit, route_fit, is_long_at, route_at, route_end, factors_at, pole_at, head_fit, factors_start, pole_start, model_start, open_end, factors_fit, pole_fit, models_fit, open_fit, opening_factors, opening_pole, opening_model, opening_at, deed_line, number_line, word_line, start_line, line_in, change_fit, change_edit, deed_fit, deed_call, bare_fit, bare_call};
 
 use crate::number::Decimal;
-use crate::token::{
-    BACK, BEGIN, CANCEL, CCIR, COMMIT, FACTORS, FROM, HOUR, LONG, MODEL, MONTH, OPEN, PATH, POLE,
-    SHOW, SUNSPOT, TAKE, TO, Token, Tokens, URSI, token_at, tokens_in,
-};
+use crate::token::{Token, Tokens, Word, tokens_in};
 use crate::written::{
     WrittenCall, WrittenEdit, WrittenFactors, WrittenInputs, WrittenPole, WrittenRoute,
 };
@@ -21,8 +18,8 @@ pub enum Wanted {
     Start,
     // What a desk does: `begin`, `sunspot` and the others.
     Deed,
-    // The word of this number.
-    Word(u32),
+    // This word.
+    Word(Word),
     // Digits with sign and point, at most 18 of them.
     Number,
     // A whole number that fits a `u32`.
@@ -40,12 +37,8 @@ pub struct Fault {
     pub wanted: Wanted,
 }
 
-#[derive(Clone, Copy)]
-pub enum Fit {
-    Good,
-    Wrong(Fault),
-}
-
+// What a line is. A wrong one is a kind of line, and no Err: a journal's definitions and results
+// take all four alike.
 #[derive(Clone, Copy)]
 pub enum Line {
     // No word: blank, or a comment alone.
@@ -57,439 +50,575 @@ pub enum Line {
 
 // ---- one word
 
-fn is_named(w: u32, t: Token) -> bool
-    ensures { result ≡ is_named w t }
-{
-    match t {
-        Token::Word(k) => k == w,
-        Token::Number(_) => false,
-        Token::Other => false,
-        Token::End => false,
+// What stands for a number that is not there.
+const NOUGHT: Decimal = Decimal {
+    negative: false,
+    digits: 0,
+    places: 0,
+};
+
+impl Decimal {
+    // Whether it is a whole number, not below 0, that fits a `u32`.
+    fn is_whole(self) -> bool
+        ensures { result ≡ is_whole_decimal self }
+    {
+        !self.negative && self.places == 0 && self.digits < 4294967296
     }
 }
 
-fn is_number(t: Token) -> bool
-    ensures { result ≡ is_number t }
-{
-    match t {
-        Token::Word(_) => false,
-        Token::Number(_) => true,
-        Token::Other => false,
-        Token::End => false,
+impl Token {
+    fn is_named(self, word: Word) -> bool
+        ensures { result ≡ is_named word self }
+    {
+        matches!(self, Token::Word(w) if w == word)
+    }
+
+    fn is_number(self) -> bool
+        ensures { result ≡ is_number self }
+    {
+        matches!(self, Token::Number(_))
+    }
+
+    fn is_whole(self) -> bool
+        ensures { result ≡ is_whole self }
+    {
+        matches!(self, Token::Number(d) if d.is_whole())
+    }
+
+    fn is_end(self) -> bool
+        ensures { result ≡ is_end self }
+    {
+        matches!(self, Token::End)
+    }
+
+    // The number that it is, 0 where it is none.
+    fn decimal(self) -> Decimal
+        ensures { result ≡ decimal_in self }
+    {
+        match self {
+            Token::Number(d) => d,
+            _ => NOUGHT,
+        }
     }
 }
 
-// Whether it is a whole number, not below 0, that fits a `u32`.
-fn is_whole_decimal(d: Decimal) -> bool
-    ensures { result ≡ is_whole_decimal d }
-{
-    if d.negative {
-        return false;
-    }
-    if d.places != 0 {
-        return false;
-    }
-    d.digits < 4294967296
-}
-
-fn is_whole(t: Token) -> bool
-    ensures { result ≡ is_whole t }
-{
-    match t {
-        Token::Word(_) => false,
-        Token::Number(d) => is_whole_decimal(d),
-        Token::Other => false,
-        Token::End => false,
-    }
-}
-
-fn is_end(t: Token) -> bool
-    ensures { result ≡ is_end t }
-{
-    match t {
-        Token::Word(_) => false,
-        Token::Number(_) => false,
-        Token::Other => false,
-        Token::End => true,
-    }
-}
-
-// The number that a word is, 0 where it is none.
-fn decimal_in(t: Token) -> Decimal
-    ensures { result ≡ decimal_in t }
-{
-    let nought = Decimal {
-        negative: false,
-        digits: 0,
-        places: 0,
-    };
-    match t {
-        Token::Word(_) => nought,
-        Token::Number(d) => d,
-        Token::Other => nought,
-        Token::End => nought,
-    }
-}
-
-// ---- whether the word at a place fits
-
-// The word at place k is the (k + 1)th.
-fn fit_unless(good: bool, k: u32, wanted: Wanted) -> Fit
+// Nothing where the word at place k, the (k + 1)th, fits. Here and below a place is bounded by a
+// clause, and not by a type: most are sums, whose bound is proved at each call all the same.
+fn fit_unless(good: bool, k: usize, wanted: Wanted) -> Result<(), Fault>
     requires { k < 32 }
     ensures { result ≡ fit_unless good k wanted }
 {
     if good {
-        Fit::Good
-    } else {
-        Fit::Wrong(Fault {
-            word: k + 1,
-            wanted,
-        })
+        return Ok(());
     }
+    Err(Fault {
+        word: k as u32 + 1,
+        wanted,
+    })
 }
 
-// The first that does not fit.
-fn and_then(a: Fit, b: Fit) -> Fit
-    ensures { result ≡ (a and_then b) }
-{
-    match a {
-        Fit::Good => b,
-        Fit::Wrong(x) => Fit::Wrong(x),
+// What an open has where it says nothing else.
+const ONE: Decimal = Decimal {
+    negative: false,
+    digits: 1,
+    places: 0,
+};
+
+const USUAL_FACTORS: WrittenFactors = WrittenFactors {
+    e: ONE,
+    f1: ONE,
+    f2: ONE,
+    es: ONE,
+};
+
+const USUAL_POLE: WrittenPole = WrittenPole {
+    lat: Decimal {
+        negative: false,
+        digits: 785,
+        places: 1,
+    },
+    lon: Decimal {
+        negative: true,
+        digits: 69,
+        places: 0,
+    },
+};
+
+impl Tokens {
+    // ---- whether the word at place k fits
+
+    fn has(&self, k: usize, word: Word) -> bool
+        ensures { result ≡ is_named word (token_at self.now k) }
+    {
+        self.at(k).is_named(word)
     }
-}
 
-fn token(t: Tokens, k: u32) -> Token
-    ensures { result ≡ token_at t k }
-{
-    token_at(t, k as usize)
-}
+    fn word_fit(&self, k: usize, word: Word) -> Result<(), Fault>
+        requires { k < 32 }
+        ensures { result ≡ word_fit self.now k word }
+    {
+        fit_unless(self.has(k, word), k, Wanted::Word(word))
+    }
 
-fn word_fit(t: Tokens, k: u32, w: u32) -> Fit
-    requires { k < 32 }
-    ensures { result ≡ word_fit t k w }
-{
-    fit_unless(is_named(w, token(t, k)), k, Wanted::Word(w))
-}
+    fn number_fit(&self, k: usize) -> Result<(), Fault>
+        requires { k < 32 }
+        ensures { result ≡ number_fit self.now k }
+    {
+        fit_unless(self.at(k).is_number(), k, Wanted::Number)
+    }
 
-fn number_fit(t: Tokens, k: u32) -> Fit
-    requires { k < 32 }
-    ensures { result ≡ number_fit t k }
-{
-    fit_unless(is_number(token(t, k)), k, Wanted::Number)
-}
+    fn whole_fit(&self, k: usize) -> Result<(), Fault>
+        requires { k < 32 }
+        ensures { result ≡ whole_fit self.now k }
+    {
+        fit_unless(self.at(k).is_whole(), k, Wanted::Whole)
+    }
 
-fn whole_fit(t: Tokens, k: u32) -> Fit
-    requires { k < 32 }
-    ensures { result ≡ whole_fit t k }
-{
-    fit_unless(is_whole(token(t, k)), k, Wanted::Whole)
-}
+    #[tactic(auto, unfolding(crate::specs::Line::model_fit))]
+    fn model_fit(&self, k: usize) -> Result<(), Fault>
+        requires { k < 32 }
+        ensures { result ≡ model_fit self.now k }
+    {
+        if self.has(k, Word::Ccir) {
+            return Ok(());
+        }
+        fit_unless(self.has(k, Word::Ursi), k, Wanted::Model)
+    }
 
-fn end_fit(t: Tokens, k: u32) -> Fit
-    requires { k < 32 }
-    ensures { result ≡ end_fit t k }
-{
-    fit_unless(is_end(token(t, k)), k, Wanted::Nothing)
-}
+    fn end_fit(&self, k: usize) -> Result<(), Fault>
+        requires { k < 32 }
+        ensures { result ≡ end_fit self.now k }
+    {
+        fit_unless(self.at(k).is_end(), k, Wanted::Nothing)
+    }
 
-// One of two by a test, so that what calls this has no branch of its own.
-fn fit_if(yes: bool, one: Fit, other: Fit) -> Fit
-    ensures { result ≡ cond yes one other }
-{
-    if yes { one } else { other }
-}
+    // ---- the numbers at place k
 
-fn number_if(yes: bool, one: u32, other: u32) -> u32
-    ensures { result ≡ cond yes one other }
-{
-    if yes { one } else { other }
-}
+    fn decimal_at(&self, k: usize) -> Decimal
+        ensures { result ≡ decimal_at self.now k }
+    {
+        self.at(k).decimal()
+    }
 
-fn model_fit(t: Tokens, k: u32) -> Fit
-    requires { k < 32 }
-    ensures { result ≡ model_fit t k }
-{
-    let word = token(t, k);
-    let other = fit_unless(is_named(URSI, word), k, Wanted::Model);
-    fit_if(is_named(CCIR, word), Fit::Good, other)
-}
+    #[tactic(auto, unfolding(crate::specs::Line::whole_at))]
+    fn whole_at(&self, k: usize) -> u32
+        ensures { result ≡ whole_at self.now k }
+    {
+        match self.at(k) {
+            Token::Number(d) if d.is_whole() => d.digits as u32,
+            _ => 0,
+        }
+    }
 
-// ---- the numbers at a place
+    #[tactic(auto, unfolding(crate::specs::Line::model_at))]
+    fn model_at(&self, k: usize) -> u32
+        ensures { result ≡ model_at self.now k }
+    {
+        u32::from(self.has(k, Word::Ursi))
+    }
 
-fn decimal_at(t: Tokens, k: u32) -> Decimal
-    ensures { result ≡ decimal_at t k }
-{
-    decimal_in(token(t, k))
-}
+    // ---- the parts of the inputs, from place k on
 
-fn whole_at(t: Tokens, k: u32) -> u32
-    ensures { result ≡ whole_at t k }
-{
-    let d = decimal_at(t, k);
-    if is_whole(token(t, k)) {
-        d.digits as u32
-    } else {
+    #[tactic(auto, unfolding(crate::specs::Line::pair_fit))]
+    fn pair_fit(&self, k: usize) -> Result<(), Fault>
+        requires { k < 31 }
+        ensures { result ≡ pair_fit self.now k }
+    {
+        self.number_fit(k)?;
+        self.number_fit(k + 1)
+    }
+
+    #[tactic(auto, unfolding(crate::specs::Line::four_fit))]
+    fn four_fit(&self, k: usize) -> Result<(), Fault>
+        requires { k < 29 }
+        ensures { result ≡ four_fit self.now k }
+    {
+        self.pair_fit(k)?;
+        self.pair_fit(k + 2)
+    }
+
+    #[tactic(auto, unfolding(crate::specs::Line::route_fit))]
+    fn route_fit(&self, k: usize) -> Result<(), Fault>
+        requires { k < 27 }
+        ensures { result ≡ route_fit self.now k }
+    {
+        self.word_fit(k, Word::From)?;
+        self.pair_fit(k + 1)?;
+        self.word_fit(k + 3, Word::To)?;
+        self.pair_fit(k + 4)
+    }
+
+    fn is_long_at(&self, k: usize) -> bool
+        requires { k < 32 }
+        ensures { result ≡ is_long_at self.now k }
+    {
+        self.has(k + 6, Word::Long)
+    }
+
+    #[tactic(auto, unfolding(crate::specs::Line::route_at))]
+    fn route_at(&self, k: usize) -> WrittenRoute
+        requires { k < 32 }
+        ensures { result ≡ route_at self.now k }
+    {
+        WrittenRoute {
+            tlat: self.decimal_at(k + 1),
+            tlong: self.decimal_at(k + 2),
+            rlat: self.decimal_at(k + 4),
+            rlong: self.decimal_at(k + 5),
+            long_path: u32::from(self.is_long_at(k)),
+        }
+    }
+
+    // The place after it.
+    #[tactic(auto, unfolding(crate::specs::Line::route_end))]
+    fn route_end(&self, k: usize) -> usize
+        requires { k < 32 }
+        ensures place { result ≡ route_end self.now k }
+        ensures bound { result ≤ k + 7 }
+    {
+        if self.is_long_at(k) { k + 7 } else { k + 6 }
+    }
+
+    // 'E F1 F2 ES'
+    #[tactic(auto, unfolding(crate::specs::Line::factors_at))]
+    fn factors_at(&self, k: usize) -> WrittenFactors
+        requires { k < 32 }
+        ensures { result ≡ factors_at self.now k }
+    {
+        WrittenFactors {
+            e: self.decimal_at(k),
+            f1: self.decimal_at(k + 1),
+            f2: self.decimal_at(k + 2),
+            es: self.decimal_at(k + 3),
+        }
+    }
+
+    // 'LAT LON'
+    #[tactic(auto, unfolding(crate::specs::Line::pole_at))]
+    fn pole_at(&self, k: usize) -> WrittenPole
+        requires { k < 32 }
+        ensures { result ≡ pole_at self.now k }
+    {
+        WrittenPole {
+            lat: self.decimal_at(k),
+            lon: self.decimal_at(k + 1),
+        }
+    }
+
+    // ---- an open
+
+    #[tactic(auto, unfolding(crate::specs::Line::head_fit))]
+    fn head_fit(&self) -> Result<(), Fault>
+        ensures { result ≡ head_fit self.now }
+    {
+        self.word_fit(1, Word::Month)?;
+        self.whole_fit(2)?;
+        self.word_fit(3, Word::Sunspot)?;
+        self.number_fit(4)?;
+        self.word_fit(5, Word::Hour)?;
+        self.number_fit(6)?;
+        self.route_fit(7)
+    }
+
+    #[tactic(auto, unfolding(crate::specs::Line::factors_start))]
+    fn factors_start(&self) -> usize
+        ensures place { result ≡ factors_start self.now }
+        ensures bound { result ≤ 14 }
+    {
+        self.route_end(7)
+    }
+
+    #[tactic(auto, unfolding(crate::specs::Line::pole_start))]
+    fn pole_start(&self) -> usize
+        ensures place { result ≡ pole_start self.now }
+        ensures bound { result ≤ 19 }
+    {
+        let k = self.factors_start();
+        if self.has(k, Word::Factors) { k + 5 } else { k }
+    }
+
+    #[tactic(auto, unfolding(crate::specs::Line::model_start))]
+    fn model_start(&self) -> usize
+        ensures place { result ≡ model_start self.now }
+        ensures bound { result ≤ 22 }
+    {
+        let k = self.pole_start();
+        if self.has(k, Word::Pole) { k + 3 } else { k }
+    }
+
+    #[tactic(auto, unfolding(crate::specs::Line::open_end))]
+    fn open_end(&self) -> usize
+        ensures place { result ≡ open_end self.now }
+        ensures bound { result ≤ 24 }
+    {
+        let k = self.model_start();
+        if self.has(k, Word::Model) { k + 2 } else { k }
+    }
+
+    #[tactic(auto, unfolding(crate::specs::Line::factors_fit))]
+    fn factors_fit(&self) -> Result<(), Fault>
+        ensures { result ≡ factors_fit self.now }
+    {
+        let k = self.factors_start();
+        if self.has(k, Word::Factors) {
+            return self.four_fit(k + 1);
+        }
+        Ok(())
+    }
+
+    #[tactic(auto, unfolding(crate::specs::Line::pole_fit))]
+    fn pole_fit(&self) -> Result<(), Fault>
+        ensures { result ≡ pole_fit self.now }
+    {
+        let k = self.pole_start();
+        if self.has(k, Word::Pole) {
+            return self.pair_fit(k + 1);
+        }
+        Ok(())
+    }
+
+    #[tactic(auto, unfolding(crate::specs::Line::models_fit))]
+    fn models_fit(&self) -> Result<(), Fault>
+        ensures { result ≡ models_fit self.now }
+    {
+        let k = self.model_start();
+        if self.has(k, Word::Model) {
+            return self.model_fit(k + 1);
+        }
+        Ok(())
+    }
+
+    #[tactic(auto, unfolding(crate::specs::Line::open_fit))]
+    fn open_fit(&self) -> Result<(), Fault>
+        ensures { result ≡ open_fit self.now }
+    {
+        self.head_fit()?;
+        self.factors_fit()?;
+        self.pole_fit()?;
+        self.models_fit()?;
+        self.end_fit(self.open_end())
+    }
+
+    #[tactic(auto, unfolding(crate::specs::Line::opening_factors))]
+    fn opening_factors(&self) -> WrittenFactors
+        ensures { result ≡ opening_factors self.now }
+    {
+        let k = self.factors_start();
+        if self.has(k, Word::Factors) {
+            return self.factors_at(k + 1);
+        }
+        USUAL_FACTORS
+    }
+
+    #[tactic(auto, unfolding(crate::specs::Line::opening_pole))]
+    fn opening_pole(&self) -> WrittenPole
+        ensures { result ≡ opening_pole self.now }
+    {
+        let k = self.pole_start();
+        if self.has(k, Word::Pole) {
+            return self.pole_at(k + 1);
+        }
+        USUAL_POLE
+    }
+
+    #[tactic(auto, unfolding(crate::specs::Line::opening_model))]
+    fn opening_model(&self) -> u32
+        ensures { result ≡ opening_model self.now }
+    {
+        let k = self.model_start();
+        if self.has(k, Word::Model) {
+            return self.model_at(k + 1);
+        }
         0
     }
-}
 
-fn model_at(t: Tokens, k: u32) -> u32
-    ensures { result ≡ model_at t k }
-{
-    number_if(is_named(URSI, token(t, k)), 1, 0)
-}
+    #[tactic(auto, unfolding(crate::specs::Line::opening_at))]
+    fn opening_at(&self) -> WrittenInputs
+        ensures { result ≡ opening_at self.now }
+    {
+        WrittenInputs {
+            month: self.whole_at(2),
+            ssn: self.decimal_at(4),
+            gmt: self.decimal_at(6),
+            route: self.route_at(7),
+            psc: self.opening_factors(),
+            pole: self.opening_pole(),
+            model: self.opening_model(),
+        }
+    }
 
-// ---- the parts of the inputs, from a place on
+    // ---- a call of desk n, what it does being the word w: whether its words fit, and what is
+    // meant. The two are decided apart and put together once: a branch over lines is dear.
 
-fn pair_fit(t: Tokens, k: u32) -> Fit
-    requires { k < 31 }
-    ensures { result ≡ pair_fit t k }
-{
-    and_then(number_fit(t, k), number_fit(t, k + 1))
-}
+    #[tactic(auto, unfolding(crate::specs::Line::change_fit))]
+    fn change_fit(&self, w: Word) -> Result<(), Fault>
+        ensures { result ≡ change_fit self.now w }
+    {
+        match w {
+            Word::Sunspot | Word::Hour => {
+                self.number_fit(2)?;
+                self.end_fit(3)
+            }
+            Word::Path => {
+                self.route_fit(2)?;
+                self.end_fit(self.route_end(2))
+            }
+            Word::Factors => {
+                self.four_fit(2)?;
+                self.end_fit(6)
+            }
+            Word::Pole => {
+                self.pair_fit(2)?;
+                self.end_fit(4)
+            }
+            Word::Month => {
+                self.whole_fit(2)?;
+                self.end_fit(3)
+            }
+            Word::Model => {
+                self.model_fit(2)?;
+                self.end_fit(3)
+            }
+            _ => Err(Fault {
+                word: 2,
+                wanted: Wanted::Deed,
+            }),
+        }
+    }
 
-fn four_fit(t: Tokens, k: u32) -> Fit
-    requires { k < 29 }
-    ensures { result ≡ four_fit t k }
-{
-    and_then(pair_fit(t, k), pair_fit(t, k + 2))
-}
+    #[tactic(auto, unfolding(crate::specs::Line::change_edit))]
+    fn change_edit(&self, w: Word) -> WrittenEdit
+        ensures { result ≡ change_edit self.now w }
+    {
+        match w {
+            Word::Sunspot => WrittenEdit::Sunspot(self.decimal_at(2)),
+            Word::Hour => WrittenEdit::Hour(self.decimal_at(2)),
+            Word::Path => WrittenEdit::Path(self.route_at(2)),
+            Word::Factors => WrittenEdit::Psc(self.factors_at(2)),
+            Word::Pole => WrittenEdit::Pole(self.pole_at(2)),
+            Word::Month => WrittenEdit::Month(self.whole_at(2)),
+            _ => WrittenEdit::Model(self.model_at(2)),
+        }
+    }
 
-fn route_fit(t: Tokens, k: u32) -> Fit
-    requires { k < 27 }
-    ensures { result ≡ route_fit t k }
-{
-    let second = and_then(word_fit(t, k + 3, TO), pair_fit(t, k + 4));
-    let first = and_then(pair_fit(t, k + 1), second);
-    and_then(word_fit(t, k, FROM), first)
-}
+    #[tactic(auto, unfolding(crate::specs::Line::deed_fit))]
+    fn deed_fit(&self, w: Word) -> Result<(), Fault>
+        ensures { result ≡ deed_fit self.now w }
+    {
+        match w {
+            Word::Begin | Word::Commit | Word::Cancel | Word::Show => self.end_fit(2),
+            _ => self.change_fit(w),
+        }
+    }
 
-fn is_long_at(t: Tokens, k: u32) -> bool
-    requires { k < 32 }
-    ensures { result ≡ is_long_at t k }
-{
-    is_named(LONG, token(t, k + 6))
-}
+    #[tactic(auto, unfolding(crate::specs::Line::deed_call))]
+    fn deed_call(&self, n: u32, w: Word) -> WrittenCall
+        ensures { result ≡ deed_call self.now n w }
+    {
+        match w {
+            Word::Begin => WrittenCall::Begin(n),
+            Word::Commit => WrittenCall::Commit(n),
+            Word::Cancel => WrittenCall::Cancel(n),
+            Word::Show => WrittenCall::Show(n),
+            _ => WrittenCall::Change(n, self.change_edit(w)),
+        }
+    }
 
-fn route_at(t: Tokens, k: u32) -> WrittenRoute
-    requires { k < 32 }
-    ensures { result ≡ route_at t k }
-{
-    WrittenRoute {
-        tlat: decimal_at(t, k + 1),
-        tlong: decimal_at(t, k + 2),
-        rlat: decimal_at(t, k + 4),
-        rlong: decimal_at(t, k + 5),
-        long_path: number_if(is_long_at(t, k), 1, 0),
+    #[tactic(auto, using(crate::proofs::words::Fits::deed_parts))]
+    fn deed_line(&self, n: u32, w: Word) -> Line
+        ensures { result ≡ deed_line self.now n w }
+    {
+        call_if(self.deed_fit(w), self.deed_call(n, w))
+    }
+
+    // ---- a line
+
+    // One that begins with a number, the desk's.
+    #[tactic(auto, unfolding(crate::specs::Line::number_line))]
+    fn number_line(&self, d: Decimal) -> Line
+        ensures { result ≡ number_line self.now d }
+    {
+        if !d.is_whole() {
+            return wrong(1, Wanted::Start);
+        }
+        match self.at(1) {
+            Token::Word(w) => self.deed_line(d.digits as u32, w),
+            _ => wrong(2, Wanted::Deed),
+        }
+    }
+
+    // What fits and what is meant, of a line that begins with the word w and is no open.
+    #[tactic(auto, unfolding(crate::specs::Line::bare_fit))]
+    fn bare_fit(&self, w: Word) -> Result<(), Fault>
+        ensures { result ≡ bare_fit self.now w }
+    {
+        match w {
+            Word::Show => self.end_fit(1),
+            Word::Take => {
+                self.word_fit(1, Word::Back)?;
+                self.end_fit(2)
+            }
+            _ => Err(Fault {
+                word: 1,
+                wanted: Wanted::Start,
+            }),
+        }
+    }
+
+    fn open_line(&self) -> Line
+        ensures { result ≡ line_if (open_fit self.now) (Open (opening_at self.now)) }
+    {
+        line_if(self.open_fit(), Line::Open(self.opening_at()))
+    }
+
+    // One that begins with the word w.
+    #[tactic(auto, using(crate::proofs::words::Fits::bare_parts), unfolding(crate::specs::Line::word_line))]
+    fn word_line(&self, w: Word) -> Line
+        ensures { result ≡ word_line self.now w }
+    {
+        match w {
+            Word::Open => self.open_line(),
+            _ => call_if(self.bare_fit(w), bare_call(w)),
+        }
+    }
+
+    // By its first word.
+    fn start_line(&self, first: Token) -> Line
+        ensures { result ≡ start_line self.now first }
+    {
+        match first {
+            Token::End => Line::Blank,
+            Token::Word(w) => self.word_line(w),
+            Token::Number(d) => self.number_line(d),
+            Token::Other => wrong(1, Wanted::Start),
+        }
     }
 }
 
-// The place after it.
-fn route_end(t: Tokens, k: u32) -> u32
-    requires { k < 32 }
-    ensures place { result ≡ route_end t k }
-    ensures bound { result ≤ k + 7 }
+#[tactic(auto, unfolding(crate::specs::Line::bare_call))]
+fn bare_call(w: Word) -> WrittenCall
+    ensures { result ≡ bare_call w }
 {
-    number_if(is_long_at(t, k), k + 7, k + 6)
-}
-
-// 'E F1 F2 ES'
-fn factors_at(t: Tokens, k: u32) -> WrittenFactors
-    requires { k < 32 }
-    ensures { result ≡ factors_at t k }
-{
-    WrittenFactors {
-        e: decimal_at(t, k),
-        f1: decimal_at(t, k + 1),
-        f2: decimal_at(t, k + 2),
-        es: decimal_at(t, k + 3),
+    match w {
+        Word::Show => WrittenCall::Show(0),
+        _ => WrittenCall::TakeBack,
     }
 }
 
-// 'LAT LON'
-fn pole_at(t: Tokens, k: u32) -> WrittenPole
-    requires { k < 32 }
-    ensures { result ≡ pole_at t k }
+// A line, if all its words fit.
+fn line_if(fit: Result<(), Fault>, line: Line) -> Line
+    ensures { result ≡ line_if fit line }
 {
-    WrittenPole {
-        lat: decimal_at(t, k),
-        lon: decimal_at(t, k + 1),
+    match fit {
+        Ok(()) => line,
+        Err(fault) => Line::Wrong(fault),
     }
 }
 
-// ---- an open
-
-fn usual_factors() -> WrittenFactors
-    ensures { result ≡ usual_factors }
+fn call_if(fit: Result<(), Fault>, call: WrittenCall) -> Line
+    ensures { result ≡ call_if fit call }
 {
-    let one = Decimal {
-        negative: false,
-        digits: 1,
-        places: 0,
-    };
-    WrittenFactors {
-        e: one,
-        f1: one,
-        f2: one,
-        es: one,
-    }
-}
-
-fn usual_pole() -> WrittenPole
-    ensures { result ≡ usual_pole }
-{
-    WrittenPole {
-        lat: Decimal {
-            negative: false,
-            digits: 785,
-            places: 1,
-        },
-        lon: Decimal {
-            negative: true,
-            digits: 69,
-            places: 0,
-        },
-    }
-}
-
-fn head_fit(t: Tokens) -> Fit
-    ensures { result ≡ head_fit t }
-{
-    let hour = and_then(
-        word_fit(t, 5, HOUR),
-        and_then(number_fit(t, 6), route_fit(t, 7)),
-    );
-    let sunspot = and_then(word_fit(t, 3, SUNSPOT), and_then(number_fit(t, 4), hour));
-    and_then(word_fit(t, 1, MONTH), and_then(whole_fit(t, 2), sunspot))
-}
-
-// Whether the word at a place brings an optional part.
-fn brings(t: Tokens, w: u32, k: u32) -> bool
-    ensures { result ≡ brings t w k }
-{
-    is_named(w, token(t, k))
-}
-
-fn factors_start(t: Tokens) -> u32
-    ensures place { result ≡ factors_start t }
-    ensures bound { result ≤ 14 }
-{
-    route_end(t, 7)
-}
-
-fn pole_start(t: Tokens) -> u32
-    ensures place { result ≡ pole_start t }
-    ensures bound { result ≤ 19 }
-{
-    let k = factors_start(t);
-    number_if(brings(t, FACTORS, k), k + 5, k)
-}
-
-fn model_start(t: Tokens) -> u32
-    ensures place { result ≡ model_start t }
-    ensures bound { result ≤ 22 }
-{
-    let k = pole_start(t);
-    number_if(brings(t, POLE, k), k + 3, k)
-}
-
-fn open_end(t: Tokens) -> u32
-    ensures place { result ≡ open_end t }
-    ensures bound { result ≤ 24 }
-{
-    let k = model_start(t);
-    number_if(brings(t, MODEL, k), k + 2, k)
-}
-
-fn factors_fit(t: Tokens) -> Fit
-    ensures { result ≡ factors_fit t }
-{
-    let k = factors_start(t);
-    fit_if(brings(t, FACTORS, k), four_fit(t, k + 1), Fit::Good)
-}
-
-fn pole_fit(t: Tokens) -> Fit
-    ensures { result ≡ pole_fit t }
-{
-    let k = pole_start(t);
-    fit_if(brings(t, POLE, k), pair_fit(t, k + 1), Fit::Good)
-}
-
-fn models_fit(t: Tokens) -> Fit
-    ensures { result ≡ models_fit t }
-{
-    let k = model_start(t);
-    fit_if(brings(t, MODEL, k), model_fit(t, k + 1), Fit::Good)
-}
-
-fn open_fit(t: Tokens) -> Fit
-    ensures { result ≡ open_fit t }
-{
-    let end = and_then(models_fit(t), end_fit(t, open_end(t)));
-    and_then(
-        head_fit(t),
-        and_then(factors_fit(t), and_then(pole_fit(t), end)),
-    )
-}
-
-fn opening_factors(t: Tokens) -> WrittenFactors
-    ensures { result ≡ opening_factors t }
-{
-    let k = factors_start(t);
-    let usual = usual_factors();
-    let written = factors_at(t, k + 1);
-    if brings(t, FACTORS, k) {
-        written
-    } else {
-        usual
-    }
-}
-
-fn opening_pole(t: Tokens) -> WrittenPole
-    ensures { result ≡ opening_pole t }
-{
-    let k = pole_start(t);
-    let usual = usual_pole();
-    let written = pole_at(t, k + 1);
-    if brings(t, POLE, k) { written } else { usual }
-}
-
-fn opening_model(t: Tokens) -> u32
-    ensures { result ≡ opening_model t }
-{
-    let k = model_start(t);
-    number_if(brings(t, MODEL, k), model_at(t, k + 1), 0)
-}
-
-fn opening_at(t: Tokens) -> WrittenInputs
-    ensures { result ≡ opening_at t }
-{
-    WrittenInputs {
-        month: whole_at(t, 2),
-        ssn: decimal_at(t, 4),
-        gmt: decimal_at(t, 6),
-        route: route_at(t, 7),
-        psc: opening_factors(t),
-        pole: opening_pole(t),
-        model: opening_model(t),
-    }
-}
-
-// ---- a line, if all its words fit
-
-fn line_if(f: Fit, l: Line) -> Line
-    ensures { result ≡ line_if f l }
-{
-    match f {
-        Fit::Good => l,
-        Fit::Wrong(x) => Line::Wrong(x),
-    }
-}
-
-fn call_if(f: Fit, c: WrittenCall) -> Line
-    ensures { result ≡ call_if f c }
-{
-    line_if(f, Line::Call(c))
+    line_if(fit, Line::Call(call))
 }
 
 fn wrong(word: u32, wanted: Wanted) -> Line
@@ -498,185 +627,11 @@ fn wrong(word: u32, wanted: Wanted) -> Line
     Line::Wrong(Fault { word, wanted })
 }
 
-// Whether the words of a change fit, what it changes being the word w. What fits and what is meant
-// are decided apart and put together once: a branch over lines is dear.
-fn change_fit(t: Tokens, w: u32) -> Fit
-    ensures { result ≡ change_fit t w }
-{
-    if w == SUNSPOT {
-        return and_then(number_fit(t, 2), end_fit(t, 3));
-    }
-    if w == HOUR {
-        return and_then(number_fit(t, 2), end_fit(t, 3));
-    }
-    if w == PATH {
-        return and_then(route_fit(t, 2), end_fit(t, route_end(t, 2)));
-    }
-    if w == FACTORS {
-        return and_then(four_fit(t, 2), end_fit(t, 6));
-    }
-    if w == POLE {
-        return and_then(pair_fit(t, 2), end_fit(t, 4));
-    }
-    if w == MONTH {
-        return and_then(whole_fit(t, 2), end_fit(t, 3));
-    }
-    if w == MODEL {
-        return and_then(model_fit(t, 2), end_fit(t, 3));
-    }
-    Fit::Wrong(Fault {
-        word: 2,
-        wanted: Wanted::Deed,
-    })
-}
-
-fn change_edit(t: Tokens, w: u32) -> WrittenEdit
-    ensures { result ≡ change_edit t w }
-{
-    if w == SUNSPOT {
-        return WrittenEdit::Sunspot(decimal_at(t, 2));
-    }
-    if w == HOUR {
-        return WrittenEdit::Hour(decimal_at(t, 2));
-    }
-    if w == PATH {
-        return WrittenEdit::Path(route_at(t, 2));
-    }
-    if w == FACTORS {
-        return WrittenEdit::Psc(factors_at(t, 2));
-    }
-    if w == POLE {
-        return WrittenEdit::Pole(pole_at(t, 2));
-    }
-    if w == MONTH {
-        return WrittenEdit::Month(whole_at(t, 2));
-    }
-    WrittenEdit::Model(model_at(t, 2))
-}
-
-fn deed_fit(t: Tokens, w: u32) -> Fit
-    ensures { result ≡ deed_fit t w }
-{
-    let end = end_fit(t, 2);
-    if w == BEGIN {
-        return end;
-    }
-    if w == COMMIT {
-        return end;
-    }
-    if w == CANCEL {
-        return end;
-    }
-    if w == SHOW {
-        return end;
-    }
-    change_fit(t, w)
-}
-
-fn deed_call(t: Tokens, n: u32, w: u32) -> WrittenCall
-    ensures { result ≡ deed_call t n w }
-{
-    if w == BEGIN {
-        return WrittenCall::Begin(n);
-    }
-    if w == COMMIT {
-        return WrittenCall::Commit(n);
-    }
-    if w == CANCEL {
-        return WrittenCall::Cancel(n);
-    }
-    if w == SHOW {
-        return WrittenCall::Show(n);
-    }
-    WrittenCall::Change(n, change_edit(t, w))
-}
-
-// Of desk n, what it does being the word w.
-fn deed_line(t: Tokens, n: u32, w: u32) -> Line
-    ensures { result ≡ deed_line t n w }
-{
-    call_if(deed_fit(t, w), deed_call(t, n, w))
-}
-
-// A word's number, and one that no word has where it is none.
-fn word_number(t: Token) -> u32
-    ensures { result ≡ word_number t }
-{
-    match t {
-        Token::Word(w) => w,
-        Token::Number(_) => 19,
-        Token::Other => 19,
-        Token::End => 19,
-    }
-}
-
-// A line that begins with a number, the desk's.
-fn number_line(t: Tokens, d: Decimal) -> Line
-    ensures { result ≡ number_line t d }
-{
-    if is_whole_decimal(d) {
-        return deed_line(t, d.digits as u32, word_number(token(t, 1)));
-    }
-    wrong(1, Wanted::Start)
-}
-
-// What fits and what is meant, of a line that begins with a word and is no open.
-fn bare_fit(t: Tokens, w: u32) -> Fit
-    ensures { result ≡ bare_fit t w }
-{
-    if w == SHOW {
-        return end_fit(t, 1);
-    }
-    if w == TAKE {
-        return and_then(word_fit(t, 1, BACK), end_fit(t, 2));
-    }
-    Fit::Wrong(Fault {
-        word: 1,
-        wanted: Wanted::Start,
-    })
-}
-
-fn bare_call(w: u32) -> WrittenCall
-    ensures { result ≡ bare_call w }
-{
-    if w == SHOW {
-        WrittenCall::Show(0)
-    } else {
-        WrittenCall::TakeBack
-    }
-}
-
-fn open_line(t: Tokens) -> Line
-    ensures { result ≡ line_if (open_fit t) (Open (opening_at t)) }
-{
-    line_if(open_fit(t), Line::Open(opening_at(t)))
-}
-
-// A line that begins with the word w.
-fn word_line(t: Tokens, w: u32) -> Line
-    ensures { result ≡ word_line t w }
-{
-    if w == OPEN {
-        return open_line(t);
-    }
-    call_if(bare_fit(t, w), bare_call(w))
-}
-
-fn start_line(t: Tokens, first: Token) -> Line
-    ensures { result ≡ start_line t first }
-{
-    match first {
-        Token::End => Line::Blank,
-        Token::Word(w) => word_line(t, w),
-        Token::Number(d) => number_line(t, d),
-        Token::Other => wrong(1, Wanted::Start),
-    }
-}
-
 // What a line of a journal says.
+#[tactic(auto, unfolding(crate::specs::Line::line_in))]
 pub fn line_in(line: &[u8]) -> Line
     ensures { result ≡ line_in line.now }
 {
     let t = tokens_in(line);
-    start_line(t, token(t, 0))
+    t.start_line(t.at(0))
 }

@@ -1,11 +1,12 @@
 // A number as people write it: digits with a sign and a point.
-ghost use Rattle.std.specs.Prelude.{◌≡◌, Bool, cond, length, drop};
+ghost use Rattle.std.specs.Prelude.{◌≡◌, Bool, cond};
 ghost use Prim.Native.Nat.{◌+◌, ◌*◌, ◌^◌, ◌≤◌, ◌<◌, compare};
 ghost use Rattle.std.specs.Float.{binary32};
 ghost use Rattle.std.specs.Float.Ieee.{nearest, of_bits, round};
-ghost use Rattle.wording.specs.Number.{number_in, float_of, is_digit, unsigned_in, unread, spoilt, with_digit, with_point, with_byte, scanned, number_of};
+ghost use Rattle.wording.specs.Number.{number_in, is_written, float_of, unsigned_in, unread, with_digit, with_point, with_byte, scanned};
 
 use base::number::float32;
+use std::cmp::Ordering;
 
 // As written: all digits as one whole number, and how many of them stand after the point.
 #[derive(Clone, Copy)]
@@ -15,170 +16,108 @@ pub struct Decimal {
     pub places: u32,
 }
 
-#[derive(Clone, Copy)]
-pub enum Number {
-    Is(Decimal),
-    // No number, or one of more than 18 digits.
-    Not,
+impl Decimal {
+    // Whether a word can be read as it: at most 18 digits, at most 18 of them after the point.
+    fn is_written(self) -> bool
+        ensures { result ≡ is_written self }
+    {
+        self.digits < 1000000000000000000 && self.places <= 18
+    }
 }
 
 // What is read of a number: its digits, how many of them stand after the point, whether there is
-// any, whether there was a point, and whether it can be a number at all.
+// any, and whether there was a point.
 #[derive(Clone, Copy)]
 struct Scan {
     digits: u64,
     places: u32,
     any: bool,
     point: bool,
-    good: bool,
 }
 
-// No number, whatever follows.
-fn spoil() -> Scan
-    ensures { result ≡ spoilt }
-{
-    Scan {
-        digits: 0,
-        places: 0,
-        any: false,
-        point: false,
-        good: false,
-    }
-}
+// Nothing is read yet.
+const UNREAD: Scan = Scan {
+    digits: 0,
+    places: 0,
+    any: false,
+    point: false,
+};
 
-// '0' to '9'.
-fn is_digit(c: u8) -> bool
-    ensures { result ≡ is_digit c }
-{
-    if c < 48 {
-        return false;
+impl Scan {
+    // With the digit x after what is read, unless that is too many.
+    fn with_digit(self, x: u8) -> Option<Scan>
+        requires { x ≤ 9 }
+        ensures { result ≡ with_digit self x }
+    {
+        if self.digits >= 100000000000000000 || self.places >= 18 {
+            return None;
+        }
+        Some(Scan {
+            digits: 10 * self.digits + u64::from(x),
+            places: self.places + u32::from(self.point),
+            any: true,
+            ..self
+        })
     }
-    c <= 57
-}
 
-// With the digit x after what is read; spoilt where that is too many.
-fn with_digit(s: Scan, x: u64) -> Scan
-    requires { x ≤ 9 }
-    ensures { result ≡ with_digit s x }
-{
-    if s.digits >= 100000000000000000 {
-        return spoil();
+    // With a point after what is read, unless there was one.
+    fn with_point(self) -> Option<Scan>
+        ensures { result ≡ with_point self }
+    {
+        if self.point {
+            return None;
+        }
+        Some(Scan {
+            point: true,
+            ..self
+        })
     }
-    if s.places >= 18 {
-        return spoil();
-    }
-    let places = if s.point { s.places + 1 } else { s.places };
-    Scan {
-        digits: 10 * s.digits + x,
-        places: places,
-        any: true,
-        point: s.point,
-        good: s.good,
-    }
-}
 
-// With a point after what is read; spoilt where there was one.
-fn with_point(s: Scan) -> Scan
-    ensures { result ≡ with_point s }
-{
-    if s.point {
-        return spoil();
-    }
-    Scan {
-        digits: s.digits,
-        places: s.places,
-        any: s.any,
-        point: true,
-        good: s.good,
-    }
-}
-
-// With the byte c after what is read; spoilt where it is no digit and no point.
-fn with_byte(s: Scan, c: u8) -> Scan
-    ensures { result ≡ with_byte s c }
-{
-    if is_digit(c) {
-        return with_digit(s, (c - 48) as u64);
-    }
-    if c == 46 {
-        return with_point(s);
-    }
-    spoil()
-}
-
-// What is read of the bytes from `from` on.
-fn scan_from(word: &[u8], from: usize) -> Scan
-    requires { from ≤ length word.now }
-    ensures { result ≡ scanned unread (drop from word.now) }
-{
-    let mut s = Scan {
-        digits: 0,
-        places: 0,
-        any: false,
-        point: false,
-        good: true,
-    };
-    let mut i = from;
-    while i < word.len() {
-        s = with_byte(s, word[i]);
-        i += 1;
-    }
-    s
-}
-
-// What is read, as a number with this sign: there has to be a digit.
-fn number_of(negative: bool, s: Scan) -> Number
-    ensures { result ≡ number_of negative s }
-{
-    if s.good {
-        if s.any {
-            return Number::Is(Decimal {
-                negative: negative,
-                digits: s.digits,
-                places: s.places,
-            });
+    // With the byte c after what is read: a digit or the point.
+    fn with_byte(self, c: u8) -> Option<Scan>
+        ensures { result ≡ with_byte self c }
+    {
+        match c {
+            b'0'..=b'9' => self.with_digit(c - b'0'),
+            b'.' => self.with_point(),
+            _ => None,
         }
     }
-    Number::Not
 }
 
-// What the bytes from `from` on, which have no sign, are as a number with this one.
-fn unsigned_in(negative: bool, word: &[u8], from: usize) -> Number
-    requires { from ≤ length word.now }
-    ensures { result ≡ unsigned_in negative (drop from word.now) }
+// What is read of bytes that make a number so far.
+fn scanned(word: &[u8]) -> Option<Scan>
+    ensures { result ≡ scanned unread word.now }
 {
-    number_of(negative, scan_from(word, from))
+    let mut s = UNREAD;
+    for c in word {
+        s = s.with_byte(*c)?;
+    }
+    Some(s)
+}
+
+// The number without its sign: there has to be a digit.
+fn unsigned_in(negative: bool, word: &[u8]) -> Option<Decimal>
+    ensures { result ≡ unsigned_in negative word.now }
+{
+    let s = scanned(word)?;
+    s.any.then_some(Decimal {
+        negative,
+        digits: s.digits,
+        places: s.places,
+    })
 }
 
 // What a word is as a number: digits, one at least and at most 18, zeros in front not counted, with
 // a point and a sign or none.
-pub fn number_in(word: &[u8]) -> Number
+pub fn number_in(word: &[u8]) -> Option<Decimal>
     ensures { result ≡ number_in word.now }
 {
-    if word.len() == 0 {
-        return Number::Not;
+    match word {
+        [b'-', digits @ ..] => unsigned_in(true, digits),
+        [b'+', digits @ ..] => unsigned_in(false, digits),
+        digits => unsigned_in(false, digits),
     }
-    if word[0] == 45 {
-        return unsigned_in(true, word, 1);
-    }
-    if word[0] == 43 {
-        return unsigned_in(false, word, 1);
-    }
-    unsigned_in(false, word, 0)
-}
-
-// 10^k.
-fn power_of_ten(k: u32) -> u64
-    requires { k ≤ 18 }
-    ensures { result ≡ 10 ^ k }
-{
-    let mut p: u64 = 1;
-    let mut i: u32 = 0;
-    while i < k {
-        p *= 10;
-        i += 1;
-    }
-    p
 }
 
 // q + rest / by to the nearest whole number, a tie to the even one.
@@ -186,13 +125,11 @@ fn to_nearest(q: u64, rest: u64, by: u64) -> u64
     requires { (q < 2 ^ 24) × (rest < 2 ^ 63) }
     ensures { result ≡ nearest q (compare (rest * 2) by) }
 {
-    if rest * 2 < by {
-        return q;
+    match (rest * 2).cmp(&by) {
+        Ordering::Less => q,
+        Ordering::Greater => q + 1,
+        Ordering::Equal => q + q % 2,
     }
-    if rest * 2 > by {
-        return q + 1;
-    }
-    q + q % 2
 }
 
 // The bits of the `f32` nearest to n / d, for either sign.
@@ -204,6 +141,7 @@ fn magnitude(n: u64, d: u64) -> u64
     if n == 0 {
         return 0;
     }
+    // Two `while`s that count no index, but double until the quotient has its digits.
     // n / d is n / by times 2^k of the smallest `f32`: `by` is doubled until n / by has no more
     // than the 24 binary digits that are kept,
     let mut by = d;
@@ -239,12 +177,9 @@ fn sign_bit(negative: bool) -> u64
 pub fn float_of(d: Decimal) -> f32
     ensures { result ≡ float_of d }
 {
-    if d.digits >= 1000000000000000000 {
-        return 0.0 / 0.0;
+    if !d.is_written() {
+        return f32::NAN;
     }
-    if d.places > 18 {
-        return 0.0 / 0.0;
-    }
-    let bits = sign_bit(d.negative) + magnitude(d.digits, power_of_ten(d.places));
+    let bits = sign_bit(d.negative) + magnitude(d.digits, 10u64.pow(d.places));
     float32(bits as u32)
 }

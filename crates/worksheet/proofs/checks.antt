@@ -1,5 +1,3 @@
--- What the functions' proofs share: verdicts by tests, showings by their checks, calls by their
--- cases.
-pub mod Verdicts
+-- What the functions' proofs share: showings that are refused, calls by their cases.
 pub mod Showings
 pub mod Makings

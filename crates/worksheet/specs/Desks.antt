@@ -1,17 +1,14 @@
 -- Document 01, At the desks: what open, begin, change, commit, cancel and take back give, paragraph
 -- by paragraph. Assumes nothing.
-use Rattle.std.specs.Prelude.{ℕ, ◌*◌, Bool, cond, ◌&&◌, List, eqb, leb}
+use Rattle.std.specs.Prelude.{ℕ, ◌*◌, Bool, cond, ◌&&◌, List, eqb, leb, Err, None, Ok, Option, Some}
 use Rattle.base.specs.declared.refusal.Refusal.TheVariants.{Desk, Drafted, NoDraft, Stale as IsStale, NothingEarlier}
-use Rattle.base.specs.declared.refusal.Verdict.{Verdict}
-use Rattle.base.specs.declared.refusal.Verdict.TheVariants.{Accepted, Refused}
+use Rattle.base.specs.Refusal.{Verdict}
 use Rattle.maps.specs.declared.inputs.Inputs.{Inputs}
 use Rattle.base.specs.Words.{word_at}
 use Rattle.maps.specs.Inputs.{inputs_from, word_of_sheet}
 use Rattle.worksheet.specs.declared.inputs.Edit.{Edit}
 use Rattle.worksheet.specs.declared.desks.Draft.{Draft}
 use Rattle.worksheet.specs.declared.desks.Draft.TheVariants.{Closed, Fresh, Stale}
-use Rattle.worksheet.specs.declared.desks.Earlier.{Earlier}
-use Rattle.worksheet.specs.declared.desks.Earlier.TheVariants.{Nothing, Set}
 use Rattle.worksheet.specs.declared.desks.Worksheet.{Worksheet}
 use Rattle.worksheet.specs.declared.desks.Outcome.{Outcome}
 use Rattle.base.specs.Refusal.{refuse_unless, ◌then◌, written_over}
@@ -47,7 +44,7 @@ stale_of (Fresh x) = Stale x
 stale_of (Stale x) = Stale x
 
 -- the worksheet with new inputs and a new earlier set, where every open draft turns stale
-unfoldable pub moved_to : Inputs → Earlier → Worksheet → Worksheet
+unfoldable pub moved_to : Inputs → Option Inputs → Worksheet → Worksheet
 moved_to i e w =
     record {
       inputs = i;
@@ -73,32 +70,32 @@ desk_check n = refuse_unless (is_desk n) Desk
 
 -- '15 (draft already open)'
 unfoldable pub closed_check : Draft → Verdict
-closed_check Closed = Accepted
-closed_check (Fresh x) = Refused Drafted
-closed_check (Stale x) = Refused Drafted
+closed_check Closed = Ok tt
+closed_check (Fresh x) = Err Drafted
+closed_check (Stale x) = Err Drafted
 
 -- '16 (no draft)'
 unfoldable pub draft_check : Draft → Verdict
-draft_check Closed = Refused NoDraft
-draft_check (Fresh x) = Accepted
-draft_check (Stale x) = Accepted
+draft_check Closed = Err NoDraft
+draft_check (Fresh x) = Ok tt
+draft_check (Stale x) = Ok tt
 
 -- '17 (stale; the draft stays open)'
 unfoldable pub fresh_check : Draft → Verdict
-fresh_check Closed = Accepted
-fresh_check (Fresh x) = Accepted
-fresh_check (Stale x) = Refused IsStale
+fresh_check Closed = Ok tt
+fresh_check (Fresh x) = Ok tt
+fresh_check (Stale x) = Err IsStale
 
 -- '18 (no earlier set)'
-unfoldable pub earlier_check : Earlier → Verdict
-earlier_check Nothing = Refused NothingEarlier
-earlier_check (Set i) = Accepted
+unfoldable pub earlier_check : Option Inputs → Verdict
+earlier_check None = Err NothingEarlier
+earlier_check (Some i) = Ok tt
 
 -- ---- Open
 
 -- 'All desks are closed and nothing can be taken back'
 unfoldable pub fresh_sheet : Inputs → Worksheet
-fresh_sheet i = record { inputs = i; earlier = Nothing; d1 = Closed; d2 = Closed; d3 = Closed; d4 = Closed }
+fresh_sheet i = record { inputs = i; earlier = None; d1 = Closed; d2 = Closed; d3 = Closed; d4 = Closed }
 
 -- 'takes inputs; a refused one gives no worksheet': of what stands beside a refusal its own showing
 -- is refused by the same field (`open_refused`), which is what `sheet` and `jt_sheet` go by
@@ -150,7 +147,7 @@ commit_check n w = desk_check n then draft_check (draft_at n w) then fresh_check
 unfoldable pub commit_of : ℕ → Worksheet → Outcome
 commit_of n w =
     outcome (commit_check n w)
-    (with_draft n Closed (moved_to (inputs_of (draft_at n w) w.inputs) (Set w.inputs) w))
+    (with_draft n Closed (moved_to (inputs_of (draft_at n w) w.inputs) (Some w.inputs) w))
     w
 
 -- ---- Cancel
@@ -169,20 +166,20 @@ cancel_of n w = outcome (cancel_check n w) (without_draft n w) w
 -- ---- Take back
 
 -- the earlier set; i where there is none
-unfoldable pub set_of : Earlier → Inputs → Inputs
-set_of Nothing i = i
-set_of (Set x) i = x
+unfoldable pub set_of : Option Inputs → Inputs → Inputs
+set_of None i = i
+set_of (Some x) i = x
 
 -- 'The earlier set returns, none is left, every open draft turns stale'
 unfoldable pub take_back_of : Worksheet → Outcome
-take_back_of w = outcome (earlier_check w.earlier) (moved_to (set_of w.earlier w.inputs) Nothing w) w
+take_back_of w = outcome (earlier_check w.earlier) (moved_to (set_of w.earlier w.inputs) None w) w
 
 -- ---- to say that all sets of inputs of a worksheet have a property
 
 module _ (P : Inputs → Type 0) where
-  abbrev pub EarlierHas : Earlier → Type 0
-  EarlierHas Nothing = Unit
-  EarlierHas (Set i) = P i
+  abbrev pub EarlierHas : Option Inputs → Type 0
+  EarlierHas None = Unit
+  EarlierHas (Some i) = P i
 
   abbrev pub DraftHas : Draft → Type 0
   DraftHas Closed = Unit

@@ -1,14 +1,11 @@
 -- The inputs in force: a fold over a run's entries, from the worksheet at its start; no draft is
 -- looked at. For the insurer's line. Assumes nothing.
-use Rattle.std.specs.Prelude.{ℕ, Bool, true, false, cond, not, ◌&&◌, ◌≡◌, eqb, Float}
-use mathlib.Core.List.{List, [], ◌∷◌, ◌++◌, reverse, Memᴰ}
-use Rattle.base.specs.declared.refusal.Verdict.TheVariants.{Accepted}
+use Rattle.std.specs.Prelude.{ℕ, Bool, true, false, cond, not, ◌&&◌, ◌≡◌, eqb, Float, None, Ok, Option, Some, List, [], ◌∷◌, ◌++◌, reverse}
+use mathlib.Core.List.{Memᴰ}
 use Rattle.base.specs.Files.{files_check}
 use Rattle.maps.specs.declared.inputs.Inputs.{Inputs}
 use Rattle.maps.specs.Figures.{sheet_path, figures_of}
 use Rattle.worksheet.specs.declared.inputs.Edit.{Edit}
-use Rattle.worksheet.specs.declared.desks.Earlier.{Earlier}
-use Rattle.worksheet.specs.declared.desks.Earlier.TheVariants.{Nothing, Set}
 use Rattle.worksheet.specs.declared.desks.Worksheet.{Worksheet}
 use Rattle.worksheet.specs.Inputs.{edited}
 use Rattle.worksheet.specs.Desks.{set_of}
@@ -67,9 +64,9 @@ pub record Force : Type 0 where
 abbrev pub standing_at : Inputs → Standing
 standing_at i = record { start = i; commits = [] }
 
-abbrev pub standing_before : Earlier → List Standing
-standing_before Nothing = []
-standing_before (Set i) = standing_at i ∷ []
+abbrev pub standing_before : Option Inputs → List Standing
+standing_before None = []
+standing_before (Some i) = standing_at i ∷ []
 
 -- at the start: the worksheet's inputs and its earlier set
 abbrev pub force_in : Worksheet → Force
@@ -158,9 +155,9 @@ module _ (source : Source) where
   -- a showing's number of points and its whole figures are those of one set of inputs and of the two
   -- files that the source gives them
   pub record FiguresOf (i : Inputs) (count : ℕ) (figures : List Float) : Type 0 where
-    pub lent : (source i).verdict ≡ Accepted
+    pub lent : (source i).verdict ≡ Ok tt
     -- the two have passed their checks
-    pub checked : files_check (source i).f2 (source i).file ≡ Accepted
+    pub checked : files_check (source i).f2 (source i).file ≡ Ok tt
     pub points : count ≡ (sheet_path i).count
     pub whole : figures ≡ figures_of (source i).f2 (source i).file i
 

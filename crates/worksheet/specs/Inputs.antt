@@ -3,7 +3,7 @@
 use Rattle.std.specs.Prelude.{ℕ, Float}
 use Rattle.maps.specs.declared.inputs.MagneticPole.{MagneticPole}
 use Rattle.base.specs.declared.refusal.Refusal.TheVariants.{Sunspot as BadSunspot, Factor, Flag}
-use Rattle.base.specs.declared.refusal.Verdict.{Verdict}
+use Rattle.base.specs.Refusal.{Verdict}
 use Rattle.base.specs.Refusal.{refuse_unless, ◌then◌}
 use Rattle.base.specs.Ranges.{is_to, is_bit, month_check, hour_check, latitude_check, longitude_check, model_check}
 use Rattle.base.specs.Single.{decimal}

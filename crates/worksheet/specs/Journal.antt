@@ -1,11 +1,9 @@
 -- Document 01, Demand 3: calls and their answers, the run of a list of calls, the shorter list, and
 -- the claim about both runs. Assumes nothing.
-use Rattle.std.specs.Prelude.{ℕ, Bool, true, false, cond, not, ◌&&◌, ◌||◌, ◌⊎◌, ◌≡◌, eqb, Float}
-use mathlib.Core.List.{List, [], ◌∷◌, ◌++◌, reverse, Memᴰ}
-use Rattle.base.specs.declared.refusal.Verdict.{Verdict}
-use Rattle.base.specs.declared.refusal.Verdict.TheVariants.{Accepted, Refused}
-use Rattle.maps.specs.declared.figures.Shown.{Shown}
-use Rattle.maps.specs.declared.figures.Shown.TheVariants.{Points, Refused as NotShown}
+use Rattle.base.specs.declared.refusal.Refusal.{Refusal}
+use Rattle.std.specs.Prelude.{ℕ, Bool, true, false, cond, not, ◌&&◌, ◌||◌, ◌⊎◌, ◌≡◌, eqb, Float, Err, Ok, Result, List, [], ◌∷◌, ◌++◌, reverse}
+use mathlib.Core.List.{Memᴰ}
+use Rattle.base.specs.Refusal.{Verdict}
 use Rattle.worksheet.specs.declared.inputs.Edit.{Edit}
 use Rattle.worksheet.specs.declared.desks.Worksheet.{Worksheet}
 use Rattle.worksheet.specs.declared.desks.Outcome.{Outcome}
@@ -27,7 +25,7 @@ pub data Call : Type 0 where
 -- refusal's case stands for its number and place (`report_of`)
 pub data Answer : Type 0 where
   told : Verdict → Answer
-  shown : Shown → (after : List Float) → Answer
+  shown : Result ℕ Refusal → (after : List Float) → Answer
 
 -- a call with the answer that it got
 pub record Entry : Type 0 where
@@ -36,10 +34,10 @@ pub record Entry : Type 0 where
 
 -- 'Accepted means not refused'
 abbrev pub accepted : Answer → Bool
-accepted (told Accepted) = true
-accepted (told (Refused why)) = false
-accepted (shown (Points count) after) = true
-accepted (shown (NotShown why) after) = false
+accepted (told (Ok _)) = true
+accepted (told (Err why)) = false
+accepted (shown (Ok count) after) = true
+accepted (shown (Err why) after) = false
 
 -- ---- the run of a list of calls, with one source of files lent throughout
 

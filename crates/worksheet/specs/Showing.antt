@@ -1,12 +1,11 @@
 -- Document 01, Show, with request 01: its answer and the buffer afterwards, over whatever source of
 -- files is lent. Assumes nothing.
-use Rattle.std.specs.Prelude.{ℕ, cond, List, eqb, length, Float}
+use Rattle.base.specs.declared.refusal.Refusal.{Refusal}
+use Rattle.std.specs.Prelude.{ℕ, cond, List, eqb, length, Float, Ok, Result}
 use Rattle.base.specs.declared.refusal.Refusal.TheVariants.{Figures}
-use Rattle.base.specs.declared.refusal.Verdict.{Verdict}
-use Rattle.base.specs.declared.refusal.Verdict.TheVariants.{Accepted}
+use Rattle.base.specs.Refusal.{Verdict}
 use Rattle.base.specs.Refusal.{refuse_unless, ◌then◌, written_over}
 use Rattle.maps.specs.declared.inputs.Inputs.{Inputs}
-use Rattle.maps.specs.declared.figures.Shown.{Shown}
 use Rattle.base.specs.Files.{files_check}
 use Rattle.base.specs.MonthFile.{month_record_check, month_part}
 use Rattle.base.specs.Ranges.{month_check, model_check}
@@ -33,7 +32,7 @@ Source = Inputs → Files
 
 -- 'one F2 record and one month file throughout': the same two for all inputs
 abbrev pub pair : List ℕ → List ℕ → Source
-pair f2 file i = record { verdict = Accepted; f2 = f2; file = file }
+pair f2 file i = record { verdict = Ok tt; f2 = f2; file = file }
 
 -- 'Showing picks its parts by these two', month and model: the month's record of the model's part,
 -- and the month's own part. '19 .. after 12 and before 8'; '8 is given when the chosen model's part
@@ -72,7 +71,7 @@ inputs_shown n w = cond (eqb n 0) w.inputs (inputs_of (draft_at n w) w.inputs)
 
 -- '14 (desk not 0 to 4), 16 (never for 0)'
 unfoldable pub asked_check : ℕ → Worksheet → Verdict
-asked_check n w = cond (eqb n 0) Accepted (desk_check n then draft_check (draft_at n w))
+asked_check n w = cond (eqb n 0) (Ok tt) (desk_check n then draft_check (draft_at n w))
 
 -- '12 (figures buffer not 151 f32)'
 unfoldable pub buffer_check : ℕ → Verdict
@@ -86,7 +85,7 @@ drawn_check s size = buffer_check size then s.verdict then files_check s.f2 s.fi
 -- ---- the figures of inputs in a lent buffer
 
 -- 'The answer is the number of points'
-unfoldable pub drawn_of : Files → Inputs → List Float → Shown
+unfoldable pub drawn_of : Files → Inputs → List Float → Result ℕ Refusal
 drawn_of s i lent = points_or (drawn_check s (length lent)) (sheet_path i).count
 
 -- 'with the figures in the buffer'; refused, it is as it was lent
@@ -105,7 +104,7 @@ module _ (source : Source) where
   unfoldable pub show_check : ℕ → ℕ → Worksheet → Verdict
   show_check n size w = judged_check n w then drawn_check (source (inputs_shown n w)) size
 
-  unfoldable pub show_of : ℕ → List Float → Worksheet → Shown
+  unfoldable pub show_of : ℕ → List Float → Worksheet → Result ℕ Refusal
   show_of n lent w = points_or (show_check n (length lent) w) (sheet_path (inputs_shown n w)).count
 
   unfoldable pub show_buffer : ℕ → List Float → Worksheet → List Float

@@ -1,10 +1,10 @@
 // The worksheet and the calls that move it: open, begin, change, commit, cancel and take back.
 // Each decides first, makes the worksheet that it would leave, and takes that or the old one.
-ghost use Rattle.std.specs.Prelude.{◌≡◌, cond};
-ghost use Rattle.worksheet.specs.Desks.{draft_at, with_draft, inputs_of, stale_of, moved_to, outcome, is_desk, desk_check, closed_check, draft_check, fresh_check, earlier_check, fresh_sheet, open_of, opened_of, sheet_opened_of, begin_check, begin_of, change_check, edited_draft, change_of, commit_check, commit_of, cancel_check, without_draft, cancel_of, set_of, take_back_of};
+ghost use Rattle.std.specs.Prelude.{◌≡◌};
+ghost use Rattle.worksheet.specs.Desks.{draft_at, with_draft, inputs_of, stale_of, moved_to, outcome, is_desk, desk_check, closed_check, draft_check, fresh_check, earlier_check, fresh_sheet, open_of, opened_of, sheet_opened_of, begin_check, begin_of, change_check, edited_draft, change_of, commit_check, commit_of, cancel_check, without_draft, cancel_of, take_back_of};
 
 use crate::inputs::{Edit, apply, edit_check, inputs_check};
-use base::refusal::{Refusal, Verdict, refuse_unless, then};
+use base::refusal::{Refusal, Verdict, refuse_unless};
 use maps::inputs::{Inputs, inputs_in, sheet_inputs_in};
 
 #[derive(Clone, Copy)]
@@ -15,126 +15,105 @@ pub enum Draft {
     Stale(Inputs),
 }
 
-// The set of inputs that a take-back returns, if there is one.
-#[derive(Clone, Copy)]
-pub enum Earlier {
-    Nothing,
-    Set(Inputs),
-}
-
+// Four drafts and no array of them: to a definition an array is a list of any length, so that the
+// laws over every worksheet would need a premise.
 #[derive(Clone, Copy)]
 pub struct Worksheet {
     pub inputs: Inputs,
-    pub earlier: Earlier,
+    // What a take-back returns, if there is such a set.
+    pub earlier: Option<Inputs>,
     pub d1: Draft,
     pub d2: Draft,
     pub d3: Draft,
     pub d4: Draft,
 }
 
-// A call's answer, and the worksheet that it leaves.
+// A call's answer, and the worksheet that it leaves. No Result of a worksheet: a refusal hands it
+// back as it was, of which the laws of demand 3 speak.
 #[derive(Clone, Copy)]
 pub struct Outcome {
     pub answer: Verdict,
     pub sheet: Worksheet,
 }
 
-fn pick(here: bool, d: Draft, other: Draft) -> Draft
-    ensures { result ≡ cond here d other }
-{
-    if here { d } else { other }
-}
-
 // The draft of a desk; any number but 1 to 4 has none.
+#[tactic(auto, unfolding(crate::specs::Desks::draft_at))]
 pub(crate) fn draft_at(w: Worksheet, desk: u32) -> Draft
     ensures { result ≡ draft_at desk w }
 {
-    let d1 = w.d1;
-    let d2 = w.d2;
-    let d3 = w.d3;
-    let d4 = w.d4;
-    let from_3 = pick(desk == 3, d3, pick(desk == 4, d4, Draft::Closed));
-    pick(desk == 1, d1, pick(desk == 2, d2, from_3))
+    match desk {
+        1 => w.d1,
+        2 => w.d2,
+        3 => w.d3,
+        4 => w.d4,
+        _ => Draft::Closed,
+    }
 }
 
+#[tactic(auto, unfolding(crate::specs::Desks::with_draft))]
 fn with_draft(w: Worksheet, desk: u32, d: Draft) -> Worksheet
     ensures { result ≡ with_draft desk d w }
 {
-    let inputs = w.inputs;
-    let earlier = w.earlier;
-    let d1 = w.d1;
-    let d2 = w.d2;
-    let d3 = w.d3;
-    let d4 = w.d4;
-    Worksheet {
-        inputs: inputs,
-        earlier: earlier,
-        d1: pick(desk == 1, d, d1),
-        d2: pick(desk == 2, d, d2),
-        d3: pick(desk == 3, d, d3),
-        d4: pick(desk == 4, d, d4),
+    match desk {
+        1 => Worksheet { d1: d, ..w },
+        2 => Worksheet { d2: d, ..w },
+        3 => Worksheet { d3: d, ..w },
+        4 => Worksheet { d4: d, ..w },
+        _ => w,
     }
 }
 
 // The inputs in a draft; i where there is no draft.
+#[tactic(auto, unfolding(crate::specs::Desks::inputs_of))]
 pub(crate) fn inputs_of(d: Draft, i: Inputs) -> Inputs
     ensures { result ≡ inputs_of d i }
 {
     match d {
         Draft::Closed => i,
-        Draft::Fresh(x) => x,
-        Draft::Stale(x) => x,
+        Draft::Fresh(x) | Draft::Stale(x) => x,
     }
 }
 
+#[tactic(auto, unfolding(crate::specs::Desks::stale_of))]
 fn stale(d: Draft) -> Draft
     ensures { result ≡ stale_of d }
 {
     match d {
-        Draft::Closed => Draft::Closed,
         Draft::Fresh(x) => Draft::Stale(x),
-        Draft::Stale(x) => Draft::Stale(x),
+        Draft::Stale(_) | Draft::Closed => d,
     }
 }
 
 // New inputs and a new earlier set; every open draft turns stale.
-fn moved_to(i: Inputs, e: Earlier, w: Worksheet) -> Worksheet
+#[tactic(auto, unfolding(crate::specs::Desks::moved_to))]
+fn moved_to(i: Inputs, e: Option<Inputs>, w: Worksheet) -> Worksheet
     ensures { result ≡ moved_to i e w }
 {
-    let d1 = w.d1;
-    let d2 = w.d2;
-    let d3 = w.d3;
-    let d4 = w.d4;
     Worksheet {
         inputs: i,
         earlier: e,
-        d1: stale(d1),
-        d2: stale(d2),
-        d3: stale(d3),
-        d4: stale(d4),
+        d1: stale(w.d1),
+        d2: stale(w.d2),
+        d3: stale(w.d3),
+        d4: stale(w.d4),
     }
 }
 
 // A refusal hands the worksheet back as it was.
+#[tactic(auto, unfolding(crate::specs::Desks::outcome))]
 fn decided(verdict: Verdict, after: Worksheet, w: Worksheet) -> Outcome
     ensures { result ≡ outcome verdict after w }
 {
-    match verdict {
-        Verdict::Accepted => Outcome {
-            answer: Verdict::Accepted,
-            sheet: after,
-        },
-        Verdict::Refused(why) => Outcome {
-            answer: Verdict::Refused(why),
-            sheet: w,
-        },
+    Outcome {
+        answer: verdict,
+        sheet: if verdict.is_ok() { after } else { w },
     }
 }
 
 fn is_desk(desk: u32) -> bool
     ensures { result ≡ is_desk desk }
 {
-    if 1 <= desk { desk <= 4 } else { false }
+    1 <= desk && desk <= 4
 }
 
 pub(crate) fn desk_check(desk: u32) -> Verdict
@@ -143,43 +122,41 @@ pub(crate) fn desk_check(desk: u32) -> Verdict
     refuse_unless(is_desk(desk), Refusal::Desk)
 }
 
+#[tactic(auto, unfolding(crate::specs::Desks::closed_check))]
 fn closed_check(d: Draft) -> Verdict
     ensures { result ≡ closed_check d }
 {
     match d {
-        Draft::Closed => Verdict::Accepted,
-        Draft::Fresh(_) => Verdict::Refused(Refusal::Drafted),
-        Draft::Stale(_) => Verdict::Refused(Refusal::Drafted),
+        Draft::Closed => Ok(()),
+        Draft::Fresh(_) | Draft::Stale(_) => Err(Refusal::Drafted),
     }
 }
 
+#[tactic(auto, unfolding(crate::specs::Desks::draft_check))]
 pub(crate) fn draft_check(d: Draft) -> Verdict
     ensures { result ≡ draft_check d }
 {
     match d {
-        Draft::Closed => Verdict::Refused(Refusal::NoDraft),
-        Draft::Fresh(_) => Verdict::Accepted,
-        Draft::Stale(_) => Verdict::Accepted,
+        Draft::Closed => Err(Refusal::NoDraft),
+        Draft::Fresh(_) | Draft::Stale(_) => Ok(()),
     }
 }
 
+#[tactic(auto, unfolding(crate::specs::Desks::fresh_check))]
 fn fresh_check(d: Draft) -> Verdict
     ensures { result ≡ fresh_check d }
 {
     match d {
-        Draft::Closed => Verdict::Accepted,
-        Draft::Fresh(_) => Verdict::Accepted,
-        Draft::Stale(_) => Verdict::Refused(Refusal::Stale),
+        Draft::Closed | Draft::Fresh(_) => Ok(()),
+        Draft::Stale(_) => Err(Refusal::Stale),
     }
 }
 
-fn earlier_check(e: Earlier) -> Verdict
+#[tactic(auto, unfolding(crate::specs::Desks::earlier_check))]
+fn earlier_check(e: Option<Inputs>) -> Verdict
     ensures { result ≡ earlier_check e }
 {
-    match e {
-        Earlier::Nothing => Verdict::Refused(Refusal::NothingEarlier),
-        Earlier::Set(_) => Verdict::Accepted,
-    }
+    refuse_unless(e.is_some(), Refusal::NothingEarlier)
 }
 
 fn fresh_sheet(i: Inputs) -> Worksheet
@@ -187,7 +164,7 @@ fn fresh_sheet(i: Inputs) -> Worksheet
 {
     Worksheet {
         inputs: i,
-        earlier: Earlier::Nothing,
+        earlier: None,
         d1: Draft::Closed,
         d2: Draft::Closed,
         d3: Draft::Closed,
@@ -226,16 +203,16 @@ pub fn sheet_opened(words: &[u8]) -> Outcome
 pub fn begin(w: Worksheet, desk: u32) -> Outcome
     ensures { result ≡ begin_of desk w }
 {
-    let i = w.inputs;
-    let check = then(desk_check(desk), closed_check(draft_at(w, desk)));
-    decided(check, with_draft(w, desk, Draft::Fresh(i)), w)
+    let check = desk_check(desk).and(closed_check(draft_at(w, desk)));
+    decided(check, with_draft(w, desk, Draft::Fresh(w.inputs)), w)
 }
 
+#[tactic(auto, unfolding(crate::specs::Desks::edited_draft))]
 fn edited_draft(e: Edit, d: Draft) -> Draft
     ensures { result ≡ edited_draft e d }
 {
     match d {
-        Draft::Closed => Draft::Closed,
+        Draft::Closed => d,
         Draft::Fresh(x) => Draft::Fresh(apply(e, x)),
         Draft::Stale(x) => Draft::Stale(apply(e, x)),
     }
@@ -247,7 +224,7 @@ pub fn change(w: Worksheet, desk: u32, e: Edit) -> Outcome
     ensures { result ≡ change_of desk e w }
 {
     let d = draft_at(w, desk);
-    let check = then(desk_check(desk), then(draft_check(d), edit_check(e)));
+    let check = desk_check(desk).and(draft_check(d)).and(edit_check(e));
     decided(check, with_draft(w, desk, edited_draft(e, d)), w)
 }
 
@@ -256,10 +233,9 @@ pub fn change(w: Worksheet, desk: u32, e: Edit) -> Outcome
 pub fn commit(w: Worksheet, desk: u32) -> Outcome
     ensures { result ≡ commit_of desk w }
 {
-    let i = w.inputs;
     let d = draft_at(w, desk);
-    let check = then(desk_check(desk), then(draft_check(d), fresh_check(d)));
-    let moved = moved_to(inputs_of(d, i), Earlier::Set(i), w);
+    let check = desk_check(desk).and(draft_check(d)).and(fresh_check(d));
+    let moved = moved_to(inputs_of(d, w.inputs), Some(w.inputs), w);
     decided(check, with_draft(moved, desk, Draft::Closed), w)
 }
 
@@ -273,18 +249,8 @@ fn without_draft(w: Worksheet, desk: u32) -> Worksheet
 pub fn cancel(w: Worksheet, desk: u32) -> Outcome
     ensures { result ≡ cancel_of desk w }
 {
-    let check = then(desk_check(desk), draft_check(draft_at(w, desk)));
+    let check = desk_check(desk).and(draft_check(draft_at(w, desk)));
     decided(check, without_draft(w, desk), w)
-}
-
-// The earlier set; i where there is none.
-fn set_of(e: Earlier, i: Inputs) -> Inputs
-    ensures { result ≡ set_of e i }
-{
-    match e {
-        Earlier::Nothing => i,
-        Earlier::Set(x) => x,
-    }
 }
 
 // The earlier set returns and none is left; every open draft turns stale. Refuses 18 where there is
@@ -292,11 +258,6 @@ fn set_of(e: Earlier, i: Inputs) -> Inputs
 pub fn take_back(w: Worksheet) -> Outcome
     ensures { result ≡ take_back_of w }
 {
-    let i = w.inputs;
-    let e = w.earlier;
-    decided(
-        earlier_check(e),
-        moved_to(set_of(e, i), Earlier::Nothing, w),
-        w,
-    )
+    let set = w.earlier.unwrap_or(w.inputs);
+    decided(earlier_check(w.earlier), moved_to(set, None, w), w)
 }

@@ -8,8 +8,7 @@ use crate::desks;
 use crate::desks::{Outcome, Worksheet};
 use crate::inputs::Edit;
 use crate::showing::{Lent, show_lent};
-use base::refusal::Verdict;
-use maps::figures::Shown;
+use base::refusal::{Refusal, Verdict};
 
 // Desks are any number; those that are none are refused. Show 0 is the worksheet's.
 #[derive(Clone, Copy)]
@@ -26,30 +25,29 @@ pub enum Call {
 pub enum Answer {
     Told(Verdict),
     // Unless it is refused, the figures are in the lent buffer.
-    Shown(Shown),
+    Shown(Result<u32, Refusal>),
 }
 
-// A call's answer, and the worksheet that it leaves.
+// A call's answer, and the worksheet that it leaves, a refused call too (`desks::Outcome`).
 #[derive(Clone, Copy)]
 pub struct Next {
     pub answer: Answer,
     pub sheet: Worksheet,
 }
 
+#[tactic(auto, unfolding(crate::specs::Calls::next_of))]
 fn told(o: Outcome) -> Next
     ensures { result ≡ next_of (step_of o) }
 {
-    let verdict = o.answer;
-    let sheet = o.sheet;
     Next {
-        answer: Answer::Told(verdict),
-        sheet: sheet,
+        answer: Answer::Told(o.answer),
+        sheet: o.sheet,
     }
 }
 
-// Makes a call on a worksheet, over what is lent (an F2 record and a month file, or a year file) and
-// a figures buffer; only a showing reads the files and writes the buffer. Over a pair a showing takes
-// the files as lent, whatever month and model the inputs shown have.
+// Makes a call on a worksheet, over what is lent (an F2 record and a month file, or a year file)
+// and a figures buffer; only a showing reads the files and writes the buffer. Over a pair a showing
+// takes the files as lent, whatever month and model the inputs shown have.
 pub fn make(w: Worksheet, call: Call, lent: Lent, a: &[u8], b: &[u8], out: &mut [f32]) -> Next
     ensures answer { let s = step (lent_as lent a.now b.now) (called call out.old) w in
         result ≡ next_of s }

@@ -5,13 +5,13 @@ ghost use Rattle.std.specs.Prelude.{◌≡◌, ◌+◌, ◌-◌, ◌≤◌, leng
 ghost use Rattle.base.specs.Refusal.{is_accepted};
 ghost use Rattle.packing.specs.Pack.{part_check};
 
-use base::refusal::Verdict;
+use base::refusal::Refusal;
 use base::year::{DIRECTORY, PARTS};
 use listing::survey::{LINE, refused_line, survey_line};
 use packing::{YEAR_MOST, part_check, seal};
 use std::io::Read;
 use std::rt::{Env, Files};
-use system::{STDERR, arg, argument, fail, print, read_full};
+use system::{STDERR, arg, argument, got, print, read_full, say_of};
 
 // The most bytes of a file's name.
 const NAME: usize = 4096;
@@ -19,22 +19,8 @@ const NAME: usize = 4096;
 // The file that argument i names, open for reading; where it cannot be, that is said.
 fn opened<R: Env + Files>(rt: &R, i: usize) -> Option<R::File> {
     let mut name = [0u8; NAME];
-    match argument(rt, i, &mut name) {
-        Ok(n) => system::opened(rt, &name[..n]),
-        Err(error) => {
-            fail(b"the name of a file", &error);
-            None
-        }
-    }
-}
-
-// Says something of the file that argument i names.
-fn say(env: &impl Env, i: usize, what: &[u8]) {
-    let mut name = [0u8; NAME];
-    let n = arg(env, i, &mut name);
-    io::write_all(STDERR, &name[..n]);
-    io::write_all(STDERR, b": ");
-    io::write_all(STDERR, what);
+    let n = got(b"the name of a file", argument(rt, i, &mut name))?;
+    system::opened(rt, &name[..n])
 }
 
 // Whether the file that argument i names has been read to its end; else what is left or what failed
@@ -43,20 +29,27 @@ fn is_whole(env: &impl Env, i: usize, file: &mut impl Read) -> bool {
     let mut name = [0u8; NAME];
     let n = arg(env, i, &mut name);
     let mut more = [0u8; 1];
-    match file.read(&mut more) {
-        Ok(0) => true,
-        Ok(_) => {
-            say(
-                env,
-                i,
-                b"too long: the programs take year files of at most 1048576 bytes\n",
+    match got(&name[..n], file.read(&mut more)) {
+        Some(0) => true,
+        Some(_) => {
+            say_of(
+                &name[..n],
+                "too long: the programs take year files of at most 1048576 bytes",
             );
             false
         }
-        Err(error) => {
-            fail(&name[..n], &error);
-            false
-        }
+        None => false,
+    }
+}
+
+// Says why the file that argument i names is refused, in a line that ends itself.
+fn say_refused(env: &impl Env, i: usize, why: Refusal) {
+    let mut name = [0u8; NAME];
+    let n = arg(env, i, &mut name);
+    let mut line = [0u8; LINE];
+    let m = refused_line(why, &mut line);
+    for piece in [&name[..n], b": ", &line[..m]] {
+        io::write_all(STDERR, piece);
     }
 }
 
@@ -64,13 +57,10 @@ fn is_whole(env: &impl Env, i: usize, file: &mut impl Read) -> bool {
 fn is_good(env: &impl Env, i: usize, k: usize, part: &[u8]) -> bool
     ensures { result ≡ is_accepted (part_check k part.now) }
 {
-    let verdict = part_check(k, part);
-    match verdict {
-        Verdict::Accepted => true,
-        Verdict::Refused(why) => {
-            let mut line = [0u8; LINE];
-            let n = refused_line(why, &mut line);
-            say(env, i, &line[..n]);
+    match part_check(k, part) {
+        Ok(()) => true,
+        Err(why) => {
+            say_refused(env, i, why);
             false
         }
     }
@@ -91,11 +81,7 @@ fn read_named<R: Env + Files>(rt: &R, i: usize, year: &mut [u8], at: usize) -> O
 {
     let mut file = opened(rt, i)?;
     let n = read_at(&mut file, year, at);
-    if is_whole(rt, i, &mut file) {
-        Some(n)
-    } else {
-        None
-    }
+    is_whole(rt, i, &mut file).then_some(n)
 }
 
 // Whether the file of argument i, which stands in the buffer from a on and before e, is a good part
@@ -114,6 +100,8 @@ fn write_first(out: &impl Print, year: &[u8], n: usize)
     print(out, &year[..n]);
 }
 
+// Of a reference to an array the length is known to a proof, where that of so large an array in a
+// local is not; also in `check_with`.
 fn pack_with<R: Env + Files + Print>(rt: &R, year: &mut [u8; YEAR_MOST]) {
     let mut sizes = [0u32; PARTS];
     let mut at = DIRECTORY;
@@ -132,9 +120,9 @@ fn pack_with<R: Env + Files + Print>(rt: &R, year: &mut [u8; YEAR_MOST]) {
     write_first(rt, year, n);
 }
 
-// Packs the files that arguments 1 to 14 name, twelve month files and two `.daw` files: each is read
-// into the buffer behind the one before it and checked, then the directory is written before them.
-// What is wrong is said on standard error, and nothing is written.
+// Packs the files that arguments 1 to 14 name, twelve month files and two `.daw` files: each is
+// read into the buffer behind the one before it and checked, then the directory is written before
+// them. What is wrong is said on standard error, and nothing is written.
 pub fn pack<R: Env + Files + Print>(rt: &R) {
     let mut year = [0u8; YEAR_MOST];
     pack_with(rt, &mut year);
@@ -142,7 +130,7 @@ pub fn pack<R: Env + Files + Print>(rt: &R) {
 
 // A line for each month and model.
 fn survey(out: &impl Print, year: &[u8]) {
-    for month in 1..13u32 {
+    for month in 1..=12u32 {
         for model in 0..2u32 {
             let mut line = [0u8; LINE];
             let n = survey_line(year, month, model, &mut line);

@@ -1,14 +1,8 @@
 -- A buffer that holds as many of some numbers as it has room for, with one number more: by whether
 -- there is room for it. Assumes nothing.
-use Prim.Native.Nat.{ℕ, suc, ◌+◌, ◌<◌, ◌≤◌, min}
-use mathlib.Core.Bool.{Bool, true, false}
-use mathlib.Core.List.{List, [], ◌∷◌, ◌++◌}
-use mathlib.Core.Path.{◌≡◌, refl, sym, ap, ◌∙◌}
-use native.Mathlib.Omega.{arith}
-use lib.Dec.{ltb}
-use borrow.Author.Tests.{ltb-true, ltb-false}
-use lib.ListN.{length, get_or, set, take, length-append, length-set, get_or-append}
-use lib.Seq.{take_all, take-append-le, take-suc-set, set_out, get_or-set_same, get_or-set_other, get_or_at}
+use Rattle.std.proofs.Common.{ℕ, suc, ◌+◌, ◌<◌, ◌≤◌, min, Bool, true, false, List, [], ◌∷◌, ◌++◌, ◌≡◌, refl, sym, ap, ◌∙◌, arith, ltb, ltb-true, ltb-false, length, get_or, set, take, length-append, length-set, take_all, take-suc-set, get_or-set_same, get_or-set_other}
+use lib.ListN.{get_or-append}
+use lib.Seq.{take-append-le, set_out, get_or_at}
 use Rattle.wording.specs.declared.line.Line.{Line}
 use Rattle.wording.specs.declared.line.Line.TheVariants as line
 use Rattle.wording.specs.declared.written.WrittenCall.TheVariants.{TakeBack}

@@ -1,6 +1,5 @@
 -- Worked lines of texts, by computation. Assumes nothing.
-use mathlib.Core.List.{[], ◌∷◌}
-use mathlib.Core.Path.{◌≡◌, refl}
+use Rattle.std.proofs.Common.{[], ◌∷◌, ◌≡◌, refl}
 use Rattle.wording.specs.Token.{ascii}
 use Rattle.auditing.specs.Gathered.{lines_from, text_lines, first_line, line_at}
 

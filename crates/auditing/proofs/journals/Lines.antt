@@ -1,23 +1,14 @@
 -- The lines of a text: a newline ends the first, and the others follow it; a byte at a time.
 -- Assumes nothing.
-use Prim.Native.Nat.{ℕ, zero, suc, ◌+◌, ◌-◌, ◌<◌, ◌≤◌}
-use mathlib.Core.Bool.{Bool, true, false, cond}
-use mathlib.Core.List.{List, [], ◌∷◌, ◌++◌, append-nil}
-use mathlib.Core.Path.{◌≡◌, refl, sym, ap, ◌∙◌}
-use native.Mathlib.Omega.{arith}
-use native.Mathlib.Numerals.{add-one}
-use lib.Dec.{eqb}
-use borrow.Author.Tests.{eq-eqb, ne_eqb}
-use lib.ListN.{length, get_or, take, drop, length-drop, drop_of_length-le}
-use lib.Seq.{append_snoc, drop-cons, drop-drop}
-use Rattle.base.proofs.verdicts.Picks.{cond_true, cond_false}
+use Rattle.std.proofs.Common.{ltb, not, position, Option, Some, None, ◌==◌, ℕ, zero, suc, ◌+◌, ◌-◌, ◌<◌, ◌≤◌, Bool, true, false, cond, List, [], ◌∷◌, ◌++◌, append-nil, ◌≡◌, refl, sym, ap, ◌∙◌, arith, add-one, eqb, length, get_or, take, drop, length-drop, drop_of_length-le, drop-drop}
+use Rattle.std.specs.Option.{unwrap_or}
+use Rattle.std.proofs.lemmas.Bool.{ltb-false}
+use Rattle.std.proofs.lemmas.List.Recursion.{is_position_or_len}
+use Rattle.std.proofs.lemmas.List.Sums.{prefix_len-le-length}
+use lib.Seq.{append_snoc, take-length}
 use Rattle.auditing.specs.Gathered.{lines_from, text_lines, first_line, line_at}
 
 -- ---- the first line
-
-first_cons : (c : ℕ) (l : List ℕ) → first_line (c ∷ l) ≡ cond (eqb c 10) [] (c ∷ first_line l)
-unfolding first_line
-first_cons c l = refl
 
 taken_one :
     (b : Bool) (c : ℕ) (l m : List ℕ) → take (length m) l ≡ m →
@@ -42,24 +33,38 @@ first_no_longer (c ∷ l) = no_longer_one (eqb c 10) c l (first_line l) (first_n
 
 -- ---- a line by where it begins
 
+-- none past the text's end
 pub line_past : (text : List ℕ) (k : ℕ) → length text ≤ k → length (line_at text k) ≡ 0
 unfolding first_line
 line_past text k h = ap (λ (l : List ℕ). length (first_line l)) (drop_of_length-le text h)
 
-at_byte :
-    (text : List ℕ) (k : ℕ) → k < length text →
-    line_at text k ≡ cond (eqb (get_or text k 0) 10) [] (get_or text k 0 ∷ line_at text (suc k))
-at_byte text k h = ap first_line (drop-cons text k 0 h) ∙ first_cons (get_or text k 0) (drop (suc k) text)
+-- else as many bytes as stand before a newline
+found_or :
+    (test : Bool) (n most : ℕ) → ltb n most ≡ test → n ≤ most →
+    unwrap_or (cond test (Some n) None) most ≡ n
+found_or true n most e h = refl
+found_or false n most e h = let past = ltb-false n most e in omega arith
 
-pub line_ends : (text : List ℕ) (k : ℕ) → k < length text → get_or text k 0 ≡ 10 → length (line_at text k) ≡ 0
-line_ends text k h e = ap length (at_byte text k h ∙ cond_true _ _ (eq-eqb (get_or text k 0) 10 e))
+length_cons : (b : Bool) (c : ℕ) (m : List ℕ) → length (cond b [] (c ∷ m)) ≡ cond b 0 (1 + length m)
+length_cons true c m = refl
+length_cons false c m = omega arith
 
-pub line_longer :
-    (text : List ℕ) (k : ℕ) → k < length text → (get_or text k 0 ≡ 10 → ⊥) →
-    length (line_at text k) ≡ suc (length (line_at text (k + 1)))
-line_longer text k h e =
-    ap length (at_byte text k h ∙ cond_false _ _ (ne_eqb (get_or text k 0) 10 e))
-    ∙ sym (ap (λ (i : ℕ). suc (length (line_at text i))) (add-one k))
+pub line_length :
+    (text : List ℕ) (k : ℕ) {found : Option ℕ} →
+    let rest = take (length text - k) (drop k text) in
+    found ≡ position (λ (x : ℕ). x == 10) rest → unwrap_or found (length rest) ≡ length (line_at text k)
+unfolding first_line
+line_length text k e =
+    let newline : ℕ → Bool = λ x. x == 10 in
+    let rest = drop k text in
+    let size : length text - k ≡ length rest = let d = length-drop k text in omega arith in
+    let all : take (length text - k) rest ≡ rest = ap (λ (n : ℕ). take n rest) size ∙ take-length rest in
+    ap (λ (o : Option ℕ). unwrap_or o (length (take (length text - k) rest))) e
+    ∙ ap (λ (l : List ℕ). unwrap_or (position newline l) (length l)) all
+    ∙ found_or _ _ _ refl (prefix_len-le-length (λ (x : ℕ). not (x == 10)) rest)
+    ∙ sym
+    (is_position_or_len (λ (l : List ℕ). length (first_line l)) newline refl
+    (λ c l. length_cons (eqb c 10) c (first_line l)) rest)
 
 -- where its end is found
 pub line_found :

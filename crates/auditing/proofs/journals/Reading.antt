@@ -1,10 +1,6 @@
 -- What is gathered from a text line by line is what its first lines told: before the first, with one
 -- line more, and where no more are left. Assumes nothing.
-use Prim.Native.Nat.{ℕ, ◌+◌, ◌<◌, ◌≤◌}
-use mathlib.Core.List.{List}
-use mathlib.Core.Path.{◌≡◌, sym, ap, subst, ◌∙◌}
-use native.Mathlib.Omega.{arith}
-use lib.ListN.{length}
+use Rattle.std.proofs.Common.{ℕ, ◌+◌, ◌<◌, ◌≤◌, List, ◌≡◌, sym, ap, subst, ◌∙◌, arith, length}
 use Rattle.worksheet.specs.Showing.{Source}
 use Rattle.wording.specs.declared.line.Line.{Line}
 use Rattle.wording.specs.Line.{line_in}

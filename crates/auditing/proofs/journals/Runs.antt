@@ -1,13 +1,7 @@
 -- A call that is made on a worksheet is a step of its run; and the run of a journal's calls with one
 -- call more: its entries, their marks and the lines' numbers, by the calls in their order. Assumes
 -- nothing.
-use Prim.Native.Nat.{ℕ, suc}
-use mathlib.Core.Bool.{Bool}
-use mathlib.Core.List.{List, [], ◌∷◌, ◌++◌}
-use mathlib.Core.Path.{◌≡◌, refl, ap, ◌∙◌}
-use lib.ListN.{length}
-use Rattle.base.specs.declared.refusal.Verdict.TheVariants.{Accepted, Refused}
-use Rattle.maps.specs.declared.figures.Shown.TheVariants.{Points, Refused as NotShown}
+use Rattle.std.proofs.Common.{Err, Ok, ℕ, suc, Bool, List, [], ◌∷◌, ◌++◌, ◌≡◌, refl, ap, ◌∙◌, length}
 use Rattle.worksheet.specs.declared.desks.Worksheet.{Worksheet}
 use Rattle.worksheet.specs.declared.journal.Call.{Call as ProgramCall}
 use Rattle.worksheet.specs.declared.journal.Next.{Next}
@@ -25,10 +19,10 @@ use Rattle.auditing.specs.Gathered.{Numbered, calls_told, numbers_told, sheet_op
 
 handed_good_law : (a : Answer) → handed_good (handed a) ≡ accepted a
 unfolding handed_good
-handed_good_law (told Accepted) = refl
-handed_good_law (told (Refused why)) = refl
-handed_good_law (shown (Points count) after) = refl
-handed_good_law (shown (NotShown why) after) = refl
+handed_good_law (told (Ok _)) = refl
+handed_good_law (told (Err why)) = refl
+handed_good_law (shown (Ok count) after) = refl
+handed_good_law (shown (Err why) after) = refl
 
 pub made_as :
     (source : Source) (c : ProgramCall) (w : Worksheet) {call : ProgramCall} {next : Next} {good : Bool} {mark : ℕ} →

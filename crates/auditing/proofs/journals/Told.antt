@@ -1,13 +1,6 @@
 -- What a journal's lines told, with one line more and with all that follow it: by the lines in their
 -- order. Assumes nothing.
-use Prim.Native.Nat.{ℕ, suc, ◌+◌, ◌<◌, ◌≤◌}
-use mathlib.Core.List.{List, [], ◌∷◌, ◌++◌}
-use mathlib.Core.Path.{◌≡◌, refl, sym, ap, ◌∙◌}
-use native.Mathlib.Omega.{arith}
-use native.Mathlib.Nat.{add-zero}
-use native.Mathlib.Numerals.{add-one}
-use lib.ListN.{length, get_or, take, length-take}
-use lib.Seq.{take-suc, take_all}
+use Rattle.std.proofs.Common.{ℕ, suc, ◌+◌, ◌<◌, ◌≤◌, List, [], ◌∷◌, ◌++◌, ◌≡◌, refl, sym, ap, ◌∙◌, arith, add-zero, add-one, length, get_or, take, length-take, take-suc, take_all}
 use Rattle.wording.specs.Line.{line_in}
 use Rattle.auditing.specs.Gathered.{text_lines, Told, waiting, telling, told_from, told_by}
 

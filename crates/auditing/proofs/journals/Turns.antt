@@ -1,12 +1,7 @@
 -- What is gathered goes on with one line more, by what the line is and what was told before it.
 -- Assumes nothing.
-use Prim.Native.Nat.{ℕ, ◌+◌}
-use mathlib.Core.List.{List, [], ◌∷◌, ◌++◌}
-use mathlib.Core.Path.{◌≡◌, refl, sym, ap, subst, ◌∙◌}
-use native.Mathlib.Omega.{arith}
-use lib.ListN.{set, length-append}
-use Rattle.base.specs.declared.refusal.Verdict.{Verdict}
-use Rattle.base.specs.declared.refusal.Verdict.TheVariants.{Accepted, Refused}
+use Rattle.std.proofs.Common.{Err, Ok, ℕ, ◌+◌, List, [], ◌∷◌, ◌++◌, ◌≡◌, refl, sym, ap, subst, ◌∙◌, arith, set, length-append}
+use Rattle.base.specs.Refusal.{Verdict}
 use Rattle.worksheet.specs.declared.desks.Worksheet.{Worksheet}
 use Rattle.worksheet.specs.Desks.{open_of}
 use Rattle.worksheet.specs.Showing.{Source}
@@ -34,7 +29,7 @@ opened_by_law :
     (open_of (inputs_written o)).answer ≡ v → ReadsAt text s (line.Open o) →
     GatheredAs source text (opened_told n o v) (opened_as o n s) marks numbers starts
 unfolding GatheredAs opened_as run calls_told
-opened_by_law source text o n s marks numbers starts Accepted e l =
+opened_by_law source text o n s marks numbers starts (Ok _) e l =
     record {
       stage = ap stage_of e;
       opened = refl;
@@ -45,7 +40,7 @@ opened_by_law source text o n s marks numbers starts Accepted e l =
       start = l;
       starts_at = λ i h. absurd (omega arith);
     }
-opened_by_law source text o n s marks numbers starts (Refused why) e l = (ap stage_of e, refl)
+opened_by_law source text o n s marks numbers starts (Err why) e l = (ap stage_of e, refl)
 
 -- ---- a call
 

@@ -1,10 +1,6 @@
 -- The page of an answer as it is handed back is that of the step's answer, by the answer's case.
 -- Assumes nothing.
-use Prim.Native.Nat.{ℕ}
-use mathlib.Core.List.{List}
-use mathlib.Core.Path.{◌≡◌, refl, ◌∙◌}
-use lib.Ieee.{Float}
-use Rattle.maps.specs.declared.figures.Shown.TheVariants.{Points, Refused as NotShown}
+use Rattle.std.proofs.Common.{Err, Ok, ℕ, List, ◌≡◌, refl, ◌∙◌, Float}
 use Rattle.maps.specs.declared.inputs.Inputs.{Inputs}
 use Rattle.worksheet.specs.declared.desks.Worksheet.{Worksheet}
 use Rattle.worksheet.specs.declared.journal.Next.{Next}
@@ -18,8 +14,8 @@ same_page :
     (i : Inputs) (a : Answer) (lent : List Float) → handed_page i (handed a) (buffer_after a lent) ≡ answer_page i a
 unfolding handed_page
 same_page i (told v) lent = refl
-same_page i (shown (Points count) after) lent = refl
-same_page i (shown (NotShown why) after) lent = refl
+same_page i (shown (Ok count) after) lent = refl
+same_page i (shown (Err why) after) lent = refl
 
 pub sheet_as :
     (source : Source) (w : Worksheet) {r : Next} {figures : List Float} {text : List ℕ} →

@@ -1,10 +1,7 @@
 -- Lines of the page of one journal of twelve lines, worked out by computation: desk 1 changes the
 -- sunspot number and the path and commits, desk 2 begins and cancels, desk 4 is refused, desk 3
 -- begins. Assumes nothing.
-use Prim.Native.Nat.{ℕ}
-use mathlib.Core.Bool.{true, false}
-use mathlib.Core.List.{List, [], ◌∷◌}
-use mathlib.Core.Path.{◌≡◌, refl}
+use Rattle.std.proofs.Common.{ℕ, true, false, List, [], ◌∷◌, ◌≡◌, refl}
 use Rattle.wording.specs.Token.{ascii}
 use Rattle.listing.specs.declared.account.Came.{Came}
 use Rattle.listing.specs.declared.account.Came.TheVariants as came

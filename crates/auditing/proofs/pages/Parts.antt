@@ -1,40 +1,15 @@
 -- The parts of an audit's page by their numbers, and which is the last: by the tests on the number.
 -- Assumes nothing.
-use Prim.Native.Nat.{ℕ, zero, suc, ◌+◌, ◌-◌, ◌<◌, ◌≤◌}
-use mathlib.Core.Bool.{Bool, true, false, cond}
-use mathlib.Core.List.{List, []}
-use mathlib.Core.Path.{◌≡◌, refl, sym, ap, subst, ◌∙◌}
-use native.Mathlib.Omega.{arith}
-use native.Mathlib.Nat.{zero-add}
-use lib.Dec.{leb}
-use lib.ListN.{length, get_or, take, set, length-append, length-take}
-use borrow.Author.Tests.{leb-true, leb-false, lt-ltb, le-ltb, le-leb, eq-eqb, ne_eqb}
+use Rattle.std.proofs.Common.{ℕ, zero, suc, ◌+◌, ◌-◌, ◌<◌, ◌≤◌, Bool, true, false, cond, List, [], ◌≡◌, refl, sym, ap, subst, ◌∙◌, arith, leb, length, take, length-append, leb-true, leb-false, lt-ltb, le-ltb, le-leb, eq-eqb, ne_eqb}
 use Rattle.io.specs.Counts.{IsPrefixLen}
 use Rattle.base.proofs.verdicts.Picks.{cond_true, cond_false}
 use Rattle.worksheet.specs.Showing.{Source}
 use Rattle.listing.specs.Account.{title_text, drafts_head, none_line, shorter_head, sheet_head}
 use Rattle.listing.specs.Fields.{in_turn}
-use Rattle.listing.proofs.pieces.Puts.{begun, go_on, complete}
 use Rattle.auditing.specs.declared.gathering.Gathered.{Gathered}
 use Rattle.auditing.specs.declared.page.Part.{Part}
 use Rattle.auditing.specs.Accounts.{number_at, field_account, draft_account, line_account, sheet_account}
 use Rattle.auditing.specs.Page.{drafts_text, no_drafts, fields_part, sheet_part, shorter_part, drafts_part, page_part}
-
--- ---- a line laid into the buffer, byte by byte
-
-module _ (before piece : List ℕ) (h : length piece ≤ length before) where
-  pub laid_more :
-      {l : List ℕ} (i : ℕ) → i + 1 ≤ length piece → l ≡ begun before 0 piece i →
-      set l i (get_or piece i 0) ≡ begun before 0 piece (i + 1)
-  laid_more {l} i q e =
-      ap (λ (k : ℕ). set l k (get_or piece i 0)) (sym (zero-add i)) ∙ go_on before 0 piece (omega arith) i q e
-
-  pub laid_all : {l : List ℕ} (i : ℕ) → i ≡ length piece → l ≡ begun before 0 piece i → take i l ≡ piece
-  laid_all {l} i q e =
-      ap (λ (k : ℕ). take k l) (sym (zero-add i)) ∙ (complete before 0 piece (omega arith) i q e).text
-
-pub laid_counts : (i : ℕ) (l : List ℕ) → i ≤ length l → i ≡ length (take i l)
-laid_counts i l h = omega (arith, length-take i l)
 
 -- ---- tests
 

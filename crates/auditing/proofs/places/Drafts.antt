@@ -1,10 +1,6 @@
 -- A draft's own places from its begin on, upwards: on the way down from a commit to the begin, each
 -- call is put before those after it. Assumes nothing.
-use Prim.Native.Nat.{ℕ, suc, ◌-◌, ◌<◌, ◌≤◌}
-use mathlib.Core.Bool.{Bool, true, false, cond, ◌||◌}
-use mathlib.Core.List.{List, [], ◌∷◌, ◌++◌, append_assoc, append-nil}
-use mathlib.Core.Path.{◌≡◌, refl, sym, ap, subst, ◌∙◌}
-use native.Mathlib.Omega.{arith}
+use Rattle.std.proofs.Common.{ℕ, suc, ◌-◌, ◌<◌, ◌≤◌, Bool, true, false, cond, ◌||◌, List, [], ◌∷◌, ◌++◌, append_assoc, append-nil, ◌≡◌, refl, sym, ap, subst, ◌∙◌, arith}
 use Rattle.base.proofs.verdicts.Picks.{never, never'}
 use Rattle.auditing.specs.Marks.{is_done_by, is_own_mark, mark_at, own_places, draft_places}
 use Rattle.auditing.proofs.places.Origins.{down, start}

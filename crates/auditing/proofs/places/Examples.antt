@@ -1,12 +1,8 @@
 -- Origins, fates and the shorter list of one journal of fifteen calls worked out by computation, with
 -- a draft that stands, one that is cancelled and one that is taken back. Assumes nothing.
-use Prim.Native.Nat.{ℕ}
-use mathlib.Core.Bool.{true, false}
-use mathlib.Core.List.{List, [], ◌∷◌}
-use mathlib.Core.Path.{◌≡◌, refl}
+use Rattle.std.proofs.Common.{None, Some, ℕ, true, false, List, [], ◌∷◌, ◌≡◌, refl}
 use Rattle.auditing.specs.declared.marks.Origin.TheVariants.{Opened, Set}
 use Rattle.auditing.specs.declared.marks.Fate.TheVariants.{Stands, TakenBack, Cancelled, Never}
-use Rattle.auditing.specs.declared.marks.Refused.TheVariants.{At, Never as NotRefused}
 use Rattle.auditing.specs.Marks.{mark_with, change_before, origin_before, settled_from, fate_from, refused_from, own_places, kept_at, kept_places, pile, given, all_given}
 
 -- a call of this sort by this desk, accepted or refused
@@ -59,11 +55,11 @@ second_fate : fate_from journal 1 9 6 ≡ TakenBack 11 12
 unfolding journal fate_from settled_from
 second_fate = refl
 
-first_refused : refused_from journal 1 NotRefused 1 14 ≡ At 6
+first_refused : refused_from journal 1 None 1 14 ≡ Some 6
 unfolding journal refused_from
 first_refused = refl
 
-second_refused : refused_from journal 1 NotRefused 9 6 ≡ NotRefused
+second_refused : refused_from journal 1 None 9 6 ≡ None
 unfolding journal refused_from
 second_refused = refl
 

@@ -1,14 +1,7 @@
 -- The fate of a draft, and where its commit was refused, a call at a time from the first to the last:
 -- one call decides, or those after it do. Assumes nothing.
-use Prim.Native.Nat.{ℕ, suc, ◌+◌, ◌-◌, ◌<◌, ◌≤◌}
-use mathlib.Core.Bool.{cond, ◌||◌}
-use mathlib.Core.List.{List}
-use mathlib.Core.Path.{◌≡◌, sym, ap, ◌∙◌}
-use native.Mathlib.Omega.{arith}
-use native.Mathlib.Numerals.{add-one}
+use Rattle.std.proofs.Common.{Option, Some, ℕ, suc, ◌+◌, ◌-◌, ◌<◌, ◌≤◌, cond, ◌||◌, List, ◌≡◌, sym, ap, ◌∙◌, arith, add-one}
 use Rattle.auditing.specs.declared.marks.Fate.TheVariants.{Stands, TakenBack, Cancelled, Never}
-use Rattle.auditing.specs.declared.marks.Refused.{Refused}
-use Rattle.auditing.specs.declared.marks.Refused.TheVariants.{At}
 use Rattle.auditing.specs.Marks.{is_done, is_done_by, is_refused_commit, mark_at, settled_from, fate_from, refused_from}
 
 -- how many calls are left from place k on
@@ -47,10 +40,10 @@ module _ (ms : List ℕ) (k count m : ℕ) (h : k < count) (e : m ≡ mark_at ms
       (cond (is_done_by 9 n (p t)) (settled_from ms k (q t) (count - (k + 1))) (fate_from ms n (q t) (count - (k + 1)))))
 
   pub refused_next :
-      (n : ℕ) (last : Refused) →
+      (n : ℕ) (last : Option ℕ) →
       refused_from ms n last k (count - k)
       ≡ cond (is_done_by 10 n m || is_done_by 9 n m) last
-      (refused_from ms n (cond (is_refused_commit n m) (At k) last) (k + 1) (count - (k + 1)))
+      (refused_from ms n (cond (is_refused_commit n m) (Some k) last) (k + 1) (count - (k + 1)))
   unfolding refused_from
   refused_next n last =
       let p = sym e in
@@ -58,7 +51,7 @@ module _ (ms : List ℕ) (k count m : ℕ) (h : k < count) (e : m ≡ mark_at ms
       ap (refused_from ms n last k) (left_next k count h)
       ∙ (λ t.
       cond (is_done_by 10 n (p t) || is_done_by 9 n (p t)) last
-      (refused_from ms n (cond (is_refused_commit n (p t)) (At k) last) (q t) (count - (k + 1))))
+      (refused_from ms n (cond (is_refused_commit n (p t)) (Some k) last) (q t) (count - (k + 1))))
 
 -- no call is left
 module _ (ms : List ℕ) (k count : ℕ) (h : count ≤ k) where
@@ -70,6 +63,6 @@ module _ (ms : List ℕ) (k count : ℕ) (h : count ≤ k) where
   unfolding fate_from
   fate_end n = ap (fate_from ms n k) (left_none k count h)
 
-  pub refused_end : (n : ℕ) (last : Refused) → refused_from ms n last k (count - k) ≡ last
+  pub refused_end : (n : ℕ) (last : Option ℕ) → refused_from ms n last k (count - k) ≡ last
   unfolding refused_from
   refused_end n last = ap (refused_from ms n last k) (left_none k count h)

@@ -1,11 +1,6 @@
 -- The origin of a part, a call at a time from the last to the first: the change that a commit brings,
 -- or else the origin by the calls before it. Assumes nothing.
-use Prim.Native.Nat.{ℕ, zero, suc, ◌-◌, ◌<◌, ◌≤◌}
-use mathlib.Core.Bool.{Bool, true, false, cond}
-use mathlib.Core.Path.{◌≡◌, refl, sym, ap, ◌∙◌}
-use native.Mathlib.Omega.{arith}
-use mathlib.Core.List.{List}
-use borrow.Author.Tests.{eqb-true, ne_eqb}
+use Rattle.std.proofs.Common.{ℕ, zero, suc, ◌-◌, ◌<◌, ◌≤◌, Bool, true, false, cond, ◌≡◌, refl, sym, ap, ◌∙◌, arith, List, eqb-true, ne_eqb}
 use Rattle.base.proofs.ladder.Ladders.{and_left, not_left}
 use Rattle.base.proofs.verdicts.Picks.{never'}
 use Rattle.auditing.specs.declared.marks.Origin.{Origin}

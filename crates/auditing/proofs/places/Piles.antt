@@ -1,15 +1,8 @@
 -- A buffer that is given one list of places after the other: it counts them up to one past its end,
 -- and holds as many as fit. Assumes nothing.
-use Prim.Native.Nat.{ℕ, suc, ◌+◌, ◌-◌, ◌<◌, ◌≤◌, min}
-use mathlib.Core.Bool.{Bool, true, false, cond}
-use mathlib.Core.List.{List, [], ◌∷◌, ◌++◌, append-nil}
-use mathlib.Core.Path.{◌≡◌, refl, sym, ap, subst, ◌∙◌}
-use native.Mathlib.Omega.{arith}
-use native.Mathlib.Numerals.{add-one}
-use lib.Dec.{ltb}
-use borrow.Author.Tests.{ltb-true, ltb-false}
-use lib.ListN.{length, get_or, set, take, length-append, length-set, length-take, get_or-append}
-use lib.Seq.{append_snoc, set_out, get_or-set_same, get_or-set_other, get_or-append_seam, get_or-take, ext_get_or}
+use Rattle.std.proofs.Common.{ℕ, suc, ◌+◌, ◌-◌, ◌<◌, ◌≤◌, min, Bool, true, false, cond, List, [], ◌∷◌, ◌++◌, append-nil, ◌≡◌, refl, sym, ap, subst, ◌∙◌, arith, add-one, ltb, ltb-true, ltb-false, length, get_or, set, take, length-append, length-set, length-take, get_or-set_same, get_or-set_other, get_or-take, ext_get_or}
+use lib.ListN.{get_or-append}
+use lib.Seq.{append_snoc, set_out, get_or-append_seam}
 use Rattle.base.proofs.verdicts.Picks.{cond_true, cond_false}
 use Rattle.auditing.specs.Marks.{mark_desk, is_done, mark_at, own_places, kept_at, kept_places, Pile, pile, given, all_given, is_alone, is_draft_mark, draft_places}
 use Rattle.auditing.proofs.places.Fates.{left_next, left_none}

@@ -1,8 +1,7 @@
 -- A month file that passes the index check gives, for each map, a ladder within 75, terms within
 -- the map's rows and harmonics within its own, so that every index that `virtim` and `versy` make
 -- of them is inside its array. Assumes nothing.
-use Rattle.std.proofs.Common.{◌≡◌, ℕ, zero, suc, ◌+◌, ◌-◌, ◌*◌, ◌%◌, ◌<◌, ◌≤◌, Bool, true, false, cond, ◌⊎◌, List, get_or, ℤ, sym, refl, ap, ◌∙◌, subst, inl, inr, add-zero, zero-add, add-one, arith}
-use Rattle.base.specs.declared.refusal.Verdict.TheVariants.{Accepted, Refused}
+use Rattle.std.proofs.Common.{◌≡◌, ℕ, zero, suc, ◌+◌, ◌-◌, ◌*◌, ◌%◌, ◌<◌, ◌≤◌, Bool, true, false, cond, ◌⊎◌, List, get_or, ℤ, sym, refl, ap, ◌∙◌, subst, inl, inr, add-zero, zero-add, add-one, arith, Err, Ok}
 use Rattle.base.specs.declared.refusal.Refusal.TheVariants.{Index}
 use Rattle.base.specs.Index.{ikim_at, index_of, map_word, rows, harmonics, good_map, lowest_bad, index_check, Climbs, top, level, up, GoodIndex, Reaches}
 use Rattle.base.specs.Blend.{IA, IB, IC}
@@ -15,21 +14,21 @@ use Rattle.base.proofs.ladder.Ladders.{map_words, same_words, good_known, six, l
 abbrev good : List ℕ → ℕ → Bool
 good month k = good_map (ikim_at month k) (get_or rows k 0) (get_or harmonics k 0)
 
-good_from : (month : List ℕ) (n k i : ℕ) → lowest_bad month n k ≡ Accepted → i < n → good month (k + i) ≡ true
+good_from : (month : List ℕ) (n k i : ℕ) → lowest_bad month n k ≡ Ok tt → i < n → good month (k + i) ≡ true
 unfolding lowest_bad
 good_from month zero k i e h = absurd (omega arith)
 good_from month (suc n) k i e h = go (good month k) refl (good_from month n (k + 1)) i h e
   where
     go :
         (b : Bool) → good month k ≡ b →
-        ((i : ℕ) → lowest_bad month n (k + 1) ≡ Accepted → i < n → good month (k + 1 + i) ≡ true) →
-        (i : ℕ) → i < suc n → cond b (lowest_bad month n (k + 1)) (Refused (Index (k + 1))) ≡ Accepted →
+        ((i : ℕ) → lowest_bad month n (k + 1) ≡ Ok tt → i < n → good month (k + 1 + i) ≡ true) →
+        (i : ℕ) → i < suc n → cond b (lowest_bad month n (k + 1)) (Err (Index (k + 1))) ≡ Ok tt →
         good month (k + i) ≡ true
     go true g f zero h e = ap (good month) (add-zero k) ∙ g
     go true g f (suc i) h e = let m : k + suc i ≡ k + 1 + i = omega arith in ap (good month) m ∙ f i e (omega arith)
     go false g f i h e = refused_not_accepted e
 
-module _ (month : List ℕ) (passed : index_check month ≡ Accepted) where
+module _ (month : List ℕ) (passed : index_check month ≡ Ok tt) where
   every_good : (k : ℕ) → k < 6 → good month k ≡ true
   unfolding index_check
   every_good k h = ap (good month) (sym (zero-add k)) ∙ good_from month 6 0 k passed h
@@ -55,7 +54,7 @@ pub index_word : (month : List ℕ) (k j : ℕ) → k < 6 → j < 10 → map_wor
 unfolding index_of
 index_word month k j h l = run_at _ 60 (k * 10 + j) 0 (omega arith)
 
-module _ (month : List ℕ) (passed : index_check month ≡ Accepted) (k : ℕ) (h : k < 6) where
+module _ (month : List ℕ) (passed : index_check month ≡ Ok tt) (k : ℕ) (h : k < 6) where
   -- the law that the layers above rely on
   pub good_index : GoodIndex (map_word (index_of month) k) (get_or rows k 0) (get_or harmonics k 0)
   good_index =
@@ -136,7 +135,7 @@ reads_inside =
     (λ j h a b. record { own = omega arith; all = omega arith; own_result = omega arith; result = omega arith })
     (λ j h a b. record { own = omega arith; all = omega arith; own_result = omega arith; result = omega arith })
 
-module _ (month : List ℕ) (passed : index_check month ≡ Accepted) (k : ℕ) (h : k < 6) where
+module _ (month : List ℕ) (passed : index_check month ≡ Ok tt) (k : ℕ) (h : k < 6) where
   pub virtim_inside :
       (j i : ℕ) → j < map_word (index_of month) k 8 + 1 → i ≤ map_word (index_of month) k 9 → VirtimInside k j i
   virtim_inside j i a b = let g = good_index month passed k h in reads_inside k h j i (omega arith) (omega arith)

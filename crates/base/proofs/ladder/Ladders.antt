@@ -1,15 +1,14 @@
 -- The index check over unsigned words: a negative word is 2 ^ 31 or more, which no test passes, so
 -- that the unsigned tests of the code agree with the signed ones of the definition. And what a map
 -- that passes gives. Assumes nothing.
-use Rattle.std.proofs.Common.{◌≡◌, ℕ, zero, suc, ◌+◌, ◌-◌, ◌%◌, ◌^◌, ◌<◌, ◌≤◌, Bool, true, false, ◌&&◌, T, eqb, ltb, leb, List, get_or, ℤ, pos, negsuc, ◌-ℤ◌, nat_abs, sym, refl, ap, ◌∙◌, arith, lit≤, ltb-true, le-ltb, lt-ltb, eq-eqb, ne_eqb, eqb-true, le-leb, leb-true}
+use Rattle.std.proofs.Common.{◌≡◌, ℕ, zero, suc, ◌+◌, ◌-◌, ◌%◌, ◌^◌, ◌<◌, ◌≤◌, Bool, true, false, ◌&&◌, T, eqb, ltb, leb, List, get_or, ℤ, pos, negsuc, ◌-ℤ◌, nat_abs, sym, refl, ap, ◌∙◌, arith, lit≤, ltb-true, le-ltb, lt-ltb, eq-eqb, ne_eqb, eqb-true, le-leb, leb-true, leb-false, Err, Ok}
 use native.Mathlib.Decide.{dec_lt, ℕ_discrete}
 use borrow.Author.Tests.{lt-leb}
 use Rattle.base.specs.declared.refusal.Refusal.TheVariants.{Index}
-use Rattle.base.specs.declared.refusal.Verdict.TheVariants.{Accepted, Refused}
 use Rattle.base.specs.Number.{signed_of}
 use Rattle.base.specs.Words.{word_at, integer_at}
 use Rattle.base.specs.Index.{ikim_place, ikim_at, rows, harmonics, is_whole_to, equals, exceeds, climbs, good_map, lowest_bad, index_check, Climbs, top, level, up, GoodIndex}
-use Rattle.base.proofs.verdicts.Picks.{cond_true, cond_false, never}
+use Rattle.base.proofs.verdicts.Picks.{cond_true, cond_false, never, never'}
 
 -- ---- both of two tests
 
@@ -305,6 +304,9 @@ limits =
     (within 49 4 tt tt tt)
     (within 22 4 tt tt tt)
 
+pub in_first : (u : ℕ) → (leb 1 u && leb u 75) ≡ true → (1 ≤ u) × (u ≤ 75)
+in_first u e = (leb-true 1 u (and_left (leb 1 u) (leb u 75) e), leb-true u 75 (and_right (leb 1 u) (leb u 75) e))
+
 module _ (month : List ℕ) (k : ℕ) (h : k < 6) where
   abbrev R : ℕ
   R = get_or rows k 0
@@ -323,11 +325,13 @@ module _ (month : List ℕ) (k : ℕ) (h : k < 6) where
     pub fails_waves : u ≡ map_words month k 9 → H < u → false ≡ good_map (ikim_at month k) R H
     fails_waves e t = let l = limits k h in sym (sym unsigned ∙ bad_waves _ R H l.some l.few l.waves (omega arith))
 
-    pub fails_low : u ≡ map_words month k 0 → u < 1 → false ≡ good_map (ikim_at month k) R H
-    fails_low e t = let l = limits k h in sym (sym unsigned ∙ bad_low _ R H l.some l.few l.waves (omega arith))
-
-    pub fails_high : u ≡ map_words month k 0 → 75 < u → false ≡ good_map (ikim_at month k) R H
-    fails_high e t = let l = limits k h in sym (sym unsigned ∙ bad_high _ R H l.some l.few l.waves (omega arith))
+    pub fails_first : u ≡ map_words month k 0 → (leb 1 u && leb u 75) ≡ false → false ≡ good_map (ikim_at month k) R H
+    fails_first e t = go (leb 1 u) (leb u 75) (leb-false 1 u) (leb-false u 75) t
+      where
+        go : (a b : Bool) → (a ≡ false → u < 1) → (b ≡ false → 75 < u) → (a && b) ≡ false → false ≡ good_map (ikim_at month k) R H
+        go true true f g t = never' t
+        go true false f g t = let l = limits k h in let m = g refl in sym (sym unsigned ∙ bad_high _ R H l.some l.few l.waves (omega arith))
+        go false b f g t = let l = limits k h in let m = f refl in sym (sym unsigned ∙ bad_low _ R H l.some l.few l.waves (omega arith))
 
   pub ladder_decides :
       map_words month k 8 < R → map_words month k 9 ≤ H → 1 ≤ map_words month k 0 → map_words month k 0 ≤ 75 →
@@ -350,7 +354,7 @@ module _ (month : List ℕ) (k : ℕ) (c : Checked month k) where
     map : lowest_bad month (6 - k) k ≡ lowest_bad month (suc (6 - (k + 1))) k
     map = let n : 6 - k ≡ suc (6 - (k + 1)) = omega arith in ap (λ (m : ℕ). lowest_bad month m k) n
 
-    pub bad_map : b ≡ false → index_check month ≡ Refused (Index (k + 1))
+    pub bad_map : b ≡ false → index_check month ≡ Err (Index (k + 1))
     unfolding lowest_bad
     bad_map f = sym c.same ∙ map ∙ cond_false _ _ (sym e ∙ f)
 
@@ -358,6 +362,6 @@ module _ (month : List ℕ) (k : ℕ) (c : Checked month k) where
     unfolding lowest_bad
     next_map t = record { turns = omega arith; same = sym (cond_true _ _ (sym e ∙ t)) ∙ sym map ∙ c.same }
 
-  pub no_map : 6 ≤ k → index_check month ≡ Accepted
+  pub no_map : 6 ≤ k → index_check month ≡ Ok tt
   unfolding lowest_bad
   no_map h = let n : 6 - k ≡ 0 = omega arith in sym c.same ∙ ap (λ (m : ℕ). lowest_bad month m k) n

@@ -1,10 +1,9 @@
 -- The year file's directory: a pair's rules by the tests that the code makes; what is left of the
 -- check after k pairs is the whole check; and the part of a pair, by whether it is within the file.
 -- Assumes nothing.
-use Rattle.std.proofs.Common.{◌≡◌, ℕ, suc, ◌+◌, ◌-◌, ◌*◌, ◌<◌, ◌≤◌, Bool, true, false, ◌&&◌, ◌||◌, eqb, ltb, leb, List, length, sym, refl, ap, ◌∙◌, add-one, arith, le-ltb, lt-ltb, eqb-true, le-leb, leb-true}
+use Rattle.std.proofs.Common.{◌≡◌, ℕ, suc, ◌+◌, ◌-◌, ◌*◌, ◌<◌, ◌≤◌, Bool, true, false, ◌&&◌, ◌||◌, eqb, ltb, leb, List, length, sym, refl, ap, ◌∙◌, add-one, arith, le-ltb, lt-ltb, eqb-true, le-leb, leb-true, Err, Ok}
 use borrow.Author.Tests.{lt-leb}
 use Rattle.base.specs.declared.refusal.Refusal.TheVariants.{Year}
-use Rattle.base.specs.declared.refusal.Verdict.TheVariants.{Accepted, Refused}
 use Rattle.base.specs.Ranges.{is_month, is_bit}
 use Rattle.base.specs.MonthFile.{empty_part}
 use Rattle.base.specs.Year.{offset_at, length_at, end_at, is_there, floor_at, is_after, keeps_rules, pairs_check, year_check, pair_part, year_month, year_model}
@@ -53,11 +52,11 @@ module _ (s : List ℕ) where
     unfolding pairs_check
     next g = record { most = omega arith; rest = sym (ap (pairs_check s k) one_left ∙ cond_true _ _ g) ∙ h.rest }
 
-    pub broken : keeps_rules s k ≡ false → Refused (Year (k + 1)) ≡ year_check s
+    pub broken : keeps_rules s k ≡ false → Err (Year (k + 1)) ≡ year_check s
     unfolding pairs_check
     broken g = sym (ap (pairs_check s k) one_left ∙ cond_false _ _ g) ∙ h.rest
 
-  pub done : (k : ℕ) → Passed k → 14 ≤ k → Accepted ≡ year_check s
+  pub done : (k : ℕ) → Passed k → 14 ≤ k → Ok tt ≡ year_check s
   unfolding pairs_check
   done k h l = let e : 14 - k ≡ 0 = omega arith in sym (ap (pairs_check s k) e) ∙ h.rest
 

@@ -2,19 +2,15 @@
 -- round; it is the first of each part of a run; and of a month file that was walked it is the first
 -- between the first table after `ikim` and the end of the last, since a right marker is a finite
 -- number by its pattern. Assumes nothing.
-use Rattle.std.proofs.Common.{◌≡◌, ℕ, zero, suc, ◌+◌, ◌-◌, ◌*◌, ◌%◌, ◌^◌, ◌<◌, ◌≤◌, Bool, true, false, cond, ◌&&◌, T, eqb, ltb, List, [], ◌∷◌, length, get_or, sym, refl, ap, ◌∙◌, subst, add-one, arith, eq-eqb, ne_eqb}
+use Rattle.std.proofs.Common.{◌≡◌, ℕ, zero, suc, ◌+◌, ◌-◌, ◌*◌, ◌%◌, ◌^◌, ◌<◌, ◌≤◌, Bool, true, false, cond, ◌&&◌, T, eqb, ltb, List, [], ◌∷◌, length, get_or, sym, refl, ap, ◌∙◌, subst, add-one, arith, eq-eqb, ne_eqb, Err, None, Ok, Some, is_some, bit_or, Float}
 use native.Mathlib.Decide.{dec_lt}
-use lib.Bits.{bit_or}
-use lib.Ieee.{Float, nan, binary32, of_bits}
+use lib.Ieee.{nan, binary32, of_bits}
 use lib.Ieee.Bits.{is_true}
 use lib.Ieee.Scale.{finite}
 use Rattle.base.specs.declared.refusal.Refusal.{Refusal}
 use Rattle.base.specs.declared.refusal.Refusal.TheVariants.{RecordWord, MonthWord}
-use Rattle.base.specs.declared.refusal.Verdict.{Verdict}
-use Rattle.base.specs.declared.refusal.Verdict.TheVariants.{Accepted, Refused}
+use Rattle.base.specs.Refusal.{Verdict}
 use Rattle.base.specs.Refusal.{refuse_unless, ◌then◌}
-use Rattle.base.specs.declared.words.TableWord.{TableWord}
-use Rattle.base.specs.declared.words.TableWord.TheVariants.{Finite, NotFinite}
 use Rattle.base.specs.Words.{word_at, float_at, table_word_at, FiniteRun}
 use Rattle.base.specs.MonthFile.{sizes, month_file_check, Marked}
 use Rattle.base.specs.Tables.{Table, words_in, no_such_table, table_end, start_of, words_of, xf2cof}
@@ -26,31 +22,10 @@ use Rattle.base.proofs.layout.Walks.{accepted_marks}
 
 -- ---- a word of a table
 
-unfoldable pub tells : TableWord → Bool
-tells (Finite x) = true
-tells NotFinite = false
-
-pub told : (s : List ℕ) (at : ℕ) → tells (table_word_at s at) ≡ finite (float_at s at)
-unfolding table_word_at tells
-told s at = go (finite (float_at s at))
-  where
-    go : (b : Bool) → tells (cond b (Finite (float_at s at)) NotFinite) ≡ b
-    go true = refl
-    go false = refl
-
--- a word that is known to be finite tells its number, and never tells that it is none
-unfoldable pub number_in : TableWord → Float
-number_in (Finite x) = x
-number_in NotFinite = nan
-
-module _ (s : List ℕ) (at : ℕ) (t : T (finite (float_at s at))) where
-  pub told_number : number_in (table_word_at s at) ≡ float_at s at
-  unfolding table_word_at number_in
-  told_number = ap (λ (b : Bool). number_in (cond b (Finite (float_at s at)) NotFinite)) (is_true (finite (float_at s at)) t)
-
-  pub told_always : {A : Type 0} → NotFinite ≡ table_word_at s at → A
-  unfolding tells
-  told_always e = never (ap tells e ∙ told s at ∙ is_true (finite (float_at s at)) t)
+-- one that is finite is there
+pub told_number : (s : List ℕ) (at : ℕ) → T (finite (float_at s at)) → table_word_at s at ≡ Some (float_at s at)
+unfolding table_word_at
+told_number s at t = ap (λ (b : Bool). cond b (Some (float_at s at)) None) (is_true (finite (float_at s at)) t)
 
 -- ---- a run of words
 
@@ -64,7 +39,7 @@ module _ (s : List ℕ) where
       go :
           (b : Bool) →
           words_check why s (at + 4) n ≡ refuse_unless (eqb (first_other s (at + 4) n) (at + 4 + 4 * n)) (why (first_other s (at + 4) n)) →
-          cond b (words_check why s (at + 4) n) (Refused (why at))
+          cond b (words_check why s (at + 4) n) (Err (why at))
           ≡ refuse_unless (eqb (cond b (first_other s (at + 4) n) at) (at + 4 * suc n)) (why (cond b (first_other s (at + 4) n) at))
       go true more =
           let e : at + 4 + 4 * n ≡ at + 4 * suc n = omega arith in
@@ -103,12 +78,6 @@ module _ (s : List ℕ) where
   -- the search: from the word i on the first other is that of the whole run
   abbrev pub Sought : ℕ → ℕ → ℕ → Type 0
   Sought at n i = first_other s (at + 4 * i) (n - i) ≡ first_other s at n
-
-  pub sought_first : (at n : ℕ) → Sought at n 0
-  sought_first at n =
-      let e : at + 4 * 0 ≡ at = omega arith in
-      let f : n - 0 ≡ n = omega arith in
-      λ t. first_other s (e t) (f t)
 
   one_more : (at n i : ℕ) → i < n → first_other s (at + 4 * i) (n - i) ≡ cond (finite (float_at s (at + 4 * i))) (first_other s (at + 4 * (i + 1)) (n - (i + 1))) (at + 4 * i)
   unfolding first_other
@@ -160,24 +129,24 @@ module _ (s : List ℕ) where
       ∙ ap (all_finite s at) (sym (add-one i))
 
   -- accepted exactly where all are finite
-  pub run_finite : (why : ℕ → Refusal) (at n : ℕ) → words_check why s at n ≡ Accepted → FiniteRun s at n
+  pub run_finite : (why : ℕ → Refusal) (at n : ℕ) → words_check why s at n ≡ Ok tt → FiniteRun s at n
   unfolding words_check
   run_finite why at zero e i h = absurd (omega arith)
   run_finite why at (suc n) e i h = go (finite (float_at s at)) refl e (run_finite why (at + 4) n) i h
     where
       go :
-          (b : Bool) → finite (float_at s at) ≡ b → cond b (words_check why s (at + 4) n) (Refused (why at)) ≡ Accepted →
-          (words_check why s (at + 4) n ≡ Accepted → FiniteRun s (at + 4) n) →
+          (b : Bool) → finite (float_at s at) ≡ b → cond b (words_check why s (at + 4) n) (Err (why at)) ≡ Ok tt →
+          (words_check why s (at + 4) n ≡ Ok tt → FiniteRun s (at + 4) n) →
           (i : ℕ) → i < suc n → T (finite (float_at s (at + 4 * i)))
       go true f e more zero h = subst (λ (p : ℕ). T (finite (float_at s p))) (omega arith) (subst T (sym f) tt)
       go true f e more (suc i) h = subst (λ (p : ℕ). T (finite (float_at s p))) (omega arith) (more e i (omega arith))
       go false f e more i h = refused_not_accepted e
 
-  pub finite_run : (why : ℕ → Refusal) (at n : ℕ) → FiniteRun s at n → words_check why s at n ≡ Accepted
+  pub finite_run : (why : ℕ → Refusal) (at n : ℕ) → FiniteRun s at n → words_check why s at n ≡ Ok tt
   unfolding words_check
   finite_run why at zero r = refl
   finite_run why at (suc n) r =
-      ap (λ (b : Bool). cond b (words_check why s (at + 4) n) (Refused (why at))) (here at n r)
+      ap (λ (b : Bool). cond b (words_check why s (at + 4) n) (Err (why at))) (here at n r)
       ∙ finite_run why (at + 4) n (later at n r)
 
   -- two runs, one behind the other
@@ -195,8 +164,8 @@ module _ (s : List ℕ) where
       go :
           (b : Bool) →
           words_check why s (at + 4) (m + n) ≡ (words_check why s (at + 4) m then words_check why s (at + 4 + 4 * m) n) →
-          cond b (words_check why s (at + 4) (m + n)) (Refused (why at))
-          ≡ (cond b (words_check why s (at + 4) m) (Refused (why at)) then words_check why s (at + 4 * suc m) n)
+          cond b (words_check why s (at + 4) (m + n)) (Err (why at))
+          ≡ (cond b (words_check why s (at + 4) m) (Err (why at)) then words_check why s (at + 4 * suc m) n)
       go true more =
           let e : at + 4 + 4 * m ≡ at + 4 * suc m = omega arith in
           more ∙ ap (λ (p : ℕ). words_check why s (at + 4) m then words_check why s p n) e
@@ -211,10 +180,10 @@ module _ (s : List ℕ) where
   Spread : ℕ → ℕ → List Table → Type 0
   Spread at n [] = n ≡ 0
   Spread at n (t ∷ ts) =
-      (gap : ℕ) × (rest : ℕ) × (t.from ≡ at + 4 * gap) × (n ≡ gap + (words_in t + rest)) × (check at gap ≡ Accepted)
+      (gap : ℕ) × (rest : ℕ) × (t.from ≡ at + 4 * gap) × (n ≡ gap + (words_in t + rest)) × (check at gap ≡ Ok tt)
       × Spread (table_end t) rest ts
 
-  no_words : (at : ℕ) → check at 0 ≡ Accepted
+  no_words : (at : ℕ) → check at 0 ≡ Ok tt
   unfolding words_check
   no_words at = refl
 
@@ -235,7 +204,7 @@ module _ (s : List ℕ) where
   -- two words that are small numbers, as markers are
   between :
       (at m n : ℕ) → T (finite (of_bits binary32 m)) → T (finite (of_bits binary32 n)) → word_at s at ≡ m → word_at s (at + 4) ≡ n →
-      check at 2 ≡ Accepted
+      check at 2 ≡ Ok tt
   unfolding float_at
   between at m n p q d e = finite_run MonthWord at 2 both
     where
@@ -382,14 +351,14 @@ module _ (s : List ℕ) where
         ),
       )
 
-  pub walked_words : month_file_check s ≡ Accepted → check 252 9574 ≡ table_words_check s
+  pub walked_words : month_file_check s ≡ Ok tt → check 252 9574 ≡ table_words_check s
   unfolding table_words_check
   walked_words e = joined 252 9574 float_tables (spread (accepted_marks s e))
 
   -- ---- table by table
 
   each_finite :
-      (ts : List Table) → each_check s ts ≡ Accepted → (k : ℕ) → k < length ts →
+      (ts : List Table) → each_check s ts ≡ Ok tt → (k : ℕ) → k < length ts →
       let t = get_or ts k no_such_table in FiniteRun s t.from (words_in t)
   unfolding each_check
   each_finite [] e k h = absurd (omega arith)
@@ -399,7 +368,7 @@ module _ (s : List ℕ) where
 
   finite_each :
       (ts : List Table) → ((k : ℕ) → k < length ts → let t = get_or ts k no_such_table in FiniteRun s t.from (words_in t)) →
-      each_check s ts ≡ Accepted
+      each_check s ts ≡ Ok tt
   unfolding each_check
   finite_each [] r = refl
   finite_each (t ∷ ts) r =
@@ -407,7 +376,7 @@ module _ (s : List ℕ) where
       ∙ finite_each ts (λ k h. r (suc k) (omega arith))
 
   -- accepted exactly where every word of the tables 2 to 20 is finite
-  pub tables_finite : table_words_check s ≡ Accepted → FiniteMonth s
+  pub tables_finite : table_words_check s ≡ Ok tt → FiniteMonth s
   unfolding table_words_check
   tables_finite e = record { words = by_number }
     where
@@ -416,15 +385,15 @@ module _ (s : List ℕ) where
       by_number (suc zero) l h = absurd (omega arith)
       by_number (suc (suc k)) l h = each_finite float_tables e k (omega arith)
 
-  pub finite_tables : FiniteMonth s → table_words_check s ≡ Accepted
+  pub finite_tables : FiniteMonth s → table_words_check s ≡ Ok tt
   unfolding table_words_check
   finite_tables f = finite_each float_tables (λ k h. f.words (suc (suc k)) (omega arith) (omega arith))
 
   -- and every word of the record
-  pub record_finite : record_words_check s 1 ≡ Accepted → FiniteRecord s
+  pub record_finite : record_words_check s 1 ≡ Ok tt → FiniteRecord s
   unfolding record_words_check
   record_finite e = record { words = run_finite RecordWord (start_of xf2cof) (words_of xf2cof) e }
 
-  pub finite_record : FiniteRecord s → record_words_check s 1 ≡ Accepted
+  pub finite_record : FiniteRecord s → record_words_check s 1 ≡ Ok tt
   unfolding record_words_check
   finite_record f = finite_run RecordWord (start_of xf2cof) (words_of xf2cof) f.words

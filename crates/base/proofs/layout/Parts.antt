@@ -1,13 +1,12 @@
 -- Table: what is refused, what is known where nothing is, and that the part handed back lies in the
 -- file that holds it, by one test over all the places. Assumes nothing.
-use Rattle.std.proofs.Common.{◌≡◌, ℕ, ◌+◌, ◌*◌, ◌<◌, ◌≤◌, Bool, true, false, cond, leb, List, map, length, get_or, sym, refl, ap, ◌∙◌, arith, leb→le, Bor, eq-eqb, ne_eqb, le-leb, leb-true}
+use Rattle.std.proofs.Common.{◌≡◌, ℕ, ◌+◌, ◌*◌, ◌<◌, ◌≤◌, Bool, true, false, cond, leb, List, map, length, get_or, sym, refl, ap, ◌∙◌, arith, leb→le, Bor, eq-eqb, ne_eqb, le-leb, leb-true, Err, Ok}
 use native.Mathlib.Decide.{dec_lt}
 use lib.ListN.{get_or-map, get_or-eq_default}
 use borrow.Author.Tests.{lt-leb}
 use Rattle.base.specs.declared.refusal.Refusal.{Refusal}
 use Rattle.base.specs.declared.refusal.Refusal.TheVariants.{Record, Table as NoTable}
-use Rattle.base.specs.declared.refusal.Verdict.{Verdict}
-use Rattle.base.specs.declared.refusal.Verdict.TheVariants.{Accepted, Refused}
+use Rattle.base.specs.Refusal.{Verdict}
 use Rattle.base.specs.Refusal.{verdict_report, is_accepted}
 use Rattle.base.specs.MonthFile.{record_size, month_file_size, Part, empty_part, month_file_check}
 use Rattle.base.specs.Tables.{Table, words_in, table_end, numbered, no_such_table, bytes_in, part_of, table_check, table_part, table_file}
@@ -20,11 +19,11 @@ use Rattle.base.proofs.layout.Walks.{accepted_length}
 -- ---- what is refused
 
 module _ (k : ℕ) (f m : List ℕ) where
-  pub table_high : 20 < k → table_check k f m ≡ Refused NoTable
+  pub table_high : 20 < k → table_check k f m ≡ Err NoTable
   unfolding table_check
   table_high h = cond_false _ _ (lt-leb k 20 h)
 
-  pub table_short : k ≤ 20 → length f < record_size → table_check k f m ≡ Refused Record
+  pub table_short : k ≤ 20 → length f < record_size → table_check k f m ≡ Err Record
   unfolding table_check
   table_short a h = cond_true _ _ (le-leb k 20 a) ∙ cond_false _ _ (lt-leb record_size (length f) h)
 
@@ -36,21 +35,21 @@ module _ (k : ℕ) (f m : List ℕ) where
 pub record TableThere (k : ℕ) (f m : List ℕ) : Type 0 where
   pub known : k ≤ 20
   pub planes : record_size ≤ length f
-  pub walked : month_file_check m ≡ Accepted
+  pub walked : month_file_check m ≡ Ok tt
 
 module _ (k : ℕ) (f m : List ℕ) where
-  pub table_known : table_check k f m ≡ Accepted → TableThere k f m
+  pub table_known : table_check k f m ≡ Ok tt → TableThere k f m
   unfolding table_check
   table_known e = go (leb k 20) (leb record_size (length f)) (leb-true k 20) (leb-true record_size (length f)) e
     where
       go :
           (a b : Bool) → (a ≡ true → k ≤ 20) → (b ≡ true → record_size ≤ length f) →
-          cond a (cond b (month_file_check m) (Refused Record)) (Refused NoTable) ≡ Accepted → TableThere k f m
+          cond a (cond b (month_file_check m) (Err Record)) (Err NoTable) ≡ Ok tt → TableThere k f m
       go true true p q e = record { known = p refl; planes = q refl; walked = e }
       go true false p q e = refused_not_accepted e
       go false b p q e = refused_not_accepted e
 
-  pub table_there : TableThere k f m → table_check k f m ≡ Accepted
+  pub table_there : TableThere k f m → table_check k f m ≡ Ok tt
   table_there t = table_walk k f m t.known t.planes ∙ t.walked
 
   -- 'it gives 0 and 0 exactly when nothing is refused'
@@ -101,24 +100,24 @@ no_part k h = ap bytes_in (get_or-eq_default numbered no_such_table {n = k} (ome
 -- ---- what is handed back
 
 module _ (k : ℕ) (f m : List ℕ) {v : Verdict} (e : v ≡ table_check k f m) where
-  pub table_part_law : v ≡ Accepted → table_part k f m ≡ part_of k
+  pub table_part_law : v ≡ Ok tt → table_part k f m ≡ part_of k
   unfolding table_part
   table_part_law z = cond_true _ _ (ap is_accepted (sym e ∙ z))
 
-  pub table_none : {why : Refusal} → v ≡ Refused why → table_part k f m ≡ empty_part
+  pub table_none : {why : Refusal} → v ≡ Err why → table_part k f m ≡ empty_part
   unfolding table_part
   table_none z = cond_false _ _ (ap is_accepted (sym e ∙ z))
 
 module _ (k : ℕ) (f m : Bor (List ℕ)) {v : Verdict} (e : v ≡ table_check k f.now m.now) where
-  pub file_none : {why : Refusal} → v ≡ Refused why → table_file k f m ≡ f
+  pub file_none : {why : Refusal} → v ≡ Err why → table_file k f m ≡ f
   unfolding table_file
   file_none z = cond_false _ _ (ap is_accepted (sym e ∙ z))
 
-  pub file_f2 : v ≡ Accepted → k ≡ 0 → table_file k f m ≡ f
+  pub file_f2 : v ≡ Ok tt → k ≡ 0 → table_file k f m ≡ f
   unfolding table_file
   file_f2 z q = cond_true _ _ (ap is_accepted (sym e ∙ z)) ∙ cond_true _ _ (eq-eqb _ _ q)
 
-  pub file_month : v ≡ Accepted → (k ≡ 0 → ⊥) → table_file k f m ≡ m
+  pub file_month : v ≡ Ok tt → (k ≡ 0 → ⊥) → table_file k f m ≡ m
   unfolding table_file
   file_month z q = cond_true _ _ (ap is_accepted (sym e ∙ z)) ∙ cond_false _ _ (ne_eqb _ _ q)
 
@@ -127,7 +126,7 @@ pub record InFile (p : Part) (s : List ℕ) : Type 0 where
   pub some : 8 ≤ p.size
   pub inside : p.from + p.size ≤ length s
 
-pub table_inside : (k : ℕ) (f m : Bor (List ℕ)) → table_check k f.now m.now ≡ Accepted → InFile (table_part k f.now m.now) (table_file k f m).now
+pub table_inside : (k : ℕ) (f m : Bor (List ℕ)) → table_check k f.now m.now ≡ Ok tt → InFile (table_part k f.now m.now) (table_file k f m).now
 table_inside k f m e = rw (table_part_law k f.now m.now refl e) (elim (dec_lt 0 k) [
   | yes h ↦ rw (file_month k f m refl e (λ q. omega arith)) (record { some = p.some; inside = omega (arith, p.inside, accepted_length m.now t.walked) })
   | no h ↦ let q : k ≡ 0 = omega arith in rw (file_f2 k f m refl e q) (record { some = p.some; inside = omega (arith, p.planes q, t.planes) })

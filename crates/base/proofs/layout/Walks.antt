@@ -1,19 +1,18 @@
 -- The walk in fours, by whole records: what lies between two markers is passed at once, so that 18
 -- markers and the length decide. Assumes nothing.
-use Rattle.std.proofs.Common.{◌≡◌, ℕ, zero, suc, ◌+◌, ◌*◌, ◌/◌, ◌%◌, ◌<◌, ◌≤◌, Bool, true, false, cond, T, eqb, ltb, leb, ◌⊎◌, List, [], ◌∷◌, ◌++◌, length, get_or, drop, replicate, sym, refl, ap, ◌∙◌, inl, inr, add-one, arith, eqb→eq, leb→le, drop-cons, eq-eqb, ne_eqb, eqb-true, le-leb, leb-true}
+use Rattle.std.proofs.Common.{◌≡◌, ℕ, zero, suc, ◌+◌, ◌*◌, ◌/◌, ◌%◌, ◌<◌, ◌≤◌, Bool, true, false, cond, T, eqb, ltb, leb, ◌⊎◌, List, [], ◌∷◌, ◌++◌, length, get_or, drop, replicate, sym, refl, ap, ◌∙◌, inl, inr, add-one, arith, eqb→eq, leb→le, drop-cons, eq-eqb, ne_eqb, eqb-true, le-leb, leb-true, Err, Ok}
 use native.Mathlib.Decide.{dec_le, ℕ_discrete}
 use borrow.Author.Tests.{lt-leb, eqb-false}
 use Rattle.base.proofs.verdicts.Picks.{cond_true, cond_false}
 use Rattle.base.specs.Words.{word_at}
 use Rattle.base.specs.declared.refusal.Refusal.TheVariants.{Ended, Marker}
-use Rattle.base.specs.declared.refusal.Verdict.{Verdict}
-use Rattle.base.specs.declared.refusal.Verdict.TheVariants.{Accepted, Refused}
+use Rattle.base.specs.Refusal.{Verdict}
 use Rattle.base.specs.MonthFile.{month_file_size, sizes, Four, marker, anything, layout, is_right, walk, month_file_check, Marked, RecordSize}
 use Rattle.base.proofs.lists.Entries.{at as entry}
 use Rattle.base.proofs.verdicts.Refusals.{refused_not_accepted}
 
 abbrev ended : ℕ → Verdict
-ended at = Refused (Ended at)
+ended at = Err (Ended at)
 
 module _ (s : List ℕ) where
   -- a step
@@ -21,7 +20,7 @@ module _ (s : List ℕ) where
   unfolding walk
   step at f fs h r = cond_true _ _ (le-leb _ _ h) ∙ cond_true _ _ r
 
-  pub wrong : (at n : ℕ) (fs : List Four) → at + 4 ≤ length s → (word_at s at ≡ n → ⊥) → walk s at (marker n ∷ fs) ≡ Refused (Marker at)
+  pub wrong : (at n : ℕ) (fs : List Four) → at + 4 ≤ length s → (word_at s at ≡ n → ⊥) → walk s at (marker n ∷ fs) ≡ Err (Marker at)
   unfolding walk
   wrong at n fs h r = cond_true _ _ (le-leb _ _ h) ∙ cond_false _ _ (ne_eqb _ _ r)
 
@@ -49,7 +48,7 @@ module _ (s : List ℕ) where
     unfolding layout
     no_open l = gone at (marker n) _ l ∙ ap ended (omega arith)
 
-    pub bad_open : at + 4 ≤ length s → (word_at s at ≡ n → ⊥) → walk s at (layout (n ∷ ns)) ≡ Refused (Marker at)
+    pub bad_open : at + 4 ≤ length s → (word_at s at ≡ n → ⊥) → walk s at (layout (n ∷ ns)) ≡ Err (Marker at)
     unfolding layout
     bad_open l e = wrong at n _ l e
 
@@ -63,7 +62,7 @@ module _ (s : List ℕ) where
     closing : at + 4 ≤ length s → word_at s at ≡ n → at + n + 8 ≤ length s → walk s at (layout (n ∷ ns)) ≡ walk s (at + n + 4) (marker n ∷ layout ns)
     closing l e k = opened l e ∙ skip (n / 4) (at + 4) (marker n ∷ layout ns) (omega arith) ∙ ap (λ (x : ℕ). walk s x (marker n ∷ layout ns)) (omega arith)
 
-    pub bad_close : at + 4 ≤ length s → word_at s at ≡ n → at + n + 8 ≤ length s → (word_at s (at + n + 4) ≡ n → ⊥) → walk s at (layout (n ∷ ns)) ≡ Refused (Marker (at + n + 4))
+    pub bad_close : at + 4 ≤ length s → word_at s at ≡ n → at + n + 8 ≤ length s → (word_at s (at + n + 4) ≡ n → ⊥) → walk s at (layout (n ∷ ns)) ≡ Err (Marker (at + n + 4))
     bad_close l e k d = closing l e k ∙ wrong (at + n + 4) n (layout ns) (omega arith) d
 
     pub passed : at + 4 ≤ length s → word_at s at ≡ n → at + n + 8 ≤ length s → word_at s (at + n + 4) ≡ n → walk s at (layout (n ∷ ns)) ≡ walk s (at + n + 8) (layout ns)
@@ -108,11 +107,11 @@ module _ (s : List ℕ) (at k n : ℕ) (w : Walked s at k) (h : k < 9) (z : Reco
   ends_short (inr l) = here ∙ no_close s at n _ w.fours z.fours w.inside l.1 (eqb-true _ _ l.0) l.2
 
   module _ (o : at + 4 ≤ length s) where
-    pub ends_open : eqb (word_at s at) n ≡ false → month_file_check s ≡ Refused (Marker at)
+    pub ends_open : eqb (word_at s at) n ≡ false → month_file_check s ≡ Err (Marker at)
     ends_open e = here ∙ bad_open s at n _ w.fours z.fours w.inside o (eqb-false _ _ e)
 
     module _ (e : eqb (word_at s at) n ≡ true) (l : at + n + 8 ≤ length s) where
-      pub ends_close : eqb (word_at s (at + n + 4)) n ≡ false → month_file_check s ≡ Refused (Marker (at + n + 4))
+      pub ends_close : eqb (word_at s (at + n + 4)) n ≡ false → month_file_check s ≡ Err (Marker (at + n + 4))
       ends_close d = here ∙ bad_close s at n _ w.fours z.fours w.inside o (eqb-true _ _ e) l (eqb-false _ _ d)
 
       pub goes_on : eqb (word_at s (at + n + 4)) n ≡ true → Walked s (at + n + 8) (k + 1)
@@ -125,21 +124,21 @@ module _ (s : List ℕ) (at k n : ℕ) (w : Walked s at k) (h : k < 9) (z : Reco
             same = here ∙ passed s at n _ w.fours z.fours w.inside o (eqb-true _ _ e) l (eqb-true _ _ d);
           }
 
-pub ends : (s : List ℕ) (at k : ℕ) → Walked s at k → 9 ≤ k → month_file_check s ≡ Accepted
+pub ends : (s : List ℕ) (at k : ℕ) → Walked s at k → 9 ≤ k → month_file_check s ≡ Ok tt
 unfolding walk layout
 ends s at k w h = let e : k ≡ 9 = omega (arith, w.turns) in w.same ∙ ap (λ (j : ℕ). walk s at (layout (drop j sizes))) e
 
 -- ---- an accepted file has all the bytes
 
-walked : (s : List ℕ) (at : ℕ) (fs : List Four) → at ≤ length s → walk s at fs ≡ Accepted → at + length fs * 4 ≤ length s
+walked : (s : List ℕ) (at : ℕ) (fs : List Four) → at ≤ length s → walk s at fs ≡ Ok tt → at + length fs * 4 ≤ length s
 unfolding walk
 walked s at [] h e = omega arith
 walked s at (f ∷ fs) h e = go (leb (at + 4) (length s)) (is_right s at f) (leb-true (at + 4) (length s)) (walked s (at + 4) fs) e
   where
     go :
         (a b : Bool) → (a ≡ true → at + 4 ≤ length s) →
-        (at + 4 ≤ length s → walk s (at + 4) fs ≡ Accepted → at + 4 + length fs * 4 ≤ length s) →
-        cond a (cond b (walk s (at + 4) fs) (Refused (Marker at))) (ended at) ≡ Accepted → at + suc (length fs) * 4 ≤ length s
+        (at + 4 ≤ length s → walk s (at + 4) fs ≡ Ok tt → at + 4 + length fs * 4 ≤ length s) →
+        cond a (cond b (walk s (at + 4) fs) (Err (Marker at))) (ended at) ≡ Ok tt → at + suc (length fs) * 4 ≤ length s
     go true true q r e = omega (arith, r (q refl) e)
     go true false q r e = refused_not_accepted e
     go false b q r e = refused_not_accepted e
@@ -149,7 +148,7 @@ unfolding layout
 all_fours = refl
 
 -- 'in all 38,552 bytes'
-pub accepted_length : (s : List ℕ) → month_file_check s ≡ Accepted → month_file_size ≤ length s
+pub accepted_length : (s : List ℕ) → month_file_check s ≡ Ok tt → month_file_size ≤ length s
 unfolding month_file_check
 accepted_length s e = omega (arith, walked s 0 (layout sizes) (omega arith) e, all_fours)
 
@@ -164,7 +163,7 @@ pub fours : Fours sizes
 fours = (refl, (refl, (refl, (refl, (refl, (refl, (refl, (refl, (refl, tt)))))))))
 
 -- a walk that accepts has met no other
-pub marks_met : (s : List ℕ) (at : ℕ) (ns : List ℕ) → Fours ns → at % 4 ≡ 0 → at ≤ length s → walk s at (layout ns) ≡ Accepted → Marked s at ns
+pub marks_met : (s : List ℕ) (at : ℕ) (ns : List ℕ) → Fours ns → at % 4 ≡ 0 → at ≤ length s → walk s at (layout ns) ≡ Ok tt → Marked s at ns
 marks_met s at [] f m h e = tt
 marks_met s at (n ∷ ns) f m h e = let w = f.0 in elim (dec_le (at + 4) (length s)) [
   | no q ↦ refused_not_accepted (sym (no_open s at n ns m w h (omega arith)) ∙ e)
@@ -180,6 +179,6 @@ marks_met s at (n ∷ ns) f m h e = let w = f.0 in elim (dec_le (at + 4) (length
   ]
 ]
 
-pub accepted_marks : (s : List ℕ) → month_file_check s ≡ Accepted → Marked s 0 sizes
+pub accepted_marks : (s : List ℕ) → month_file_check s ≡ Ok tt → Marked s 0 sizes
 unfolding month_file_check
 accepted_marks s e = marks_met s 0 sizes fours refl (omega arith) e

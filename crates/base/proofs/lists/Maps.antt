@@ -1,7 +1,6 @@
 -- An array filled by one run after the other is the runs one after the other: the six maps of
 -- COFION, and the height map. Assumes nothing.
-use Rattle.std.proofs.Common.{◌≡◌, ℕ, zero, suc, ◌+◌, ◌-◌, ◌*◌, ◌<◌, List, [], ◌∷◌, ◌++◌, length, get_or, drop, sym, refl, ap, ◌∙◌, append_assoc, append-nil, zero-add, arith, length-append, length-drop, get_or-append-add}
-use lib.Ieee.{Float}
+use Rattle.std.proofs.Common.{◌≡◌, ℕ, zero, suc, ◌+◌, ◌-◌, ◌*◌, ◌<◌, List, [], ◌∷◌, ◌++◌, length, get_or, drop, sym, refl, ap, ◌∙◌, append_assoc, append-nil, zero-add, arith, length-append, length-drop, get_or-append-add, Float}
 use lib.ListN.{get_or-append}
 use Rattle.base.specs.declared.blend.Weights.{Weights}
 use Rattle.base.specs.Fill.{fill, tabulate}

@@ -1,8 +1,8 @@
 -- `Between lo hi x`, one rule for each operation, with a test of the ends that a computation
 -- passes, and Horner's scheme over [0, X], whose ends are worked out by the same steps. Assumes
 -- nothing.
-use Rattle.std.proofs.Common.{◌≡◌, Bool, true, false, cond, not, ◌&&◌, T, List, [], ◌∷◌, sym, refl, subst, inl, inr}
-use lib.Ieee.{Float, nan, inf, fin, Format, binary64, add, sub, mul, div, le, is_nan}
+use Rattle.std.proofs.Common.{◌≡◌, Bool, true, false, cond, not, ◌&&◌, T, List, [], ◌∷◌, sym, refl, subst, inl, inr, Float}
+use lib.Ieee.{nan, inf, fin, Format, binary64, add, sub, mul, div, le, is_nan}
 use lib.Ieee.Fits.{and_l, and_r}
 use lib.Ieee.Scale.{finite}
 use lib.Ieee.Positive.{positive, above, above_of_le}

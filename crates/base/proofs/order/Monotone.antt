@@ -1,9 +1,9 @@
 -- Rounding keeps order and size, in either format: sums, differences, products, quotients and
 -- narrowing are monotone, since each is `round` of a signed fraction (p - n) / c (`Rounds`) and
 -- `round` is monotone in it. Assumes nothing.
-use Rattle.std.proofs.Common.{◌≡◌, ℕ, zero, suc, ◌+◌, ◌-◌, ◌*◌, ◌/◌, ◌%◌, ◌^◌, ◌<◌, ◌≤◌, Bool, true, false, cond, not, T, eqb, ltb, ℤ, pos, sym, refl, ap, ◌∙◌, subst, inl, inr, mul-le-mul_right, mul_assoc, mul_comm, add-mul, eq-zero-or-pos, mul-le-mul, mul-pos, mul-zero, zero-mul, mul_left_comm, arith, lit<, ltb→lt, lt→ltb, nltb→le, le-ltb, ne_eqb}
+use Rattle.std.proofs.Common.{◌≡◌, ℕ, zero, suc, ◌+◌, ◌-◌, ◌*◌, ◌/◌, ◌%◌, ◌^◌, ◌<◌, ◌≤◌, Bool, true, false, cond, not, T, eqb, ltb, ℤ, pos, sym, refl, ap, ◌∙◌, subst, inl, inr, mul-le-mul_right, mul_assoc, mul_comm, add-mul, eq-zero-or-pos, mul-le-mul, mul-pos, mul-zero, zero-mul, mul_left_comm, arith, lit<, ltb→lt, lt→ltb, nltb→le, le-ltb, ne_eqb, Float}
 use Prim.Native.Nat.{compare}
-use lib.Ieee.{Float, nan, inf, fin, Format, binary32, binary64, prec, emax, low, up, down, unlike, size, nearest, odd, units, round, neg, sum, add, sub, mul, div, le, is_nan}
+use lib.Ieee.{nan, inf, fin, Format, binary32, binary64, prec, emax, low, up, down, unlike, size, nearest, odd, units, round, neg, sum, add, sub, mul, div, le, is_nan}
 use lib.Ieee.Fits.{core, round_is, up_pos, down_pos}
 use lib.Ieee.Exact.{HasValue, round_exact}
 use lib.Ieee.Order.{round_mono}

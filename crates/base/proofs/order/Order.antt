@@ -1,9 +1,9 @@
 -- The order `le` of the floats is reflexive off NaN, transitive and total, and `neg` turns it
 -- round: a finite value is read as (plus - less) / den, so that one inequality of whole numbers
 -- (`Cross`) is the order for all signs. Assumes nothing.
-use Rattle.std.proofs.Common.{◌≡◌, ℕ, ◌+◌, ◌*◌, ◌<◌, ◌≤◌, Bool, true, false, cond, not, ◌&&◌, ◌||◌, T, eqb, ltb, ◌⊎◌, ℤ, pos, sym, refl, subst, inl, inr, mul-le-mul_right, add-mul, zero-mul, mul_right_comm, le_of_mul-le-mul_right, arith, eqb→eq, ltb→lt, lt→ltb}
+use Rattle.std.proofs.Common.{◌≡◌, ℕ, ◌+◌, ◌*◌, ◌<◌, ◌≤◌, Bool, true, false, cond, not, ◌&&◌, ◌||◌, T, eqb, ltb, ◌⊎◌, ℤ, pos, sym, refl, subst, inl, inr, mul-le-mul_right, add-mul, zero-mul, mul_right_comm, le_of_mul-le-mul_right, arith, eqb→eq, ltb→lt, lt→ltb, Float}
 use native.Mathlib.Decide.{dec_le, dec_lt}
-use lib.Ieee.{Float, nan, inf, fin, up, down, neg, lt, eq, le, is_nan}
+use lib.Ieee.{nan, inf, fin, up, down, neg, lt, eq, le, is_nan}
 use lib.Ieee.Fits.{and_l, and_r, and_i, eq→eqb, down_pos}
 use lib.Ieee.Scale.{finite}
 use lib.Ieee.Positive.{den}

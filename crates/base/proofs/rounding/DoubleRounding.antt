@@ -3,9 +3,9 @@
 -- number a. The `f64` has 29 digits more, and keeps the whole number Q that is nearest to √a * 2 ^
 -- 29. The middle of q and q + 1 has the square q * q + q + 1 / 4, and a is a whole number, so √a is
 -- not so close to the middle that Q could reach it, or pass it (`same_side`). Assumes nothing.
-use Rattle.std.proofs.Common.{◌≡◌, ℕ, zero, suc, ◌+◌, ◌-◌, ◌*◌, ◌/◌, ◌%◌, ◌^◌, ◌<◌, ◌≤◌, Bool, true, false, T, ◌⊎◌, ℤ, sym, refl, ap, ◌∙◌, subst, inl, inr, zero-le, zero-lt-suc, mul_assoc, mul-le-mul, lt_of_not-le, zero-mul, mul-one, mul_right_comm, arith, lt→ltb, pow_pos, pow-add}
+use Rattle.std.proofs.Common.{◌≡◌, ℕ, zero, suc, ◌+◌, ◌-◌, ◌*◌, ◌/◌, ◌%◌, ◌^◌, ◌<◌, ◌≤◌, Bool, true, false, T, ◌⊎◌, ℤ, sym, refl, ap, ◌∙◌, subst, inl, inr, zero-le, zero-lt-suc, mul_assoc, mul-le-mul, lt_of_not-le, zero-mul, mul-one, mul_right_comm, arith, lt→ltb, pow_pos, pow-add, Float}
 use native.Mathlib.Nat.{mul-mul-mul_comm}
-use lib.Ieee.{Float, nan, inf, fin, binary32, binary64, up, down, round, units, fits}
+use lib.Ieee.{nan, inf, fin, binary32, binary64, up, down, round, units, fits}
 use lib.Ieee.Fits.{round-fits}
 use lib.Ieee.Exact.{HasValue}
 use lib.Ieee.Nearest.{closest}

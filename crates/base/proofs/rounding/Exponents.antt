@@ -1,14 +1,12 @@
 -- A pattern of 32 bits is a finite number exactly where its exponent is not all ones, which a sum
 -- that stays below the sign's bit tells; and so do the sums of several, gathered by `|`. Assumes
 -- nothing.
-use Rattle.std.proofs.Common.{◌≡◌, ℕ, zero, suc, ◌+◌, ◌*◌, ◌/◌, ◌%◌, ◌^◌, ◌<◌, ◌≤◌, Bool, true, false, cond, not, ◌&&◌, T, eqb, ltb, List, sym, refl, ap, ◌∙◌, arith, ltb-true, le-ltb, lt-ltb, eq-eqb, ne_eqb}
+use Rattle.std.proofs.Common.{◌≡◌, ℕ, zero, suc, ◌+◌, ◌*◌, ◌/◌, ◌%◌, ◌^◌, ◌<◌, ◌≤◌, Bool, true, false, cond, not, ◌&&◌, T, eqb, ltb, sym, refl, ap, ◌∙◌, arith, ltb-true, le-ltb, lt-ltb, eq-eqb, ne_eqb, bit_or}
 use native.Mathlib.Decide.{dec_lt}
-use lib.Bits.{bit_or, or_lt, or_add_and, and_le_l, and_le_r}
+use lib.Bits.{or_lt, or_add_and, and_le_l, and_le_r}
 use lib.Ieee.{inf, nan, binary32, odd, of_fields, of_bits, nan_bits}
 use lib.Ieee.Bits.{is_true}
 use lib.Ieee.Scale.{finite}
-use Rattle.base.specs.declared.words.TableWord.TheVariants.{Finite, NotFinite}
-use Rattle.base.specs.Words.{word_at, float_at, table_word_at}
 use Rattle.base.proofs.rounding.Patterns.{no_nan_bits}
 
 -- ---- one pattern
@@ -63,23 +61,6 @@ pub finite_no_nan : (x : ℕ) → T (finite (of_bits binary32 x)) → T (not (na
 finite_no_nan x t =
     let l = ltb-true (x % 2 ^ 31) (255 * 2 ^ 23) (sym (finite_bits x) ∙ is_true (finite (of_bits binary32 x)) t) in
     no_nan_bits binary32 x (omega arith)
-
--- ---- a word of a table
-
-module _ (s : List ℕ) (at x : ℕ) (e : x ≡ word_at s at) where
-  by_word : finite (float_at s at) ≡ ltb (x % 2 ^ 31) (255 * 2 ^ 23)
-  unfolding float_at
-  by_word = ap (λ (w : ℕ). finite (of_bits binary32 w)) (sym e) ∙ finite_bits x
-
-  pub told_finite : x % 2 ^ 31 < 255 * 2 ^ 23 → Finite (of_bits binary32 x) ≡ table_word_at s at
-  unfolding table_word_at float_at
-  told_finite h =
-      ap (λ (w : ℕ). Finite (of_bits binary32 w)) e
-      ∙ sym (ap (λ (b : Bool). cond b (Finite (float_at s at)) NotFinite) (by_word ∙ lt-ltb (x % 2 ^ 31) (255 * 2 ^ 23) h))
-
-  pub told_other : 255 * 2 ^ 23 ≤ x % 2 ^ 31 → NotFinite ≡ table_word_at s at
-  unfolding table_word_at
-  told_other h = sym (ap (λ (b : Bool). cond b (Finite (float_at s at)) NotFinite) (by_word ∙ le-ltb (x % 2 ^ 31) (255 * 2 ^ 23) h))
 
 -- ---- several
 

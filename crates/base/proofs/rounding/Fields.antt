@@ -1,9 +1,9 @@
 -- What an `f64`'s bits stand for, by the fields: the sign, the exponent's and the digits'. Assumes
 -- nothing.
-use Rattle.std.proofs.Common.{◌≡◌, ℕ, zero, suc, ◌+◌, ◌-◌, ◌*◌, ◌/◌, ◌%◌, ◌^◌, ◌<◌, Bool, true, false, cond, T, eqb, leb, sym, refl, ap, ◌∙◌, subst, lt_irrefl, add_comm, arith, le→leb, eqb→eq}
+use Rattle.std.proofs.Common.{◌≡◌, ℕ, zero, suc, ◌+◌, ◌-◌, ◌*◌, ◌/◌, ◌%◌, ◌^◌, ◌<◌, Bool, true, false, cond, T, eqb, leb, sym, refl, ap, ◌∙◌, subst, lt_irrefl, add_comm, arith, le→leb, eqb→eq, Float}
 use lib.Dec.{not_T}
 use lib.Arith.{lt→nleb}
-use lib.Ieee.{Float, inf, binary64, of_fields, of_bits}
+use lib.Ieee.{inf, binary64, of_fields, of_bits}
 use lib.Ieee.Exact.{HasValue, odd_sign}
 use lib.Ieee.Bits.{is_true, is_false, cond_no}
 

@@ -1,6 +1,6 @@
 -- `closest m d` without a branch, for an even d: half of d less one is added before the division,
 -- and one more where the quotient is odd. Assumes nothing.
-use Rattle.std.proofs.Common.{◌≡◌, ℕ, suc, ◌+◌, ◌-◌, ◌*◌, ◌/◌, ◌%◌, ◌^◌, ◌<◌, ◌≤◌, not, T, ◌⊎◌, sym, refl, ap, ◌∙◌, subst, inl, inr, le_of_suc-le-suc, le_of_lt, lt_irrefl, mod-lt, mod-eq_of_lt, suc-mul, mul_comm, div-lt_iff_lt-mul, le_antisymm, one-mul, pow-suc, div-add-mod', le-div_iff_mul-le, add-one, arith, le→leb, eqb→eq, pow_pos, pow_mono}
+use Rattle.std.proofs.Common.{◌≡◌, ℕ, suc, ◌+◌, ◌-◌, ◌*◌, ◌/◌, ◌%◌, ◌^◌, ◌<◌, ◌≤◌, not, T, ◌⊎◌, sym, refl, ap, ◌∙◌, subst, inl, inr, le_of_suc-le-suc, le_of_lt, lt_irrefl, mod-lt, mod-eq_of_lt, suc-mul, mul_comm, div-lt_iff_lt-mul, le_antisymm, one-mul, pow-suc, div-add-mod', le-div_iff_mul-le, add-one, arith, le→leb, eqb→eq, pow_pos}
 use Prim.Native.Nat.{compare, Ordering}
 use native.Mathlib.Decide.{dec_lt}
 use lib.Dec.{is_le, compare_is_eq}
@@ -86,9 +86,6 @@ half_of n = 1 * 2 ^ (n - 1) % 2 ^ 64
 module _ (n : ℕ) (N : 0 < n) (W : n < 64) where
   half_is : half_of n ≡ 2 ^ (n - 1)
   half_is = ap (λ (x : ℕ). x % 2 ^ 64) (one-mul (2 ^ (n - 1))) ∙ mod-eq_of_lt (pow-lt {i = n - 1} {j = 64} (omega arith))
-
-  pub half_small : half_of n ≤ 2 ^ 62
-  half_small = rw half_is (pow_mono {i = n - 1} {j = 62} (omega arith))
 
   pub half_pos : 0 < half_of n
   half_pos = rw half_is (pow_pos (n - 1))

@@ -1,8 +1,8 @@
 -- What `narrow::magnitude` computes, case by case of the exponent's field. Assumes nothing.
-use Rattle.std.proofs.Common.{◌≡◌, ℕ, zero, suc, ◌+◌, ◌-◌, ◌*◌, ◌/◌, ◌%◌, ◌^◌, ◌<◌, ◌≤◌, Bool, true, false, cond, ◌⊎◌, sym, refl, ap, ◌∙◌, inl, inr, lt_of_lt_of_le, mod-eq_of_lt, mul_assoc, eq-or-lt_of_le, zero-add, mul-one, arith, lit≤, pow_pos, pow_mono, shl_lt}
+use Rattle.std.proofs.Common.{◌≡◌, ℕ, zero, suc, ◌+◌, ◌-◌, ◌*◌, ◌/◌, ◌%◌, ◌^◌, ◌<◌, ◌≤◌, Bool, true, false, cond, ◌⊎◌, sym, refl, ap, ◌∙◌, inl, inr, lt_of_lt_of_le, mod-eq_of_lt, mul_assoc, eq-or-lt_of_le, zero-add, mul-one, arith, lit≤, pow_pos, pow_mono, shl_lt, Float}
 use native.Mathlib.Nat.{div-eq_of_lt}
 use native.Mathlib.Decide.{dec_lt}
-use lib.Ieee.{Float, nan, inf, fin, binary32, binary64, up, down, round, of_fields, of_bits}
+use lib.Ieee.{nan, inf, fin, binary32, binary64, up, down, round, of_fields, of_bits}
 use lib.Ieee.Fits.{down_pos}
 use lib.Ieee.Exact.{HasValue}
 use lib.Ieee.Scale.{round_same}

@@ -1,10 +1,10 @@
 -- What a float that is no NaN, and a bit pattern that is no NaN's, tell of each other. Assumes
 -- nothing.
-use Rattle.std.proofs.Common.{◌≡◌, ℕ, zero, suc, ◌+◌, ◌-◌, ◌*◌, ◌/◌, ◌%◌, ◌^◌, ◌<◌, ◌≤◌, Bool, true, false, cond, not, T, leb, ℤ, pos, sym, refl, ap, ◌∙◌, subst, inl, inr, le_trans, add_assoc, mod-eq_of_lt, zero-lt-suc, eq-zero-or-pos, mul-pos, zero-add, zero-mul, arith, le→leb, lt→ltb, nltb→le}
-use native.Mathlib.Nat.{zero-div, add-mod_left, mod-le}
+use Rattle.std.proofs.Common.{◌≡◌, ℕ, zero, suc, ◌+◌, ◌-◌, ◌*◌, ◌/◌, ◌%◌, ◌^◌, ◌<◌, ◌≤◌, Bool, true, false, cond, not, T, leb, ℤ, pos, sym, refl, ap, ◌∙◌, subst, inl, inr, add_assoc, mod-eq_of_lt, zero-lt-suc, eq-zero-or-pos, mul-pos, zero-add, zero-mul, arith, le→leb, nltb→le, Float}
+use native.Mathlib.Nat.{zero-div, add-mod_left}
 use lib.Dec.{not_T}
 use lib.Arith.{le→nltb, lt→nleb}
-use lib.Ieee.{Float, nan, inf, fin, Format, binary32, binary64, prec, low, up, down, size, div, neg, le, ne, fits, is_nan, hid, ones, top, nan_bits, of_bits, to_bits}
+use lib.Ieee.{nan, inf, fin, Format, binary32, binary64, prec, low, up, down, size, div, neg, le, ne, fits, is_nan, hid, ones, top, nan_bits, of_bits, to_bits}
 use lib.Ieee.Fits.{inf-fits, up_pos}
 use lib.Ieee.Compare.{differs_from_itself, nan_differs}
 use lib.Ieee.Bits.{is_true, is_false, of_bits-to_bits, to_bits-lt, nan_bits_is, nan_bits_above}
@@ -28,21 +28,6 @@ magnitude_le f x h n =
 
 pub no_nan_bits : (f : Format) (n : ℕ) → n % top f ≤ ones f * hid f → T (not (nan_bits f n))
 no_nan_bits f n h = subst (λ (b : Bool). T (not b)) (sym (nan_bits_above f n)) (le→nltb (ones f * hid f) (n % top f) h)
-
--- 0 / 0
-pub no_number : (f : Format) → div f (of_bits f 0) (of_bits f 0) ≡ nan
-unfolding div of_bits
-no_number binary32 = refl
-no_number binary64 = refl
-
-pub nan_bits_law : (f : Format) (n : ℕ) → ones f * hid f < n % top f → nan ≡ of_bits f n
-unfolding is_nan
-nan_bits_law f n h = go (of_bits f n) (subst T (sym (nan_bits_above f n) ∙ nan_bits_is f n) (lt→ltb (ones f * hid f) (n % top f) h))
-  where
-    go : (x : Float) → T (is_nan x) → nan ≡ x
-    go nan t = refl
-    go (inf s) t = absurd t
-    go (fin s m d) t = absurd t
 
 -- ---- the bits without the sign: those of the size
 module _ (f : Format) (n : ℕ) (h : top f + n < 2 * top f) where
@@ -100,9 +85,6 @@ abs_bits f x h n = ap (of_bits f) (sym (zero-add (to_bits f x % top f))) ∙ sig
 pub abs_nan : (x : Float) → x ≡ nan → x ≡ abs_of x
 unfolding abs_of negative
 abs_nan x e = e ∙ ap abs_of (sym e)
-
-pub abs_no_nan : (f : Format) (x : Float) → T (fits f x) → T (not (is_nan x)) → T (not (nan_bits f (to_bits f x % top f)))
-abs_no_nan f x h n = no_nan_bits f (to_bits f x % top f) (le_trans (mod-le (to_bits f x % top f) (top f)) (magnitude_le f x h n))
 
 -- ---- not below zero: the bits are at most those of -0
 no_digits : (f : Format) → (size 0 - prec f) * hid f + 0 / 2 ^ (size 0 - prec f) ≡ 0

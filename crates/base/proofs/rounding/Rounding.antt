@@ -2,12 +2,12 @@
 -- A fraction a / c that is m * 2 ^ k / 2 ^ n of the format's smallest values, where m / 2 ^ n has
 -- as many digits as the format keeps (`Keeps`), rounds to the pattern k * hid + closest m (2 ^ n),
 -- the sign aside (`round_bits`), or to an infinity (`round_inf`). Assumes nothing.
-use Rattle.std.proofs.Common.{◌≡◌, ℕ, suc, ◌+◌, ◌-◌, ◌*◌, ◌/◌, ◌%◌, ◌^◌, ◌<◌, ◌≤◌, Bool, true, false, cond, not, T, ltb, ◌⊎◌, sym, refl, ap, ◌∙◌, subst, inl, inr, le_trans, le_of_eq, lt_of_lt_of_le, le_of_suc-le-suc, lt_of_le_of_lt, add-zero, add_assoc, mul-le-mul_right, mul_assoc, lt-suc_self, mul_comm, le_antisymm, eq-or-lt_of_le, mul-pos, lt_of_not-le, le-div_iff_mul-le, mul-one, mul_right_comm, not-le_of_lt, le_of_mul-le-mul_right, div-one, mul-div_cancel, mul_left_comm, arith, ltb→lt, nltb→le, pow_pos, pow_mono, pow-add, shl_lt, shr_lt}
+use Rattle.std.proofs.Common.{◌≡◌, ℕ, suc, ◌+◌, ◌-◌, ◌*◌, ◌/◌, ◌%◌, ◌^◌, ◌<◌, ◌≤◌, Bool, true, false, cond, not, T, ltb, ◌⊎◌, sym, refl, ap, ◌∙◌, subst, inl, inr, le_trans, le_of_eq, lt_of_lt_of_le, le_of_suc-le-suc, lt_of_le_of_lt, add-zero, add_assoc, mul-le-mul_right, mul_assoc, lt-suc_self, mul_comm, le_antisymm, eq-or-lt_of_le, mul-pos, lt_of_not-le, le-div_iff_mul-le, mul-one, mul_right_comm, not-le_of_lt, le_of_mul-le-mul_right, div-one, mul-div_cancel, mul_left_comm, arith, ltb→lt, nltb→le, pow_pos, pow_mono, pow-add, shl_lt, shr_lt, Float}
 use Prim.Native.Nat.{compare}
 use native.Mathlib.Nat.{pow-succ'}
 use lib.Pow.{pow-lt, shl-shr}
 use lib.Arith.{le→nltb}
-use lib.Ieee.{Float, nan, inf, fin, Format, binary32, binary64, prec, emax, low, up, down, hid, ones, top, size, units, round, of_bits, to_bits, fits}
+use lib.Ieee.{nan, inf, fin, Format, binary32, binary64, prec, emax, low, up, down, hid, ones, top, size, units, round, of_bits, to_bits, fits}
 use lib.Ieee.Digits.{size-lt, size-le}
 use lib.Ieee.Fits.{core, round_is, odd-fits, cond-fits, inf-fits, nearest-le, down_pos}
 use lib.Ieee.Exact.{HasValue, units_val}

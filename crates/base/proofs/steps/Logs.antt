@@ -1,12 +1,12 @@
 -- The exponent and the digits of a number above zero, and `ln_of` by the sorts of bit patterns.
 -- Assumes nothing.
-use Rattle.std.proofs.Common.{◌≡◌, ℕ, zero, suc, ◌+◌, ◌-◌, ◌*◌, ◌/◌, ◌%◌, ◌^◌, ◌<◌, ◌≤◌, Bool, true, false, cond, not, T, ltb, leb, ◌⊎◌, ℤ, pos, negsuc, ◌+ℤ◌, sym, refl, ap, ◌∙◌, subst, inl, inr, true≢false, le_trans, le_of_eq, lt_of_lt_of_le, lt_of_le_of_lt, lt_irrefl, mul-le-mul_right, mul_assoc, eq-zero-or-pos, le_antisymm, eq-or-lt_of_le, mul-lt-mul_of_pos_right, mul-pos, lt_of_not-le, zero-mul, mul-one, mul_right_comm, not-le_of_lt, arith, le→leb, ltb→lt, nltb→le, pow_pos, pow_mono, pow-add}
+use Rattle.std.proofs.Common.{◌≡◌, ℕ, zero, suc, ◌+◌, ◌-◌, ◌*◌, ◌/◌, ◌%◌, ◌^◌, ◌<◌, ◌≤◌, Bool, true, false, cond, not, T, ltb, leb, ◌⊎◌, ℤ, pos, negsuc, ◌+ℤ◌, sym, refl, ap, ◌∙◌, subst, inl, inr, true≢false, le_trans, le_of_eq, lt_of_lt_of_le, lt_of_le_of_lt, lt_irrefl, mul-le-mul_right, mul_assoc, eq-zero-or-pos, le_antisymm, eq-or-lt_of_le, mul-lt-mul_of_pos_right, mul-pos, lt_of_not-le, zero-mul, mul-one, mul_right_comm, not-le_of_lt, arith, le→leb, ltb→lt, nltb→le, pow_pos, pow_mono, pow-add, Float}
 use mathlib.Core.Bool.{false≢true}
 use native.Mathlib.Nat.{eq_of_mul-eq-mul_right}
 use lib.Count.{count_leading_zeros}
 use lib.Arith.{lt→nleb}
 use lib.IntN.{sub_ℕ}
-use lib.Ieee.{Float, nan, inf, fin, binary64, up, minus, size, odd, units, round, neg, of_int, of_fields, of_bits}
+use lib.Ieee.{nan, inf, fin, binary64, up, minus, size, odd, units, round, neg, of_int, of_fields, of_bits}
 use lib.Ieee.Digits.{size-lt, size_reaches}
 use lib.Ieee.Fits.{down_pos}
 use lib.Ieee.Exact.{HasValue}
@@ -46,9 +46,6 @@ minus_pos a b h = cond_true _ _ (is_true (leb b a) (le→leb b a h))
 
 minus_neg : (a b : ℕ) → a < b → minus a b ≡ negsuc (b - suc a)
 minus_neg a b h = cond_false _ _ (is_false (leb b a) (lt→nleb b a h))
-
-pub exponent_up : (a b : ℕ) → b ≤ a → of_int binary64 (pos (a - b)) ≡ of_int binary64 (minus a b)
-exponent_up a b h = ap (of_int binary64) (sym (minus_pos a b h))
 
 pub exponent_down : (a b : ℕ) → a < b → neg (of_int binary64 (pos (b - a))) ≡ of_int binary64 (minus a b)
 unfolding of_int

@@ -1,8 +1,8 @@
 -- What sin and cos leave of an argument up to 1000 in size, v - n × π/2, is 7/4 at most in size:
 -- between two floats of a coarse grid a value is rounded to between them, so n is little more than
 -- 1 from v / (π/2). Assumes nothing.
-use Rattle.std.proofs.Common.{◌≡◌, ℕ, ◌+◌, ◌-◌, ◌*◌, ◌/◌, ◌^◌, ◌<◌, ◌≤◌, Bool, true, false, T, pos, negsuc, sym, ap, ◌∙◌, subst, true≢false, zero-le, lt_of_lt_of_le, mul-le-mul_right, mul_assoc, mul_comm, div-lt_iff_lt-mul, add-mul, mul-pos, le-div_iff_mul-le, zero-mul, div-mul-le_self, le_of_mul-le-mul_right, mul_left_comm, arith, lit<, lit≤, pow_pos, pow_mono, pow-add, shl_lt}
-use lib.Ieee.{Float, nan, inf, fin, binary64, up, down, round, sum, add, sub, mul, neg, le}
+use Rattle.std.proofs.Common.{◌≡◌, ℕ, ◌+◌, ◌-◌, ◌*◌, ◌/◌, ◌^◌, ◌<◌, ◌≤◌, Bool, true, false, T, pos, negsuc, sym, ap, ◌∙◌, subst, true≢false, zero-le, lt_of_lt_of_le, mul-le-mul_right, mul_assoc, mul_comm, div-lt_iff_lt-mul, add-mul, mul-pos, le-div_iff_mul-le, zero-mul, div-mul-le_self, le_of_mul-le-mul_right, mul_left_comm, arith, lit<, lit≤, pow_pos, pow_mono, pow-add, shl_lt, Float}
+use lib.Ieee.{nan, inf, fin, binary64, up, down, round, sum, add, sub, mul, neg, le}
 use lib.Ieee.Exact.{HasValue, round_exact}
 use lib.Ieee.Scale.{finite}
 use lib.Ieee.Positive.{den, den_pos}

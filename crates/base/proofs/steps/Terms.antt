@@ -1,10 +1,12 @@
 -- The coefficients of the series are the fractions of document 01, by computation over all five
--- tables at once (`tied`), and the laws of `horner` that a loop from the highest term down takes.
--- Assumes nothing.
-use Rattle.std.proofs.Common.{◌≡◌, ℕ, zero, suc, ◌<◌, List, [], ◌∷◌, map, length, get_or, drop, refl, ap, arith}
-use lib.Ieee.{Float, binary64, add, mul, round, of_bits}
+-- tables at once (`tied`), and `horner` as a fold
+-- from the highest term down. Assumes nothing.
+use Rattle.std.proofs.Common.{◌≡◌, ℕ, List, [], ◌∷◌, ◌++◌, map, reverse, fold, length, get_or, refl, ap, ◌∙◌, arith, Float}
+use mathlib.Core.List.{reverse-cons}
+use Rattle.std.proofs.lemmas.List.Sums.{fold-append}
+use lib.Ieee.{binary64, round, of_bits}
 use Rattle.base.specs.Double.{fraction}
-use Rattle.base.specs.Elementary.{horner, factorial, up_from, alternating, sin_terms, cos_terms, atan_terms, exp_terms, ln_terms}
+use Rattle.base.specs.Elementary.{horner, turn, factorial, up_from, alternating, sin_terms, cos_terms, atan_terms, exp_terms, ln_terms}
 
 -- ---- the source's tables, as bit patterns
 abbrev SIN : List ℕ
@@ -53,17 +55,17 @@ unfolding horner of_bits
 horner_none [] x e = refl
 horner_none (c ∷ cs) x e = absurd (omega arith)
 
-pub horner_last : (t : List Float) (i : ℕ) (x d : Float) → length t ≡ suc i → get_or t i d ≡ horner (drop i t) x
+-- the lowest term is added last
+horner_first : (cs : List Float) (c l x : Float) → turn x (horner (cs ++ (l ∷ [])) x) c ≡ horner (c ∷ (cs ++ (l ∷ []))) x
 unfolding horner
-horner_last [] i x d e = absurd (omega arith)
-horner_last (c ∷ []) zero x d e = refl
-horner_last (c ∷ []) (suc i) x d e = absurd (omega arith)
-horner_last (c ∷ (b ∷ cs)) zero x d e = absurd (omega arith)
-horner_last (c ∷ (b ∷ cs)) (suc i) x d e = horner_last (b ∷ cs) i x d (omega arith)
+horner_first [] c l x = refl
+horner_first (d ∷ cs) c l x = refl
 
-pub horner_next : (t : List Float) (i : ℕ) (x d : Float) → suc i < length t → add binary64 (mul binary64 (horner (drop (suc i) t) x) x) (get_or t i d) ≡ horner (drop i t) x
+pub horner_fold : (cs : List Float) (l x : Float) → fold (turn x) l (reverse cs) ≡ horner (cs ++ (l ∷ [])) x
 unfolding horner
-horner_next [] i x d h = absurd (omega arith)
-horner_next (c ∷ []) i x d h = absurd (omega arith)
-horner_next (c ∷ (b ∷ cs)) zero x d h = refl
-horner_next (c ∷ (b ∷ cs)) (suc i) x d h = horner_next (b ∷ cs) i x d (omega arith)
+horner_fold [] l x = refl
+horner_fold (c ∷ cs) l x =
+    ap (λ (r : List Float). fold (turn x) l r) (reverse-cons c cs)
+    ∙ fold-append (turn x) l (reverse cs) (c ∷ [])
+    ∙ ap (λ (s : Float). turn x s c) (horner_fold cs l x)
+    ∙ horner_first cs c l x

@@ -1,10 +1,10 @@
 -- `quarter` is right: from 2^52 to 2^53 the floats are the whole numbers, the last bits of such an
 -- s are the number's own, and s - 3 × 2^51 is exact, where 3 × 2^51 is a multiple of 4. Assumes
 -- nothing.
-use Rattle.std.proofs.Common.{◌≡◌, ℕ, zero, suc, ◌+◌, ◌-◌, ◌*◌, ◌/◌, ◌%◌, ◌^◌, ◌<◌, ◌≤◌, min, Bool, true, false, cond, not, ◌&&◌, T, eqb, ltb, leb, ℤ, pos, negsuc, sym, ap, ◌∙◌, le_trans, le_of_eq, mul-le-mul_right, zero-mul, mul-one, div-one, mul-div_cancel, arith, ltb→lt, pow_pos, pow-add, shl_lt}
+use Rattle.std.proofs.Common.{◌≡◌, ℕ, zero, suc, ◌+◌, ◌-◌, ◌*◌, ◌/◌, ◌%◌, ◌^◌, ◌<◌, ◌≤◌, min, Bool, true, false, cond, not, ◌&&◌, T, eqb, ltb, leb, ℤ, pos, negsuc, sym, ap, ◌∙◌, le_trans, le_of_eq, mul-le-mul_right, zero-mul, mul-one, div-one, mul-div_cancel, arith, ltb→lt, pow_pos, pow-add, shl_lt, Float}
 use native.Mathlib.Nat.{min-eq_left, pow-succ'}
 use lib.Pow.{shl-shr}
-use lib.Ieee.{Float, nan, inf, fin, binary64, up, down, size, round, add, mul, neg, le, is_nan, fits, to_bits, to_unsigned}
+use lib.Ieee.{nan, inf, fin, binary64, up, down, size, round, add, mul, neg, le, is_nan, fits, to_bits, to_unsigned}
 use lib.Ieee.Digits.{size-le}
 use lib.Ieee.Fits.{and_l, and_r, down_pos, add-fits}
 use lib.Ieee.Exact.{HasValue}

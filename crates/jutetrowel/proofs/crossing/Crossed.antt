@@ -1,22 +1,16 @@
 -- A call's answer as it crosses, and the words that it leaves: by the answer of the step made.
 -- Assumes nothing.
-use mathlib.Core.List.{List, []}
-use mathlib.Core.Path.{◌≡◌, refl, sym, ap, subst, ◌∙◌}
-use Prim.Native.Nat.{ℕ}
-use native.Mathlib.Omega.{arith}
-use Rattle.base.specs.Refusal.{written_over}
-use Rattle.base.specs.declared.refusal.Verdict.{Verdict}
-use Rattle.maps.specs.declared.figures.Shown.{Shown}
-use Rattle.worksheet.specs.declared.inputs.Edit.{Edit}
+use Rattle.std.proofs.Common.{Result, List, ◌≡◌, refl, sym, ap, ◌∙◌, ℕ, arith}
+use Rattle.base.specs.declared.refusal.Refusal.{Refusal}
+use Rattle.base.specs.Refusal.{written_over, Verdict}
 use Rattle.worksheet.specs.declared.journal.Answer.TheVariants.{Told, Shown as IsShown}
 use Rattle.worksheet.specs.declared.journal.Next.{Next}
-use Rattle.worksheet.specs.Showing.{pair}
-use Rattle.worksheet.specs.Journal.{change, Answer, told, shown, Step, step}
+use Rattle.worksheet.specs.Journal.{Answer, told, shown, Step}
 use Rattle.worksheet.specs.Calls.{handed, next_of}
 use Rattle.jutetrowel.specs.declared.answers.Answer.{Answer as Numbers}
 use Rattle.jutetrowel.specs.Answers.{answer_of, shown_numbers}
-use Rattle.jutetrowel.specs.Words.{worksheet_of, sheet_words}
-use Rattle.jutetrowel.specs.Calls.{answer_numbers, words_by, words_left, Made}
+use Rattle.jutetrowel.specs.Words.{sheet_words}
+use Rattle.jutetrowel.specs.Calls.{answer_numbers, words_by}
 
 -- an answer and the words, as the contracts of the calls name them
 abbrev pub Both : Type 0 → Type 0 → Type 0
@@ -25,10 +19,10 @@ Both a b = record { answer : a; sheet : b }
 told_same : {v u : Verdict} → Told v ≡ Told u → v ≡ u
 told_same e = cc
 
-shown_same : {s t : Shown} → IsShown s ≡ IsShown t → s ≡ t
+shown_same : {s t : Result ℕ Refusal} → IsShown s ≡ IsShown t → s ≡ t
 shown_same e = cc
 
-shown_not_told : {A : Type 0} {s : Shown} {v : Verdict} → IsShown s ≡ Told v → A
+shown_not_told : {A : Type 0} {s : Result ℕ Refusal} {v : Verdict} → IsShown s ≡ Told v → A
 shown_not_told e = let z : ◌≡◌ {A = ℕ} 0 1 = cc in absurd (omega arith)
 
 -- `next` is what was handed back of the step s on the words l
@@ -51,7 +45,7 @@ module _ (s : Step) (l : List ℕ) {next : Next} (e : next ≡ next_of s) where
       go (shown x after) h = shown_not_told h
 
   -- a showing was handed back: the words stay
-  pub shown_crosses : {x : Shown} {r : Numbers} → next.answer ≡ IsShown x → r ≡ shown_numbers x →
+  pub shown_crosses : {x : Result ℕ Refusal} {r : Numbers} → next.answer ≡ IsShown x → r ≡ shown_numbers x →
       Both (r ≡ answer_numbers s.answer) (l ≡ words_by s.answer s.sheet l)
   unfolding next_of
   shown_crosses {x} {r} t p = go s.answer (sym (ap (λ (n : Next). n.answer) e) ∙ t)
@@ -59,12 +53,3 @@ module _ (s : Step) (l : List ℕ) {next : Next} (e : next ≡ next_of s) where
       go : (a : Answer) → handed a ≡ IsShown x → Both (r ≡ answer_numbers a) (l ≡ words_by a s.sheet l)
       go (told u) h = shown_not_told (sym h)
       go (shown y after) h = record { answer = p ∙ ap shown_numbers (sym (shown_same h)); sheet = refl }
-
--- a change reads no files
-pub changed : {n : ℕ} {l after : List ℕ} {r : Numbers} {e e' : Edit} → e ≡ e' →
-    Both (r ≡ answer_numbers (step (pair [] []) (change n e) (worksheet_of l)).answer)
-    (after ≡ words_left (pair [] []) (change n e) l) →
-    Made (change n e') l r after
-unfolding step words_left
-changed {n} {l} {after} {r} p m =
-    subst (λ (e : Edit). Made (change n e) l r after) p (record { answer = λ source. m.answer; words = λ source. m.sheet })

@@ -1,21 +1,12 @@
 -- A worksheet that is written and read is the same worksheet, if its numbers are values of an f32;
 -- what is read off words always is such a one. By sets: the words of each stand whole where they
 -- are read. Assumes nothing.
-use mathlib.Core.Path.{◌≡◌, refl, sym, ap, ◌∙◌}
-use mathlib.Core.Bool.{Bool, true, false, cond}
-use mathlib.Core.List.{List, [], ◌++◌, append-nil}
-use Prim.Native.Nat.{ℕ, ◌+◌}
-use native.Mathlib.Omega.{arith}
-use lib.Dec.{eqb}
-use lib.ListN.{length, get_or}
-use lib.Seq.{get_or-append-add}
+use Rattle.std.proofs.Common.{None, Option, Some, ◌≡◌, refl, sym, ap, ◌∙◌, Bool, true, false, cond, List, [], ◌++◌, append-nil, ℕ, ◌+◌, arith, eqb, length, get_or, get_or-append-add}
 use Rattle.maps.specs.Inputs.{route_from, factors_from, pole_from, inputs_from, field_words, Singles}
 use Rattle.maps.specs.declared.inputs.Inputs.{Inputs}
 use Rattle.maps.proofs.sheet.Codec.{fields_back, from_single}
 use Rattle.worksheet.specs.declared.desks.Draft.{Draft}
 use Rattle.worksheet.specs.declared.desks.Draft.TheVariants.{Closed, Fresh, Stale}
-use Rattle.worksheet.specs.declared.desks.Earlier.{Earlier}
-use Rattle.worksheet.specs.declared.desks.Earlier.TheVariants.{Nothing, Set}
 use Rattle.worksheet.specs.declared.desks.Worksheet.{Worksheet}
 use Rattle.jutetrowel.specs.Words.{word_in, field_in, inputs_in, earlier_in, draft_in, worksheet_of, set_words, earlier_words, draft_words, sheet_words, EarlierSingles, DraftSingles, SheetSingles}
 use Rattle.jutetrowel.proofs.crossing.Stored.{set_length, earlier_length, draft_length}
@@ -26,10 +17,10 @@ inputs_back : (what : ℕ) (i : Inputs) (rest : List ℕ) → Singles i → inpu
 unfolding inputs_in inputs_from route_from factors_from pole_from set_words field_words
 inputs_back what i rest h = fields_back i h
 
-earlier_back : (e : Earlier) (rest : List ℕ) → EarlierSingles e → earlier_in (earlier_words e ++ rest) 0 ≡ e
+earlier_back : (e : Option Inputs) (rest : List ℕ) → EarlierSingles e → earlier_in (earlier_words e ++ rest) 0 ≡ e
 unfolding earlier_in earlier_words set_words
-earlier_back Nothing rest h = refl
-earlier_back (Set i) rest h = ap Set (inputs_back 1 i rest h)
+earlier_back None rest h = refl
+earlier_back (Some i) rest h = ap Some (inputs_back 1 i rest h)
 
 draft_back : (d : Draft) (rest : List ℕ) → DraftSingles d → draft_in (draft_words d ++ rest) 0 ≡ d
 unfolding draft_in draft_words set_words
@@ -57,7 +48,7 @@ module _ (v rest : List ℕ) (n : length v ≡ 16) where
   earlier_behind at =
       let x = behind at in
       let i = inputs_behind at in
-      λ t. cond (eqb (x t) 0) Nothing (Set (i t))
+      λ t. cond (eqb (x t) 0) None (Some (i t))
 
   draft_behind : (at : ℕ) → draft_in (v ++ rest) (16 + at) ≡ draft_in rest at
   unfolding draft_in
@@ -134,7 +125,7 @@ module _ (l : List ℕ) where
   unfolding earlier_in
   earlier_single at = go (eqb (word_in l at) 0)
     where
-      go : (b : Bool) → EarlierSingles (cond b Nothing (Set (inputs_in l at)))
+      go : (b : Bool) → EarlierSingles (cond b None (Some (inputs_in l at)))
       go true = tt
       go false = inputs_single at
 

@@ -1,13 +1,8 @@
 -- DEMAND 3 of the exported functions. A list of calls over lent words answers as the same list over
 -- the worksheet that the words hold, and leaves words that hold what that leaves: each call keeps
 -- the numbers f32 values, so that what it writes is read back. Assumes nothing.
-use Prim.Native.Nat.{ℕ}
-use mathlib.Core.Bool.{Bool, true, false, cond}
-use mathlib.Core.List.{List, [], ◌∷◌, ◌++◌}
-use mathlib.Core.Path.{◌≡◌, refl, sym, ap, ◌∙◌, subst}
-use Rattle.base.specs.Refusal.{written_over}
-use Rattle.base.specs.declared.refusal.Verdict.{Verdict}
-use Rattle.base.specs.declared.refusal.Verdict.TheVariants.{Accepted, Refused}
+use Rattle.std.proofs.Common.{Err, Ok, ℕ, Bool, true, false, cond, List, [], ◌∷◌, ◌++◌, ◌≡◌, refl, sym, ap, ◌∙◌, subst}
+use Rattle.base.specs.Refusal.{written_over, Verdict}
 use Rattle.maps.specs.Inputs.{Single, Singles}
 use Rattle.maps.specs.declared.inputs.Inputs.{Inputs}
 use Rattle.maps.proofs.sheet.Codec.{from_single}
@@ -77,8 +72,8 @@ module _ (source : Source) where
 settled : (v : Verdict) (after : Worksheet) (l : List ℕ) → SheetSingles (outcome v after (worksheet_of l)).sheet →
     worksheet_of (words_after (outcome v after (worksheet_of l)) l) ≡ (outcome v after (worksheet_of l)).sheet
 unfolding outcome
-settled Accepted after l h = read_back after h
-settled (Refused why) after l h = refl
+settled (Ok _) after l h = read_back after h
+settled (Err why) after l h = refl
 
 module _ (source : Source) where
   pub one_call : (c : Call) (l : List ℕ) → CallSingles c →
@@ -185,7 +180,7 @@ module _ (source : Source) where
   demand_3_over_lent l w e h cs k = over_words cs l w e k (demand_3_lent source w h cs)
 
 -- the words that an accepted open writes hold its worksheet
-pub open_read : (s lent : List ℕ) → (opened_of s).answer ≡ Accepted →
+pub open_read : (s lent : List ℕ) → (opened_of s).answer ≡ Ok tt →
     worksheet_of (words_after (opened_of s) lent) ≡ (opened_of s).sheet
 unfolding opened_of open_of fresh_sheet
 open_read s lent h =
@@ -195,7 +190,7 @@ open_read s lent h =
 
 -- DEMAND 3: for every source of files, all words that open, and every list of calls by f32 numbers
 pub demand_3_over :
-    (source : Source) (s lent : List ℕ) → (opened_of s).answer ≡ Accepted → (cs : List Call) → CallsSingles cs →
+    (source : Source) (s lent : List ℕ) → (opened_of s).answer ≡ Ok tt → (cs : List Call) → CallsSingles cs →
     Demand3Over source (words_after (opened_of s) lent) cs
 unfolding opened_of open_of fresh_sheet
 demand_3_over source s lent h cs k =

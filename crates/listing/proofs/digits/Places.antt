@@ -1,15 +1,8 @@
 -- The decimal digits of a whole number, place by place, and how many there are at most. Assumes
 -- nothing.
-use mathlib.Core.Path.{◌≡◌, refl, ap, ◌∙◌}
-use mathlib.Core.Bool.{Bool, true, false, cond}
-use mathlib.Core.List.{List, [], ◌∷◌, ◌++◌}
-use Prim.Native.Nat.{ℕ, zero, suc, ◌-◌, ◌^◌, ◌≤◌, ◌<◌}
+use Rattle.std.proofs.Common.{◌≡◌, refl, ap, ◌∙◌, Bool, true, false, cond, List, [], ◌∷◌, ◌++◌, ℕ, zero, suc, ◌-◌, ◌^◌, ◌≤◌, ◌<◌, arith, ne_eqb, ltb, length, length-append}
 use native.Mathlib.Nat.{div-eq_of_lt, pow-le-pow_right}
-use native.Mathlib.Omega.{arith}
 use native.Mathlib.Decide.{dec_lt}
-use borrow.Author.Tests.{ne_eqb}
-use lib.Dec.{ltb}
-use lib.ListN.{length, length-append}
 use Rattle.base.proofs.verdicts.Picks.{cond_false}
 use Rattle.wording.specs.Token.{ascii}
 use Rattle.listing.specs.Text.{digit_of, has_digit, digit_at, digits_below, decimal_of}

@@ -1,17 +1,8 @@
 -- The decimals of a float by the fields of its bits, by way of its exact value; and the text of
 -- some numbers, by computation. Assumes nothing.
-use mathlib.Core.Path.{◌≡◌, refl, sym, ap, subst, ◌∙◌}
-use mathlib.Core.Bool.{Bool, true, false, cond}
-use mathlib.Core.List.{List}
-use Prim.Native.Nat.{ℕ, suc, ◌+◌, ◌-◌, ◌*◌, ◌/◌, ◌^◌, ◌≤◌, ◌<◌}
-use native.Mathlib.Nat.{mul-one, mul_comm, mul_assoc, mul-le-mul, mul-div_cancel, div-one}
-use native.Mathlib.Omega.{arith}
+use Rattle.std.proofs.Common.{◌≡◌, refl, sym, ap, subst, ◌∙◌, Bool, true, false, cond, List, ℕ, suc, ◌+◌, ◌-◌, ◌*◌, ◌/◌, ◌^◌, ◌≤◌, ◌<◌, mul-one, mul_comm, mul_assoc, mul-le-mul, mul-div_cancel, div-one, arith, lt-ltb, le-ltb, ne_eqb, ltb, length, length-append, pow_pos, pow-add, pow_mono, shl_lt, Float}
 use native.Mathlib.Decide.{dec_lt}
-use borrow.Author.Tests.{lt-ltb, le-ltb, ne_eqb}
-use lib.Dec.{ltb}
-use lib.ListN.{length, length-append}
-use lib.Pow.{pow_pos, pow-add, pow_mono, shl_lt}
-use lib.Ieee.{Float, nan, inf, fin, binary32, up, down, size, of_fields, of_bits}
+use lib.Ieee.{nan, inf, fin, binary32, up, down, size, of_fields, of_bits}
 use lib.Ieee.Digits.{size-lt, size-le}
 use lib.Ieee.Exact.{HasValue, odd_sign}
 use lib.Ieee.Fits.{down_pos}

@@ -1,11 +1,8 @@
 -- The parts of a page with its points side by side: how long each is at most. Assumes nothing.
-use mathlib.Core.List.{List}
-use Prim.Native.Nat.{ℕ, ◌+◌, ◌-◌, ◌*◌, ◌≤◌, ◌<◌}
-use native.Mathlib.Omega.{arith}
+use Rattle.std.proofs.Common.{List, ℕ, ◌+◌, ◌-◌, ◌*◌, ◌≤◌, ◌<◌, arith, lt-ltb, le-ltb, length, get_or, replicate, length-append, Float}
 use native.Mathlib.Decide.{dec_lt}
-use borrow.Author.Tests.{lt-ltb, le-ltb}
-use lib.ListN.{length, get_or, replicate, length-append, length-replicate}
-use lib.Ieee.{Float, nan}
+use lib.ListN.{length-replicate}
+use lib.Ieee.{nan}
 use Rattle.base.proofs.verdicts.Picks.{cond_true, cond_false}
 use Rattle.maps.specs.declared.inputs.Inputs.{Inputs}
 use Rattle.listing.specs.Text.{decimal_of}

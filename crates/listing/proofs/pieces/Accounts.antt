@@ -1,14 +1,10 @@
 -- The lines of an audit's page: how long each part is at most, by its case. Assumes nothing.
-use Prim.Native.Nat.{ℕ, ◌≤◌}
-use native.Mathlib.Omega.{arith}
-use lib.ListN.{length, length-append}
+use Rattle.std.proofs.Common.{None, Option, Some, ℕ, ◌≤◌, arith, length, length-append}
 use Rattle.maps.specs.declared.inputs.Inputs.{Inputs}
 use Rattle.listing.specs.declared.account.Came.{Came}
 use Rattle.listing.specs.declared.account.Came.TheVariants.{Opened, Set}
 use Rattle.listing.specs.declared.account.Became.{Became}
 use Rattle.listing.specs.declared.account.Became.TheVariants.{TakenBack, Cancelled, Never}
-use Rattle.listing.specs.declared.account.Balked.{Balked}
-use Rattle.listing.specs.declared.account.Balked.TheVariants.{No, At}
 use Rattle.listing.specs.Account.{at_line, came_words, came_text, became_words, balked_words}
 use Rattle.listing.proofs.digits.Places.{at_most_20}
 use Rattle.listing.proofs.pieces.Named.{length_field}
@@ -48,9 +44,9 @@ length_became (Cancelled line) =
     simp length-append (omega arith)
 length_became Never = omega arith
 
-pub length_balked : (balked : Balked) → length (balked_words balked) ≤ 38
+pub length_balked : (balked : Option ℕ) → length (balked_words balked) ≤ 38
 unfolding balked_words
-length_balked No = omega arith
-length_balked (At line) =
+length_balked None = omega arith
+length_balked (Some line) =
     let a = length_at_line line in
     simp length-append (omega arith)

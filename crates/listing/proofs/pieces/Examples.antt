@@ -1,15 +1,9 @@
 -- Some lines in words, by computation. Assumes nothing.
-use mathlib.Core.Path.{◌≡◌, refl}
-use mathlib.Core.Bool.{false}
-use lib.IntN.{pos}
-use mathlib.Core.List.{List, [], ◌∷◌, ◌++◌}
-use lib.ListN.{replicate}
-use lib.Ieee.{Float, nan, fin, of_bits, round, size}
+use Rattle.std.proofs.Common.{Err, None, Ok, Some, ◌≡◌, refl, false, pos, List, [], ◌∷◌, ◌++◌, replicate, Float}
+use lib.Ieee.{nan, fin, of_bits, round, size}
 use Rattle.base.specs.declared.angle.Degrees.{Degrees}
 use Rattle.base.specs.declared.refusal.Refusal.TheVariants.{Stale, Marker}
-use Rattle.base.specs.declared.refusal.Verdict.TheVariants.{Accepted, Refused}
 use Rattle.base.specs.Single.{decimal, minus_decimal}
-use Rattle.maps.specs.declared.figures.Shown.TheVariants.{Refused as NotShown}
 use Rattle.maps.specs.declared.inputs.Inputs.{Inputs}
 use Rattle.worksheet.specs.Journal.{told, shown}
 use Rattle.wording.specs.Token.{ascii}
@@ -23,7 +17,6 @@ use Rattle.listing.specs.Columns.{abreast, cell, cells_text, side_row, points_he
 use Rattle.listing.specs.Spoken.{line_mark, verdict_words, shown_words, spoken_text, spoken_verdict}
 use Rattle.listing.specs.declared.account.Came.TheVariants.{Opened, Set}
 use Rattle.listing.specs.declared.account.Became.TheVariants.{TakenBack, Cancelled, Never}
-use Rattle.listing.specs.declared.account.Balked.TheVariants.{No, At}
 use Rattle.listing.specs.Account.{at_line, came_words, came_text, came_line, became_words, balked_words, draft_line}
 
 -- ---- fields
@@ -77,19 +70,19 @@ wide = refl
 -- ---- answers
 
 module _ (i : Inputs) (figures : List Float) where
-  accepted : spoken_text 12 i (told Accepted) ≡ ascii "line 12: accepted\n"
+  accepted : spoken_text 12 i (told (Ok tt)) ≡ ascii "line 12: accepted\n"
   unfolding spoken_text line_mark verdict_words digits_below digit_at has_digit digit_of
   accepted = refl
 
-  refused : spoken_text 12 i (told (Refused Stale)) ≡ ascii "line 12: refused 17 0: the worksheet has moved since the draft began\n"
+  refused : spoken_text 12 i (told (Err Stale)) ≡ ascii "line 12: refused 17 0: the worksheet has moved since the draft began\n"
   unfolding spoken_text line_mark verdict_words refused_line refused_words digits_below digit_at has_digit digit_of
   refused = refl
 
-  not_shown : spoken_text 3 i (shown (NotShown (Marker 38548)) figures) ≡ ascii "line 3: refused 10 38548: the month file has a wrong marker at this byte\n"
+  not_shown : spoken_text 3 i (shown (Err (Marker 38548)) figures) ≡ ascii "line 3: refused 10 38548: the month file has a wrong marker at this byte\n"
   unfolding spoken_text line_mark shown_words refused_line refused_words digits_below digit_at has_digit digit_of
   not_shown = refl
 
-opened : spoken_verdict 1 Accepted ≡ ascii "line 1: accepted\n"
+opened : spoken_verdict 1 (Ok tt) ≡ ascii "line 1: accepted\n"
 unfolding spoken_verdict line_mark verdict_words digits_below digit_at has_digit digit_of
 opened = refl
 
@@ -110,11 +103,11 @@ no_origin = (refl, refl)
 
 -- drafts that are not in the sheet: each ending, with a refused commit and without
 endings :
-    (draft_line 2 5 No (Cancelled 7) ≡ ascii "desk 2, begun at line 5: cancelled at line 7\n")
-    × (draft_line 1 5 No (TakenBack 7 9) ≡ ascii "desk 1, begun at line 5: committed at line 7, taken back at line 9\n")
-    × (draft_line 3 5 No Never ≡ ascii "desk 3, begun at line 5: not committed by then\n")
-    × (draft_line 2 5 (At 6) (Cancelled 7) ≡ ascii "desk 2, begun at line 5: refused at line 6, cancelled at line 7\n")
-    × (draft_line 1 5 (At 6) (TakenBack 7 9) ≡ ascii "desk 1, begun at line 5: refused at line 6, committed at line 7, taken back at line 9\n")
-    × (draft_line 3 5 (At 6) Never ≡ ascii "desk 3, begun at line 5: refused at line 6, not committed by then\n")
+    (draft_line 2 5 None (Cancelled 7) ≡ ascii "desk 2, begun at line 5: cancelled at line 7\n")
+    × (draft_line 1 5 None (TakenBack 7 9) ≡ ascii "desk 1, begun at line 5: committed at line 7, taken back at line 9\n")
+    × (draft_line 3 5 None Never ≡ ascii "desk 3, begun at line 5: not committed by then\n")
+    × (draft_line 2 5 (Some 6) (Cancelled 7) ≡ ascii "desk 2, begun at line 5: refused at line 6, cancelled at line 7\n")
+    × (draft_line 1 5 (Some 6) (TakenBack 7 9) ≡ ascii "desk 1, begun at line 5: refused at line 6, committed at line 7, taken back at line 9\n")
+    × (draft_line 3 5 (Some 6) Never ≡ ascii "desk 3, begun at line 5: refused at line 6, not committed by then\n")
 unfolding draft_line balked_words became_words at_line digits_below digit_at has_digit digit_of
 endings = (refl, refl, refl, refl, refl, refl)

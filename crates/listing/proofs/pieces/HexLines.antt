@@ -1,15 +1,10 @@
 -- The lines of a list of numbers: nine bytes for each, in order; and the hexadecimal digits, by
 -- computation. Assumes nothing.
-use mathlib.Core.Path.{◌≡◌, refl, sym, ap, ◌∙◌}
-use mathlib.Core.List.{List, [], ◌∷◌, ◌++◌, map}
-use Prim.Native.Nat.{ℕ, ◌+◌, ◌*◌, ◌≤◌, ◌<◌}
-use native.Mathlib.Numerals.{add-one}
-use native.Mathlib.Omega.{arith}
-use lib.ListN.{length, get_or, drop, length-append, drop_of_length-le}
-use lib.Seq.{drop-cons}
-use lib.Ieee.{Float, nan}
+use Rattle.std.proofs.Common.{◌≡◌, refl, sym, ap, ◌∙◌, List, [], ◌∷◌, ◌++◌, map, ℕ, ◌+◌, ◌*◌, ◌^◌, ◌≤◌, ◌<◌, add-one, arith, length, get_or, drop, length-append, drop_of_length-le, drop-cons, Float}
+use lib.Ieee.{nan}
 use Rattle.wording.specs.Token.{ascii}
-use Rattle.listing.specs.Answer.{glyph_of, hex_of, line_of, lines_of}
+use Rattle.listing.specs.Answer.{glyph_of, hex_of, line_of, lines_of, points_text}
+use Rattle.listing.proofs.digits.Places.{at_most_10}
 
 pub length_line : (x : Float) → length (line_of x) ≡ 9
 unfolding line_of hex_of
@@ -22,6 +17,13 @@ length_lines (x ∷ xs) =
     let a = length_line x in
     let b = length_lines xs in
     length-append (line_of x) (lines_of xs) ∙ omega arith
+
+pub length_points : (count : ℕ) (xs : List Float) → count < 2 ^ 32 → length (points_text count xs) ≤ 18 + 9 * length xs
+unfolding points_text
+length_points count xs h =
+    let a = at_most_10 count h in
+    let b = length_lines xs in
+    simp length-append (omega arith)
 
 -- the lines from the one of number k on
 pub lines_from : (xs : List Float) (k : ℕ) → k < length xs → lines_of (drop k xs) ≡ line_of (get_or xs k nan) ++ lines_of (drop (k + 1) xs)

@@ -1,13 +1,7 @@
 -- The fields by name: the source's tables are the rows of specs/Fields.antt, by computation over the
 -- whole table, and how long each line is at most. Assumes nothing.
-use mathlib.Core.Path.{◌≡◌, refl, sym, ap, ◌∙◌}
-use mathlib.Core.Bool.{Bool, true, false, cond}
-use mathlib.Core.List.{List, [], ◌∷◌, ◌++◌, map}
-use Prim.Native.Nat.{ℕ, zero, suc, ◌+◌, ◌-◌, ◌*◌, ◌≤◌, ◌<◌}
-use native.Mathlib.Omega.{arith}
-use lib.Dec.{eqb, leb, leb→le}
-use lib.ListN.{length, get_or, take, replicate, set, length-append, get_or-map}
-use lib.Seq.{length-take-le, get_or-set_other}
+use Rattle.std.proofs.Common.{◌≡◌, refl, sym, ap, ◌∙◌, Bool, true, false, cond, List, [], ◌∷◌, ◌++◌, map, ℕ, zero, suc, ◌+◌, ◌-◌, ◌*◌, ◌≤◌, ◌<◌, arith, eqb, leb, leb→le, length, get_or, replicate, set, length-append, length-take-le, get_or-set_other}
+use lib.ListN.{get_or-map}
 use lib.Ieee.{nan}
 use Rattle.base.proofs.lists.Entries.{at as entry}
 use Rattle.maps.specs.declared.inputs.Inputs.{Inputs}
@@ -31,49 +25,17 @@ nobody = row "" ""
 pub name_of : (k : ℕ) → k < 15 → get_or (map field_name field_rows) k [] ≡ field_name (get_or field_rows k nobody)
 name_of k h = any_default (map field_name field_rows) k [] (field_name nobody) h ∙ get_or-map field_name field_rows k nobody
 
--- a unit after two blanks, in eleven characters as the source has it, and how many of them count
-abbrev its_unit : Row → List ℕ
-its_unit w = unit_text w.unit
-
-abbrev padded : Row → List ℕ
-padded w = take 11 (its_unit w ++ replicate 11 32)
-
-abbrev letters : Row → ℕ
-letters w = length (its_unit w)
-
-abbrev cut : Row → List ℕ
-cut w = take (letters w) (padded w)
-
-same_units : map cut field_rows ≡ map its_unit field_rows
-same_units = refl
-
-pub unit_of : (k : ℕ) → k < 15 → take (get_or (map letters field_rows) k 0) (get_or (map padded field_rows) k []) ≡ its_unit (get_or field_rows k nobody)
-unit_of k h =
-    ap (λ (n : ℕ). take n (get_or (map padded field_rows) k [])) (get_or-map letters field_rows k nobody)
-    ∙ ap (take (letters (get_or field_rows k nobody))) (any_default (map padded field_rows) k [] (padded nobody) h ∙ get_or-map padded field_rows k nobody)
-    ∙ sym (get_or-map cut field_rows k nobody)
-    ∙ ap (λ (l : List (List ℕ)). get_or l k []) same_units
-    ∙ get_or-map its_unit field_rows k nobody
-
-pub letters_of : (k : ℕ) → get_or (map letters field_rows) k 0 ≡ length (its_unit (get_or field_rows k nobody))
-letters_of k = get_or-map letters field_rows k nobody
-
 is_most : ℕ → ℕ → Bool
 is_most k n = leb n 11
 
-pub length_field_unit : (k : ℕ) → k < 15 → length (its_unit (get_or field_rows k nobody)) ≤ 11
-unfolding is_most
-length_field_unit k h =
-    omega (arith, letters_of k, leb→le (get_or (map letters field_rows) k 0) 11 (entry is_most (map letters field_rows) tt k h))
+unit_size : Row → ℕ
+unit_size w = length (unit_text w.unit)
 
--- the row has them
-pub letters_fit : (k : ℕ) → k < 15 → get_or (map letters field_rows) k 0 ≤ length (get_or (map padded field_rows) k [])
-letters_fit k h =
-    let w = get_or field_rows k nobody in
-    let l = its_unit w ++ replicate 11 32 in
-    let a = length-append (its_unit w) (replicate 11 32) in
-    let e = ap length (any_default (map padded field_rows) k [] (padded nobody) h ∙ get_or-map padded field_rows k nobody) in
-    omega (arith, e, length-take-le 11 l (omega arith), letters_of k, length_field_unit k h)
+pub length_field_unit : (k : ℕ) → k < 15 → length (unit_text (get_or field_rows k nobody).unit) ≤ 11
+unfolding is_most unit_size
+length_field_unit k h =
+    let a : get_or (map unit_size field_rows) k 0 ≡ unit_size (get_or field_rows k nobody) = get_or-map unit_size field_rows k nobody in
+    omega (arith, leb→le (get_or (map unit_size field_rows) k 0) 11 (entry is_most (map unit_size field_rows) tt k h))
 
 -- ---- values
 
@@ -129,9 +91,9 @@ values_short i =
     let month = at_most_20 i.month in
     let flag = length_flag w.long_path in
     let model = length_model i.model in
-    let a = length_right (decimal_of i.month) (omega arith) in
-    let b = length_right (ascii (flag_name w.long_path)) (omega arith) in
-    let e = length_right (ascii (model_name i.model)) (omega arith) in (
+    let a = length_right (decimal_of i.month) 20 (omega arith) (omega arith) in
+    let b = length_right (ascii (flag_name w.long_path)) 20 (omega arith) (omega arith) in
+    let e = length_right (ascii (model_name i.model)) 20 (omega arith) (omega arith) in (
       omega arith,
       (
         d i.ssn,

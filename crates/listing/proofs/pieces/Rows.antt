@@ -1,65 +1,21 @@
--- The lines of a page: the table's bytes are its pageRows, how long each part is at most, and one
+-- The lines of a page: the source's tables are its rows, how long each part is at most, and one
 -- line or point more. Assumes nothing.
-use mathlib.Core.Path.{◌≡◌, refl, sym, ap, ◌∙◌}
-use mathlib.Core.Bool.{Bool}
-use mathlib.Core.List.{List, [], ◌∷◌, ◌++◌, map}
-use Prim.Native.Nat.{ℕ, zero, suc, ◌+◌, ◌*◌, ◌≤◌, ◌<◌}
-use native.Mathlib.Numerals.{add-one}
-use native.Mathlib.Omega.{arith}
-use borrow.Author.Tests.{eq-eqb, ne_eqb}
-use lib.Dec.{eqb, leb, ltb, leb→le}
-use lib.ListN.{length, get_or, take, drop, replicate, length-append, drop_of_length-le, get_or-map}
-use lib.Seq.{length-take-le, drop-cons}
-use lib.Ieee.{Float, nan, binary32, to_bits}
+use Rattle.std.proofs.Common.{◌≡◌, refl, sym, ap, ◌∙◌, Bool, List, [], ◌∷◌, ◌++◌, map, ℕ, zero, suc, ◌+◌, ◌*◌, ◌≤◌, ◌<◌, add-one, arith, leb, ltb, leb→le, length, get_or, replicate, length-append, length-take-le, Float}
+use lib.ListN.{get_or-map, length-map}
+use Prim.Native.String.{String}
+use Rattle.listing.specs.declared.unit.Unit.{Unit}
+use Rattle.listing.specs.Unit.{unit_name}
+use lib.Ieee.{nan, binary32, to_bits}
 use Rattle.base.proofs.lists.Entries.{at as entry}
-use Rattle.base.proofs.verdicts.Picks.{cond_true, cond_false}
 use Rattle.maps.specs.declared.inputs.Inputs.{Inputs}
 use Rattle.maps.specs.Inputs.{is_long}
 use Rattle.wording.specs.Token.{ascii}
-use Rattle.listing.specs.Text.{Put}
 use Rattle.listing.specs.Answer.{hex_of}
-use Rattle.listing.specs.Page.{Row, page_rows, page_row, name_text, letters_in, unit_in, unit_text, value_text, row_text, rows_text, early_fields, late_fields, long_text, fields_text, point_text, there_text, first_points}
+use Rattle.listing.specs.Page.{Row, page_rows, page_row, name_text, unit_text, value_text, row_text, rows_text, early_fields, late_fields, long_text, fields_text, point_text, there_text, first_points}
 use Rattle.listing.proofs.digits.Places.{at_most_20}
-use Rattle.listing.proofs.pieces.Puts.{nothing}
 use Rattle.listing.proofs.digits.Values.{either, length_decimal}
 
--- ---- the letters before a blank
-
-pub word_next :
-    (l : List ℕ) (k : ℕ) → k < length l → (get_or l k 0 ≡ 32 → ⊥) → letters_in (drop k l) ≡ (get_or l k 0 ∷ []) ++ letters_in (drop (k + 1) l)
-unfolding letters_in
-word_next l k h n =
-    ap letters_in (drop-cons l k 0 h)
-    ∙ cond_false _ _ (ne_eqb (get_or l k 0) 32 n)
-    ∙ ap (λ (j : ℕ). get_or l k 0 ∷ letters_in (drop j l)) (sym (add-one k))
-
-pub word_end : (l : List ℕ) (k : ℕ) → k < length l → get_or l k 0 ≡ 32 → letters_in (drop k l) ≡ []
-unfolding letters_in
-word_end l k h e = ap letters_in (drop-cons l k 0 h) ∙ cond_true _ _ (eq-eqb (get_or l k 0) 32 e)
-
-pub word_none : (l : List ℕ) (k : ℕ) → length l ≤ k → letters_in (drop k l) ≡ []
-unfolding letters_in
-word_none l k h = ap letters_in (drop_of_length-le l {i = k} h)
-
-pub length_word : (l : List ℕ) → length (letters_in l) ≤ length l
-unfolding letters_in
-length_word [] = omega arith
-length_word (x ∷ l) = either (eqb x 32) [] (x ∷ letters_in l) (suc (length l)) (omega arith) (let a = length_word l in omega arith)
-
-pub length_unit : (l : List ℕ) → length (unit_in l) ≤ 2 + length l
-unfolding unit_in
-length_unit l =
-    let a = length_word l in
-    either (eqb (get_or l 0 0) 32) [] (ascii "  " ++ letters_in l) (2 + length l) (omega arith) (omega (arith, length-append (ascii "  ") (letters_in l)))
-
--- ---- the table as bytes
-
--- a unit in seven characters, as the source has it
-abbrev padded : Row → List ℕ
-padded w = take 7 (ascii w.unit ++ replicate 7 32)
-
-abbrev its_unit : Row → List ℕ
-its_unit w = unit_text w.unit
+-- ---- the tables
 
 abbrev nobody : Row
 nobody = record { name = ""; unit = "" }
@@ -72,16 +28,16 @@ any_default (x ∷ l) (suc k) d d' h = any_default l k d d' (omega arith)
 pub name_at : (k : ℕ) → k < 47 → get_or (map name_text page_rows) k [] ≡ name_text (page_row k)
 name_at k h = any_default (map name_text page_rows) k [] (name_text nobody) h ∙ get_or-map name_text page_rows k nobody
 
-same_units : map unit_in (map padded page_rows) ≡ map its_unit page_rows
-unfolding unit_in letters_in
-same_units = refl
-
-pub unit_at : (k : ℕ) → k < 47 → unit_in (get_or (map padded page_rows) k []) ≡ unit_text (page_row k).unit
-unit_at k h =
-    sym (get_or-map unit_in (map padded page_rows) k [])
-    ∙ ap (λ (l : List (List ℕ)). get_or l k (unit_in [])) same_units
-    ∙ any_default (map its_unit page_rows) k (unit_in []) (its_unit nobody) h
-    ∙ get_or-map its_unit page_rows k nobody
+-- a table of units is that of some rows, by computation over the whole table
+pub unit_at :
+    (units : List Unit) (rows : List Row) (k : ℕ) (d : Unit) → map unit_name units ≡ map (λ (w : Row). w.unit) rows → k < length rows →
+    unit_name (get_or units k d) ≡ (get_or rows k nobody).unit
+unit_at units rows k d e h =
+    let l = length-map rows (λ (w : Row). w.unit) in
+    sym (get_or-map unit_name units k d)
+    ∙ ap (λ (l : List String). get_or l k (unit_name d)) e
+    ∙ any_default (map (λ (w : Row). w.unit) rows) k (unit_name d) "" (omega arith)
+    ∙ get_or-map (λ (w : Row). w.unit) rows k nobody
 
 -- ---- a line
 
@@ -126,13 +82,13 @@ length_row k x h =
 -- ---- lines
 
 module _ (first : ℕ) (xs : List Float) (at : ℕ) where
-  pub no_rows : (l : List ℕ) (p : ℕ) → Put l p (rows_text first xs at 0) l p
+  pub no_rows : rows_text first xs at 0 ≡ []
   unfolding rows_text
-  no_rows l p = nothing l p
+  no_rows = refl
 
-  pub next_row : (k : ℕ) → rows_text first xs at k ++ row_text (page_row (first + k)) (get_or xs (at + k) nan) ≡ rows_text first xs at (k + 1)
+  pub next_row : (k : ℕ) → rows_text first xs at (k + 1) ≡ rows_text first xs at k ++ row_text (page_row (first + k)) (get_or xs (at + k) nan)
   unfolding rows_text
-  next_row k = sym (ap (rows_text first xs at) (add-one k))
+  next_row k = ap (rows_text first xs at) (add-one k)
 
   pub length_rows : (n : ℕ) → first + n ≤ 47 → length (rows_text first xs at n) ≤ 76 * n
   unfolding rows_text
@@ -156,13 +112,13 @@ unfolding there_text
 length_there count xs p = either (ltb p count) (point_text xs p) [] 2231 (length_point xs p) (omega arith)
 
 module _ (count : ℕ) (xs : List Float) where
-  pub no_points : (l : List ℕ) (at : ℕ) → Put l at (first_points count xs 0) l at
+  pub no_points : first_points count xs 0 ≡ []
   unfolding first_points
-  no_points l at = nothing l at
+  no_points = refl
 
-  pub next_point : (p : ℕ) → first_points count xs p ++ there_text count xs p ≡ first_points count xs (p + 1)
+  pub next_point : (p : ℕ) → first_points count xs (p + 1) ≡ first_points count xs p ++ there_text count xs p
   unfolding first_points
-  next_point p = sym (ap (first_points count xs) (add-one p))
+  next_point p = ap (first_points count xs) (add-one p)
 
   pub length_points : (n : ℕ) → length (first_points count xs n) ≤ 2231 * n
   unfolding first_points

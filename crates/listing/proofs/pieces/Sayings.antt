@@ -1,18 +1,8 @@
 -- An answer in words: how long each part is at most, and that the words of an answer as it is handed
 -- back are those of the step's answer, by the answer's case. Assumes nothing.
-use Prim.Native.Nat.{ℕ, ◌≤◌}
-use mathlib.Core.Bool.{Bool, true, false, cond}
-use mathlib.Core.List.{List, ◌++◌}
-use mathlib.Core.Path.{◌≡◌, refl, ap, ◌∙◌}
-use native.Mathlib.Omega.{arith}
-use lib.Dec.{eqb}
-use lib.ListN.{length, length-append}
-use lib.Ieee.{Float}
+use Rattle.std.proofs.Common.{Err, Ok, Result, ℕ, ◌≤◌, Bool, true, false, cond, List, ◌++◌, ◌≡◌, refl, ap, ◌∙◌, arith, eqb, length, length-append, Float}
 use Rattle.base.specs.declared.refusal.Refusal.{Refusal}
-use Rattle.base.specs.declared.refusal.Verdict.{Verdict}
-use Rattle.base.specs.declared.refusal.Verdict.TheVariants.{Accepted, Refused}
-use Rattle.maps.specs.declared.figures.Shown.{Shown}
-use Rattle.maps.specs.declared.figures.Shown.TheVariants.{Points, Refused as NotShown}
+use Rattle.base.specs.Refusal.{Verdict}
 use Rattle.maps.specs.declared.inputs.Inputs.{Inputs}
 use Rattle.worksheet.specs.declared.desks.Worksheet.{Worksheet}
 use Rattle.worksheet.specs.declared.journal.Answer.{Answer as Handed}
@@ -46,8 +36,8 @@ length_refused_line why =
 
 pub length_verdict : (v : Verdict) → length (verdict_words v) ≤ 95
 unfolding verdict_words
-length_verdict Accepted = omega arith
-length_verdict (Refused why) = length_refused_line why
+length_verdict (Ok _) = omega arith
+length_verdict (Err why) = length_refused_line why
 
 noun_most : (one : Bool) → length (ascii (cond one " point\n" " points\n")) ≤ 8
 noun_most true = omega arith
@@ -64,10 +54,10 @@ length_points i count xs =
     let d = length_columns i count xs in
     simp length-append (omega arith)
 
-length_shown : (i : Inputs) (s : Shown) (xs : List Float) → length (shown_words i s xs) ≤ 10036
+length_shown : (i : Inputs) (s : Result ℕ Refusal) (xs : List Float) → length (shown_words i s xs) ≤ 10036
 unfolding shown_words
-length_shown i (Points count) xs = length_points i count xs
-length_shown i (NotShown why) xs = (let a = length_refused_line why in omega arith)
+length_shown i (Ok count) xs = length_points i count xs
+length_shown i (Err why) xs = (let a = length_refused_line why in omega arith)
 
 pub length_handed : (i : Inputs) (a : Handed) (xs : List Float) → length (handed_words i a xs) ≤ 10036
 unfolding handed_words

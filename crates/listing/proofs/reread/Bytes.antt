@@ -1,12 +1,6 @@
 -- A number's text is one word of a line: it has no blank, comment or newline in it, and it begins
 -- as only a number does. Each byte is a digit, the sign or the point. Assumes nothing.
-use mathlib.Core.Path.{◌≡◌, refl, ap, ◌∙◌}
-use mathlib.Core.Bool.{Bool, true, false, cond, not, ◌&&◌, ◌||◌}
-use mathlib.Core.List.{List, [], ◌∷◌, ◌++◌}
-use Prim.Native.Nat.{ℕ, ◌<◌}
-use native.Mathlib.Omega.{arith}
-use lib.Dec.{eqb}
-use lib.ListN.{length}
+use Rattle.std.proofs.Common.{◌≡◌, refl, ap, ◌∙◌, Bool, true, false, cond, not, ◌&&◌, ◌||◌, List, [], ◌∷◌, ◌++◌, ℕ, ◌<◌, arith, eqb, length}
 use Rattle.base.proofs.ladder.Ladders.{and_true, and_left, and_right}
 use Rattle.base.proofs.verdicts.Picks.{cond_true}
 use Rattle.wording.specs.declared.number.Decimal.{Decimal}

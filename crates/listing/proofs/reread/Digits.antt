@@ -1,14 +1,7 @@
 -- The digits of a text as wording reads them: all of them are digits, one is there, and their value
 -- is the number, place by place from the highest. Assumes nothing.
-use mathlib.Core.Path.{◌≡◌, refl, sym, ap, ◌∙◌}
-use mathlib.Core.Bool.{Bool, true, false, cond}
-use mathlib.Core.List.{List, [], ◌∷◌, ◌++◌}
-use Prim.Native.Nat.{ℕ, zero, suc, ◌+◌, ◌-◌, ◌*◌, ◌/◌, ◌%◌, ◌^◌, ◌<◌}
-use native.Mathlib.Nat.{pow-suc, div-eq_of_lt, div-div-eq-div-mul}
-use native.Mathlib.Omega.{arith}
-use borrow.Author.Tests.{le-leb, ltb-false}
-use lib.Dec.{eqb, ltb}
-use lib.ListN.{length, length-append}
+use Rattle.std.proofs.Common.{◌≡◌, refl, sym, ap, ◌∙◌, Bool, true, false, cond, List, [], ◌∷◌, ◌++◌, ℕ, zero, suc, ◌+◌, ◌-◌, ◌*◌, ◌/◌, ◌%◌, ◌^◌, ◌<◌, pow-suc, arith, le-leb, ltb-false, eqb, ltb, length, length-append}
+use native.Mathlib.Nat.{div-eq_of_lt, div-div-eq-div-mul}
 use Rattle.base.proofs.ladder.Ladders.{and_true, and_left, and_right}
 use Rattle.base.proofs.verdicts.Picks.{never'}
 use Rattle.wording.specs.Number.{is_digit, all_digits, value_from}

@@ -1,8 +1,7 @@
 -- Written calls and faults as text, by computation. Assumes nothing.
-use mathlib.Core.Path.{◌≡◌, refl}
-use mathlib.Core.Bool.{true, false}
-use Prim.Native.Nat.{ℕ, ◌^◌}
+use Rattle.std.proofs.Common.{◌≡◌, refl, true, false, ℕ, ◌^◌}
 use Rattle.wording.specs.declared.number.Decimal.{Decimal}
+use Rattle.wording.specs.declared.token.Word.TheVariants as word
 use Rattle.wording.specs.declared.line.Wanted.TheVariants.{Start, Deed, Word, Number, Whole, Model as WantedModel, Nothing}
 use Rattle.wording.specs.declared.written.WrittenRoute.{WrittenRoute}
 use Rattle.wording.specs.declared.written.WrittenFactors.{WrittenFactors}
@@ -74,8 +73,8 @@ faults :
     × (fault_text 1 (record { word = 2; wanted = Deed })
     ≡ ascii
     "line 1: no call: word 2 should be begin, sunspot, hour, month, model, path, factors, pole, show, commit or cancel\n")
-    × (fault_text 1 (record { word = 2; wanted = Word 18 }) ≡ ascii "line 1: no call: word 2 should be back\n")
-    × (fault_text 1 (record { word = 2; wanted = Word 19 }) ≡ ascii "line 1: no call: word 2 should be another\n")
+    × (fault_text 1 (record { word = 2; wanted = Word word.Back }) ≡ ascii "line 1: no call: word 2 should be back\n")
+    × (fault_text 1 (record { word = 2; wanted = Word word.Another }) ≡ ascii "line 1: no call: word 2 should be another\n")
     × (fault_text 1 (record { word = 3; wanted = Number })
     ≡ ascii "line 1: no call: word 3 should be a number: digits with sign and point, at most 18 of them\n")
     × (fault_text 1 (record { word = 3; wanted = Whole })

@@ -1,18 +1,9 @@
 -- Reading a number's text gives the number: its point parts the digits, and their value and the
 -- places after the point are the decimal's. Assumes nothing.
-use mathlib.Core.Path.{◌≡◌, refl, sym, ap, ◌∙◌}
-use mathlib.Core.Bool.{Bool, true, false, cond}
-use mathlib.Core.List.{List, [], ◌∷◌, ◌++◌, append-nil}
-use Prim.Native.Nat.{ℕ, ◌/◌, ◌^◌, ◌≤◌, ◌<◌}
-use native.Mathlib.Nat.{div-le_self}
-use native.Mathlib.Omega.{arith}
-use borrow.Author.Tests.{ne_eqb, eqb-true, lt-ltb, le-leb, leb-true}
-use lib.Dec.{leb, eqb}
-use lib.ListN.{length, length-append}
+use Rattle.std.proofs.Common.{◌≡◌, refl, sym, ap, ◌∙◌, Bool, true, false, cond, List, [], ◌∷◌, ◌++◌, append-nil, ℕ, ◌/◌, ◌^◌, ◌≤◌, ◌<◌, div-le_self, arith, ne_eqb, eqb-true, lt-ltb, le-leb, leb-true, leb, eqb, length, length-append, Some}
 use Rattle.base.proofs.ladder.Ladders.{and_true, and_left, and_right}
 use Rattle.base.proofs.verdicts.Picks.{cond_true, cond_false}
 use Rattle.wording.specs.declared.number.Decimal.{Decimal}
-use Rattle.wording.specs.declared.number.Number.TheVariants.{Is}
 use Rattle.wording.specs.Number.{is_digit, all_digits, value_from, before_point, after_point, digits_in, is_unsigned, unsigned_in, number_in, is_written}
 use Rattle.wording.specs.Token.{ascii}
 use Rattle.listing.specs.Text.{decimal_of}
@@ -117,10 +108,10 @@ module _ (d : Decimal) (h : is_written d ≡ true) where
 
   read_unsigned :
       (negative : Bool) →
-      unsigned_in negative (unsigned_text d) ≡ Is (record { negative = negative; digits = d.digits; places = d.places })
+      unsigned_in negative (unsigned_text d) ≡ Some (record { negative = negative; digits = d.digits; places = d.places })
   unfolding unsigned_in
   read_unsigned negative =
-      cond_true _ _ unsigned ∙ λ i. Is (record { negative = negative; digits = value i; places = places i })
+      cond_true _ _ unsigned ∙ λ i. Some (record { negative = negative; digits = value i; places = places i })
 
 -- ---- the sign
 
@@ -136,6 +127,6 @@ unfolding minus_of number_in
 signed true d = refl
 signed false d = no_sign (whole_text d) (fraction_text d) (decimal_digits (whole_part d)) (decimal_some (whole_part d))
 
-pub read_number : (d : Decimal) → is_written d ≡ true → number_in (number_text d) ≡ Is d
+pub read_number : (d : Decimal) → is_written d ≡ true → number_in (number_text d) ≡ Some d
 unfolding number_text digits_text
 read_number d h = ap number_in (cond_true _ _ h) ∙ signed d.negative d ∙ read_unsigned d h d.negative

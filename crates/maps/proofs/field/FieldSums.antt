@@ -3,10 +3,10 @@
 -- induction along the two loops: before the order m of the degree n the arrays p and dp hold
 -- Legendre's functions for the degrees below n and for the orders below m of the degree n, and 0
 -- elsewhere. Assumes nothing.
-use Rattle.std.proofs.Common.{◌≡◌, ℕ, zero, suc, ◌+◌, ◌-◌, ◌*◌, ◌<◌, ◌≤◌, ◌⊎◌, List, length, set, replicate, pos, sym, refl, ap, ◌∙◌, ⊎_elim, arith, length-set, get_or-set_other, get_or-set_same, eq-eqb, ne_eqb}
+use Rattle.std.proofs.Common.{◌≡◌, ℕ, zero, suc, ◌+◌, ◌-◌, ◌*◌, ◌<◌, ◌≤◌, ◌⊎◌, List, length, set, replicate, pos, sym, refl, ap, ◌∙◌, ⊎_elim, arith, length-set, get_or-set_other, get_or-set_same, eq-eqb, ne_eqb, Float}
 use native.Mathlib.Decide.{dec_lt}
 use lib.ListN.{length-replicate, get_or-replicate}
-use lib.Ieee.{Float, nan, binary32, neg, of_int}
+use lib.Ieee.{nan, binary32, neg, of_int}
 use Rattle.base.specs.Single.{◌⊕◌, ◌⊖◌, ◌⊗◌, ◌⊘◌, decimal}
 use Rattle.base.specs.Fill.{tabulate}
 use Rattle.base.specs.declared.angle.Radians.{Radians}

@@ -1,8 +1,8 @@
 -- Legendre's functions as magnetic.rs has them: the recurrences of a textbook, the first values,
 -- the zeros for m above n, and that the constants of the recurrence have Gauss's digits to less
 -- than a unit of the eighth. By the clauses of `p_of` and `dp_of`. Assumes nothing.
-use Rattle.std.proofs.Common.{◌≡◌, ℕ, zero, suc, ◌+◌, ◌-◌, ◌*◌, ◌^◌, ◌<◌, ◌≤◌, refl, ◌∙◌, arith, lit<, eq-eqb, ne_eqb, le-leb}
-use lib.Ieee.{Float, neg, round}
+use Rattle.std.proofs.Common.{◌≡◌, ℕ, zero, suc, ◌+◌, ◌-◌, ◌*◌, ◌^◌, ◌<◌, ◌≤◌, refl, ◌∙◌, arith, lit<, eq-eqb, ne_eqb, le-leb, Float}
+use lib.Ieee.{neg, round}
 use borrow.Author.Tests.{lt-leb}
 use Rattle.base.specs.Single.{◌⊕◌, ◌⊖◌, ◌⊗◌, decimal}
 use Rattle.base.proofs.verdicts.Picks.{cond_true, cond_false}

@@ -1,8 +1,8 @@
 -- A list is a fill of another where it has the values in the first places and the other's elements
 -- past them: so is a list whose first elements are changed one by one. Assumes nothing.
-use Rattle.std.proofs.Common.{◌≡◌, ℕ, ◌+◌, ◌<◌, ◌≤◌, List, length, get_or, set, sym, ap, ◌∙◌, inr, zero-add, arith, ext_get_or}
+use Rattle.std.proofs.Common.{◌≡◌, ℕ, ◌+◌, ◌<◌, ◌≤◌, List, length, get_or, set, sym, ap, ◌∙◌, inr, zero-add, arith, ext_get_or, Float}
 use native.Mathlib.Decide.{dec_lt}
-use lib.Ieee.{Float, nan}
+use lib.Ieee.{nan}
 use Rattle.base.specs.Fill.{fill}
 use Rattle.base.proofs.lists.Fills.{length_fill, fill_at, fill_other, fill_first}
 use Rattle.maps.specs.Noisy.{each}

@@ -1,17 +1,14 @@
 -- A sheet's figures come from its inputs, its record and its month file alone: whatever the buffer
 -- held, all of it is overwritten or none. And of the inputs the path, its points, the field there
 -- and the ground take route and pole only. Read off the definitions. Assumes nothing.
-use Rattle.std.proofs.Common.{◌≡◌, ℕ, zero, suc, ◌+◌, ◌*◌, Bool, true, false, cond, ltb, List, ◌++◌, length, get_or, take, drop, replicate, sym, refl, ap, ◌∙◌, arith, length-append}
-use lib.Ieee.{Float}
+use Rattle.std.proofs.Common.{◌≡◌, ℕ, zero, suc, ◌+◌, ◌*◌, Bool, true, false, cond, ltb, List, ◌++◌, length, get_or, take, drop, replicate, sym, refl, ap, ◌∙◌, arith, length-append, Err, Ok, Float}
 use Rattle.base.specs.declared.refusal.Refusal.{Refusal}
-use Rattle.base.specs.declared.refusal.Verdict.{Verdict}
-use Rattle.base.specs.declared.refusal.Verdict.TheVariants.{Accepted, Refused}
+use Rattle.base.specs.Refusal.{Verdict}
 use Rattle.base.specs.Refusal.{written_over}
 use Rattle.base.specs.Single.{decimal}
 use Rattle.base.specs.Files.{files_check}
 use Rattle.maps.specs.declared.inputs.Inputs.{Inputs}
 use Rattle.maps.specs.declared.inputs.Route.{Route}
-use Rattle.maps.specs.declared.figures.Shown.TheVariants.{Refused as NotShown}
 use Rattle.maps.specs.declared.inputs.MagneticPole.{MagneticPole}
 use Rattle.maps.specs.declared.geometry.ControlPoint.{ControlPoint}
 use Rattle.maps.specs.declared.geometry.PathGeometry.{PathGeometry}
@@ -38,32 +35,28 @@ to_length h i g (suc p) =
     ∙ (let a = to_length h i g p in let b = row_length h i g p in omega arith)
 
 module _ (f2 file : List ℕ) (i : Inputs) where
-  pub figures_length : length (figures_of f2 file i) ≡ 151
-  unfolding figures_of
-  figures_length = to_length _ i _ 5
-
   -- ---- from nothing else
 
   -- accepted, every number is one of the figures, whatever the buffer held
-  pub all_written : (b : List Float) → files_check f2 file ≡ Accepted → figures_buffer f2 file i b ≡ figures_of f2 file i
+  pub all_written : (b : List Float) → files_check f2 file ≡ Ok tt → figures_buffer f2 file i b ≡ figures_of f2 file i
   unfolding figures_buffer
   all_written b e = ap (λ (v : Verdict). written_over v (figures_of f2 file i) b) e
 
-  pub same_figures : (b c : List Float) → files_check f2 file ≡ Accepted → figures_buffer f2 file i b ≡ figures_buffer f2 file i c
+  pub same_figures : (b c : List Float) → files_check f2 file ≡ Ok tt → figures_buffer f2 file i b ≡ figures_buffer f2 file i c
   same_figures b c a = all_written b a ∙ sym (all_written c a)
 
   -- refused, none
-  pub none_written : (b : List Float) (why : Refusal) → files_check f2 file ≡ Refused why → figures_buffer f2 file i b ≡ b
+  pub none_written : (b : List Float) (why : Refusal) → files_check f2 file ≡ Err why → figures_buffer f2 file i b ≡ b
   unfolding figures_buffer
   none_written b why e = ap (λ (v : Verdict). written_over v (figures_of f2 file i) b) e
 
-  pub refused_left : (b : List Float) (why : Refusal) → shown_of f2 file i ≡ NotShown why → figures_buffer f2 file i b ≡ b
+  pub refused_left : (b : List Float) (why : Refusal) → shown_of f2 file i ≡ Err why → figures_buffer f2 file i b ≡ b
   unfolding shown_of figures_buffer
   refused_left b why h = go (files_check f2 file) h
     where
-      go : (v : Verdict) → points_or v (sheet_path i).count ≡ NotShown why → written_over v (figures_of f2 file i) b ≡ b
-      go Accepted e = let z : ◌≡◌ {A = ℕ} 0 1 = cc in absurd (omega arith)
-      go (Refused other) e = refl
+      go : (v : Verdict) → points_or v (sheet_path i).count ≡ Err why → written_over v (figures_of f2 file i) b ≡ b
+      go (Ok _) e = let z : ◌≡◌ {A = ℕ} 0 1 = cc in absurd (omega arith)
+      go (Err other) e = refl
 
 -- ---- path and pole
 

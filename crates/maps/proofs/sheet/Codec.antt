@@ -1,8 +1,8 @@
 -- Fields written as words and read again are the same fields, if their numbers are values of an
 -- f32, as those read off words are; and words read and written again are the same words, if no NaN
 -- is there but the one that is written. Field by field. Assumes nothing.
-use Rattle.std.proofs.Common.{◌≡◌, ℕ, ◌^◌, ◌<◌, not, T, ◌⊎◌, [], ◌∷◌, get_or, sym, ap, ◌∙◌, inl, inr}
-use lib.Ieee.{Float, binary32, is_nan, of_bits, to_bits}
+use Rattle.std.proofs.Common.{◌≡◌, ℕ, ◌^◌, ◌<◌, not, T, ◌⊎◌, [], ◌∷◌, get_or, sym, ap, ◌∙◌, inl, inr, Float}
+use lib.Ieee.{binary32, is_nan, of_bits, to_bits}
 use lib.Ieee.Bits.{of_bits-to_bits, of_bits-fits, to_bits-of_bits}
 use Rattle.maps.specs.declared.inputs.Inputs.{Inputs}
 use Rattle.maps.specs.Inputs.{route_from, factors_from, pole_from, inputs_from, words_to, field_words, Single, Singles}

@@ -2,10 +2,10 @@
 -- functions of one harmonic, past the last word 0; and the array that is filled along the ladder
 -- holds them at each of its 76 places. By induction along the ladder: before each word the array is
 -- the closed form up to the word before it, and 0 above. Assumes nothing.
-use Rattle.std.proofs.Common.{◌≡◌, ℕ, zero, suc, ◌+◌, ◌-◌, ◌*◌, ◌/◌, ◌%◌, ◌<◌, ◌≤◌, false, cond, eqb, leb, List, length, get_or, set, sym, refl, ap, ◌∙◌, inr, add-zero, add_assoc, add-suc, zero-add, add-one, arith, ext_get_or, eq-eqb, ne_eqb, le-leb}
+use Rattle.std.proofs.Common.{◌≡◌, ℕ, zero, suc, ◌+◌, ◌-◌, ◌*◌, ◌/◌, ◌%◌, ◌<◌, ◌≤◌, false, cond, eqb, leb, List, length, get_or, set, sym, refl, ap, ◌∙◌, inr, add-zero, add_assoc, add-suc, zero-add, add-one, arith, ext_get_or, eq-eqb, ne_eqb, le-leb, Float}
 use native.Mathlib.Decide.{dec_lt}
 use lib.ListN.{length-replicate, get_or-replicate}
-use lib.Ieee.{Float, nan}
+use lib.Ieee.{nan}
 use borrow.Author.Tests.{lt-leb}
 use Rattle.base.specs.Double.{fraction}
 use Rattle.base.specs.Fill.{fill, tabulate}

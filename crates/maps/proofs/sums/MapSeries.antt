@@ -1,23 +1,21 @@
 -- A map's series, a term at a time: one term more, its narrowing, and that it takes the functions
 -- up to its last term only. Assumes nothing.
-use Rattle.std.proofs.Common.{◌≡◌, ℕ, zero, suc, ◌+◌, ◌≤◌, List, get_or, sym, refl, ap, ◌∙◌, add-one, arith}
-use lib.Ieee.{Float, nan}
+use Rattle.std.proofs.Common.{◌≡◌, ℕ, zero, suc, ◌+◌, ◌-◌, ◌≤◌, List, get_or, refl, ap, ◌∙◌, arith, Float}
+use lib.Ieee.{nan}
 use Rattle.base.specs.Double.{◌⊕◌, ◌⊗◌}
 use Rattle.base.specs.Number.{narrow_of}
 use Rattle.maps.specs.Versy.{gamma_of, sum_of}
 
 module _ (ab : List Float) (at : ℕ) (g : ℕ → Float) where
-  -- at the code's n + 1
   pub sum_next :
-      (n : ℕ) {s v x : Float} → s ≡ sum_of ab at g n → v ≡ narrow_of s → x ≡ get_or ab (at + (n + 1)) nan →
-      v ⊕ x ⊗ g (n + 1) ≡ sum_of ab at g (n + 1)
+      (k : ℕ) {s v x : Float} → 1 ≤ k → s ≡ sum_of ab at g (k - 1) → v ≡ narrow_of s → x ≡ get_or ab (at + k) nan →
+      v ⊕ x ⊗ g k ≡ sum_of ab at g k
   unfolding sum_of
-  sum_next n {s} {v} {x} e d h =
-      let p = d ∙ ap narrow_of e in
-      let q : v ⊕ x ⊗ g (n + 1) ≡ narrow_of (sum_of ab at g n) ⊕ get_or ab (at + (n + 1)) nan ⊗ g (n + 1) = λ t. p t ⊕ h t ⊗ g (n + 1) in
-      q
-      ∙ ap (λ (k : ℕ). narrow_of (sum_of ab at g n) ⊕ get_or ab (at + k) nan ⊗ g k) (add-one n)
-      ∙ sym (ap (sum_of ab at g) (add-one n))
+  sum_next zero h e d p = absurd (omega arith)
+  sum_next (suc n) h e d p =
+      let below : suc n - 1 ≡ n = omega arith in
+      let q = d ∙ ap narrow_of (e ∙ ap (sum_of ab at g) below) in
+      λ t. q t ⊕ p t ⊗ g (suc n)
 
   pub gamma_narrowed : (n : ℕ) → gamma_of ab at g n ≡ narrow_of (sum_of ab at g n)
   unfolding gamma_of sum_of

@@ -1,7 +1,7 @@
 -- The columns of a plane added up row by row are those added up one by one, and of the two arrays
 -- the series take what was filled. Assumes nothing.
-use Rattle.std.proofs.Common.{◌≡◌, ℕ, zero, suc, ◌+◌, ◌<◌, ◌≤◌, List, length, get_or, replicate, sym, refl, ap, ◌∙◌, add-one, arith}
-use lib.Ieee.{Float, nan}
+use Rattle.std.proofs.Common.{◌≡◌, ℕ, zero, suc, ◌+◌, ◌<◌, ◌≤◌, List, length, get_or, replicate, sym, refl, ap, ◌∙◌, add-one, arith, Float}
+use lib.Ieee.{nan}
 use lib.ListN.{length-replicate, get_or-replicate}
 use Rattle.base.specs.Single.{◌⊕◌, ◌⊗◌, decimal}
 use Rattle.base.specs.Fill.{fill}

@@ -1,15 +1,18 @@
 -- A sum of two `i32` as an `f32`: an `i64` holds it, an `f64` holds that without rounding, so that
 -- narrowing alone rounds. Assumes nothing.
-use Rattle.std.proofs.Common.{◌≡◌, suc, ◌+◌, ◌-◌, ◌^◌, ◌<◌, ◌≤◌, Bool, true, false, cond, ltb, ℤ, pos, negsuc, ◌+ℤ◌, sym, ap, ◌∙◌, subst, arith, lit<, to_z-of_z, w32, w64, SFits, to_z, of_z}
+use Rattle.std.proofs.Common.{◌≡◌, suc, ◌+◌, ◌-◌, ◌^◌, ◌<◌, ◌≤◌, Bool, true, false, cond, ltb, ℤ, pos, negsuc, ◌+ℤ◌, sym, ap, ◌∙◌, subst, arith, lit<, to_z-of_z, w32, w64, SFits, to_z, of_z, Float}
 use lib.Signed.{mag}
-use lib.Ieee.{Float, binary32, binary64, of_int, round, to_signed}
+use lib.Ieee.{binary32, binary64, of_int, round, to_signed}
 use lib.Ieee.Back.{round_whole}
+use lib.Ieee.Casts.{to_signed_in}
 use mir.Facts.{sfits_widen}
 use Rattle.base.specs.Number.{narrow_of}
 use Rattle.base.proofs.rounding.Narrowing.{narrow_val}
-use Rattle.base.proofs.rounding.Signs.{signed_fits}
 
--- x without its fraction, through a word
+-- x without its fraction fits a word, and is itself through one
+signed_fits : (x : Float) → SFits w32 (to_signed 31 x)
+signed_fits x = record { sfits = to_signed_in 31 x }
+
 pub signed_word : (x : Float) (z : ℤ) → z ≡ to_signed 31 x → to_z w32 (of_z w32 z) ≡ to_signed 31 x
 signed_word x z e = ap (λ (n : ℤ). to_z w32 (of_z w32 n)) e ∙ to_z-of_z (signed_fits x)
 

@@ -1,18 +1,15 @@
 // Local and universal time: CNGTIM's shift by a longitude with its change of day, and GEOTIM's
 // times of one hour.
-ghost use Rattle.std.specs.Prelude.{◌≡◌, ◌+ℤ◌};
+ghost use Rattle.std.specs.Prelude.{◌≡◌, ◌+ℤ◌, Err, Ok};
 ghost use Rattle.std.specs.Float.{binary32};
 ghost use Rattle.std.specs.Float.Ieee.{of_int};
 ghost use Rattle.base.specs.Refusal.{unless_refused};
-ghost use Rattle.maps.specs.declared.ionosphere.clocks.Moved.TheVariants.{To, Refused as NotMoved};
-ghost use Rattle.maps.specs.declared.ionosphere.clocks.Times.TheVariants.{Hours, Refused as NoTimes};
-ghost use Rattle.maps.specs.declared.ionosphere.clocks.LocalTime.TheVariants.{At, Refused as NoLocalTime};
 ghost use Rattle.maps.specs.Clocks.{fisw_of, theta_of, whole_of, after_shift, cngday_of, for_loop, wraps, cngtim_of, time_at, geotim_of, time_check, hours_check, moved_of, times_of, local_time_of};
 
 use base::angle::{Degrees, Radians};
 use base::number::{from_i32, narrow, to_i32};
 use base::ranges::{hour_check, longitude_check};
-use base::refusal::{Refusal, Verdict, refuse_unless, then};
+use base::refusal::{Refusal, Verdict, refuse_unless};
 
 // From universal time to local time, or back: the Rust's `isw` of 1 and -1.
 #[derive(Clone, Copy)]
@@ -28,33 +25,12 @@ pub struct Shifted {
     pub day: f32,
 }
 
-// What CNGTIM answers.
-#[derive(Clone, Copy)]
-pub enum Moved {
-    To(Shifted),
-    Refused(Refusal),
-}
-
 // One hour in universal time, and in local time at the transmitter and at the receiver.
 #[derive(Clone, Copy)]
 pub struct HourTimes {
     pub gmt: f32,
     pub lmt_tx: f32,
     pub gmtr: f32,
-}
-
-// What GEOTIM answers.
-#[derive(Clone, Copy)]
-pub enum Times {
-    Hours(HourTimes),
-    Refused(Refusal),
-}
-
-// What GEOTIM answers for one place.
-#[derive(Clone, Copy)]
-pub enum LocalTime {
-    At(f32),
-    Refused(Refusal),
 }
 
 fn fisw_of(direction: Direction) -> f32
@@ -171,71 +147,49 @@ fn geotim_of(jt: u32, local: bool, tlong: Radians, rlong: Radians) -> HourTimes
 }
 
 // A time of the day and a longitude as typed.
+#[tactic(auto, unfolding(crate::specs::Clocks::time_check))]
 fn time_check(time: f32, lon: Degrees) -> Verdict
     ensures { result ≡ time_check time lon }
 {
-    then(hour_check(time), longitude_check(5, lon))
+    hour_check(time)?;
+    longitude_check(5, lon)
 }
 
 // A whole hour and both longitudes as typed.
+#[tactic(auto, unfolding(crate::specs::Clocks::hours_check))]
 fn hours_check(hour: u32, tlong: Degrees, rlong: Degrees) -> Verdict
     ensures { result ≡ hours_check hour tlong rlong }
 {
-    let first = refuse_unless(hour <= 24, Refusal::Hour);
-    let longitudes = then(longitude_check(5, tlong), longitude_check(7, rlong));
-    then(first, longitudes)
-}
-
-fn moved_if(verdict: Verdict, shifted: Shifted) -> Moved
-    ensures { result ≡ unless_refused verdict (To shifted) NotMoved }
-{
-    match verdict {
-        Verdict::Accepted => Moved::To(shifted),
-        Verdict::Refused(why) => Moved::Refused(why),
-    }
-}
-
-fn times_if(verdict: Verdict, hours: HourTimes) -> Times
-    ensures { result ≡ unless_refused verdict (Hours hours) NoTimes }
-{
-    match verdict {
-        Verdict::Accepted => Times::Hours(hours),
-        Verdict::Refused(why) => Times::Refused(why),
-    }
-}
-
-fn local_if(verdict: Verdict, time: f32) -> LocalTime
-    ensures { result ≡ unless_refused verdict (At time) NoLocalTime }
-{
-    match verdict {
-        Verdict::Accepted => LocalTime::At(time),
-        Verdict::Refused(why) => LocalTime::Refused(why),
-    }
+    refuse_unless(hour <= 24, Refusal::Hour)?;
+    longitude_check(5, tlong)?;
+    longitude_check(7, rlong)
 }
 
 // A time of the day, hours, moved by a longitude in degrees, with the change of day. Refuses a time
 // outside 0 to 24, then a longitude outside -180 to 180.
-pub fn cngtim(time: f32, lon: Degrees, direction: Direction) -> Moved
+#[tactic(auto, unfolding(crate::specs::Clocks::moved_of))]
+pub fn cngtim(time: f32, lon: Degrees, direction: Direction) -> Result<Shifted, Refusal>
     ensures { result ≡ moved_of time lon direction }
 {
-    moved_if(time_check(time, lon), cngtim_of(time, lon, direction))
+    time_check(time, lon)?;
+    Ok(cngtim_of(time, lon, direction))
 }
 
 // Universal time and both ends' local times at a whole hour, universal or the transmitter's.
 // Refuses an hour above 24, then a longitude outside -180 to 180 degrees, the transmitter's first.
-pub fn geotim(hour: u32, local: bool, tlong: Degrees, rlong: Degrees) -> Times
+#[tactic(auto, unfolding(crate::specs::Clocks::times_of))]
+pub fn geotim(hour: u32, local: bool, tlong: Degrees, rlong: Degrees) -> Result<HourTimes, Refusal>
     ensures { result ≡ times_of hour local tlong rlong }
 {
-    let hours = geotim_of(hour, local, tlong.to_radians(), rlong.to_radians());
-    times_if(hours_check(hour, tlong, rlong), hours)
+    hours_check(hour, tlong, rlong)?;
+    Ok(geotim_of(hour, local, tlong.to_radians(), rlong.to_radians()))
 }
 
 // The local time, in hours, at one place for a universal time. Refuses as `cngtim` does.
-pub fn geotim_clck(gmt: f32, lon: Degrees) -> LocalTime
+#[tactic(auto, unfolding(crate::specs::Clocks::local_time_of))]
+pub fn geotim_clck(gmt: f32, lon: Degrees) -> Result<f32, Refusal>
     ensures { result ≡ local_time_of gmt lon }
 {
-    local_if(
-        time_check(gmt, lon),
-        time_at(gmt, lon.to_radians(), Direction::ToLocal),
-    )
+    time_check(gmt, lon)?;
+    Ok(time_at(gmt, lon.to_radians(), Direction::ToLocal))
 }

@@ -17,7 +17,7 @@ use base::blend::{HeightMap, LandMap};
 use base::elementary::{acos32, cos32, exp32, ln32, sin32};
 use base::number::{abs32, max, min, sqrt32};
 use base::tables::{ABMAP, ACHI, ANEW, BCHI, BNEW};
-use base::words::{TableWord, table_word};
+use base::words::table_word;
 
 // The sun's two latitudes in each month, `SUN(2,12)`.
 const SUN: [[f32; 2]; 12] = [
@@ -101,7 +101,8 @@ pub struct Merged {
 }
 
 // The ionosphere at one control point for one hour: of E, F1 and F2 the critical frequencies in
-// MHz, semithicknesses and heights of maximum in km.
+// MHz, semithicknesses and heights of maximum in km. Arrays, and not three of `Layer`: the
+// definition `layers_of` and the C interface have them so.
 #[derive(Clone, Copy)]
 pub struct LayerParams {
     pub fi: [f32; 3],
@@ -137,15 +138,11 @@ pub struct Ground(pub f32, pub f32);
 fn sun_of(month: u32) -> Sun
     ensures { result ≡ sun_of month }
 {
-    let none = Sun(Degrees(0.0 / 0.0), Degrees(0.0 / 0.0));
-    if month < 1 {
-        return none;
+    if month < 1 || month > 12 {
+        return Sun(Degrees(0.0 / 0.0), Degrees(0.0 / 0.0));
     }
-    if month > 12 {
-        return none;
-    }
-    let row = SUN[month as usize - 1];
-    Sun(Degrees(row[0]), Degrees(row[1]))
+    let [first, last] = SUN[month as usize - 1];
+    Sun(Degrees(first), Degrees(last))
 }
 
 // A number of a month file whose words were found finite.
@@ -153,12 +150,7 @@ fn number_at(file: &[u8], at: usize) -> f32
     requires { T (finite (float_at file.now at)) }
     ensures { result ≡ float_at file.now at }
 {
-    let w = table_word(file, at);
-    match w {
-        TableWord::Finite(x) => x,
-        // There is no such word.
-        TableWord::NotFinite => 0.0,
-    }
+    table_word(file, at).unwrap()
 }
 
 // A month file's number at `a` and, by the sunspot number, its number at `b`.
@@ -169,8 +161,8 @@ fn term(file: &[u8], a: usize, b: usize, ssn: f32) -> f32
     number_at(file, a) + number_at(file, b) * ssn
 }
 
-// What `layer_parameters` and `ground_constants` take of a month file, whose words were found finite,
-// at a sunspot number, with the month's row of the sun's table.
+// What `layer_parameters` and `ground_constants` take of a month file, whose words were found
+// finite, at a sunspot number, with the month's row of the sun's table.
 pub(crate) fn monthly_of(file: &[u8], month: u32, ssn: f32) -> Monthly
     requires { FiniteMonth file.now }
     ensures { result ≡ monthly_of file.now month ssn }
@@ -208,10 +200,8 @@ pub fn timvar_clck(gmt: f32, lon: Radians) -> f32
 fn ssp_of(sun: Sun, cenlat: Radians) -> f32
     ensures { result ≡ ssp_of sun cenlat }
 {
-    let sun0 = sun.0;
-    let sun1 = sun.1;
-    let s0 = sun0.to_radians();
-    let s1 = sun1.to_radians();
+    let s0 = sun.0.to_radians();
+    let s1 = sun.1.to_radians();
     let cendog = abs32(cenlat.0 - s0.0);
     let cencat = abs32(cenlat.0 - s1.0);
     if cendog - cencat > 0.0 { s0.0 } else { s1.0 }
@@ -309,12 +299,8 @@ fn rat_of(m: Monthly, hmym: &HeightMap, gmlat: Radians, zdeg: Degrees, clock: f3
     ensures { result ≡ rat_of m hmym.now gmlat zdeg clock }
 {
     let gm = Radians(abs32(gmlat.0)).to_degrees().0 - 45.0;
-    let mut zn = zdeg.0;
-    if clock - 12.0 < 0.0 {
-        zn = -zn;
-    }
-    zn = zn + 180.0;
-    let rat = noisy(hmym, m.ratio_alf, m.ratio_bet, true, gm, zn);
+    let zn = if clock - 12.0 < 0.0 { -zdeg.0 } else { zdeg.0 };
+    let rat = noisy(hmym, m.ratio_alf, m.ratio_bet, true, gm, zn + 180.0);
     if rat - 2.0 < 0.0 { 2.0 } else { rat }
 }
 
@@ -351,6 +337,8 @@ fn half_over(y: f32, rf: f32) -> f32
 fn twilight(f1: Layer, ffec: f32, zmax: f32, z: f32, hm: f32, rat: f32, fc: f32, fi2: f32) -> Merged
     ensures { result ≡ twilight_of f1 ffec zmax z hm rat fc fi2 }
 {
+    // The numbers are handed on one by one, here and below: the definitions `twilight_of`,
+    // `merged_of` and `retarded_of` take them so.
     let zn = zmax - DELZ;
     let hn = 165.0 + 0.6428 * zn;
     let yn = hn * (f1.yi / f1.hi);

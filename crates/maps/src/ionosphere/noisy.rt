@@ -1,7 +1,7 @@
 // NOISY: a two-variable Fourier map.
-ghost use Rattle.std.specs.Prelude.{◌≡◌, ◌<◌, ◌≤◌, slice_index_or};
+ghost use Rattle.std.specs.Prelude.{◌≡◌, ℕ, ◌<◌, ◌≤◌, slice_index_or};
 ghost use Rattle.std.specs.Float.{nan};
-ghost use Rattle.base.specs.Single.{◌⊕◌, ◌⊗◌};
+ghost use Rattle.base.specs.Single.{◌⊕◌, ◌⊖◌, ◌⊗◌};
 ghost use Rattle.base.specs.Elementary.{sin32_of, cos32_of};
 ghost use Rattle.maps.specs.Noisy.{in_plane, turn_of, sx_of, each, columns_of, zz_of, latitude_sum, noisy_of};
 
@@ -11,20 +11,46 @@ use base::elementary::{cos32, sin32};
 // One plane, its rows one after the other.
 pub type Plane = [f32; PLANE];
 
-// The sines of 1 to n times an angle, by the rule for the sum of two angles, from the sine and the
-// cosine of the angle.
-fn sines(s1: f32, c1: f32, n: usize) -> [f32; 15]
+// The sine and the cosine of an angle.
+#[derive(Clone, Copy)]
+struct Wave {
+    sine: f32,
+    cosine: f32,
+}
+
+impl Wave {
+    fn of(x: f32) -> Wave
+        ensures sine { result.sine ≡ sin32_of x }
+        ensures cosine { result.cosine ≡ cos32_of x }
+    {
+        Wave {
+            sine: sin32(x),
+            cosine: cos32(x),
+        }
+    }
+
+    // The wave of the sum of two angles.
+    fn plus(self, angle: Wave) -> Wave
+        ensures sine { result.sine ≡ self.sine ⊗ angle.cosine ⊕ self.cosine ⊗ angle.sine }
+        ensures cosine { result.cosine ≡ self.cosine ⊗ angle.cosine ⊖ self.sine ⊗ angle.sine }
+    {
+        Wave {
+            sine: self.sine * angle.cosine + self.cosine * angle.sine,
+            cosine: self.cosine * angle.cosine - self.sine * angle.sine,
+        }
+    }
+}
+
+// The sines of 1 to n times an angle, from its wave.
+fn sines(angle: Wave, n: usize) -> [f32; 15]
     requires { n ≤ 15 }
-    ensures { result ≡ sx_of s1 c1 n }
+    ensures { result ≡ sx_of angle.sine angle.cosine n }
 {
     let mut sx = [0.0f32; 15];
-    let mut s = s1;
-    let mut c = c1;
+    let mut v = angle;
     for k in 0..n {
-        sx[k] = s;
-        let t = s * c1 + c * s1;
-        c = c * c1 - s * s1;
-        s = t;
+        sx[k] = v.sine;
+        v = v.plus(angle);
     }
     sx
 }
@@ -40,7 +66,8 @@ fn add_row(zz: &mut [f32; 29], plane: &Plane, k: usize, x: f32, lm: usize)
     }
 }
 
-// Row 15, which no sine multiplies, added to the first lm columns.
+// Row 15, which no sine multiplies, added to the first lm columns. As a row times 1 it would cost a
+// multiplication for each column.
 fn add_last(zz: &mut [f32; 29], plane: &Plane, lm: usize)
     requires { lm ≤ 29 }
     ensures { zz.new ≡ each (λ j z. z ⊕ in_plane plane.now 15 j) zz.old lm }
@@ -66,37 +93,18 @@ fn columns<'a>(sx: &'a [f32; 15], plane: &'a Plane, ln: usize, lm: usize) -> [f3
 }
 
 // The first n columns, each times the sine of its multiple of an angle, summed.
-fn latitude_sum(zz: &[f32; 29], s1: f32, c1: f32, n: usize) -> f32
+fn latitude_sum(zz: &[f32; 29], angle: Wave, n: usize) -> f32
     requires { n ≤ 29 }
-    ensures { result ≡ latitude_sum (λ k. (turn_of s1 c1 k).sine) (λ k. slice_index_or zz.now k nan) n }
+    ensures { let sine = λ (k : ℕ). (turn_of angle.sine angle.cosine k).sine in
+        result ≡ latitude_sum sine (λ k. slice_index_or zz.now k nan) n }
 {
     let mut sum = 0.0f32;
-    let mut s = s1;
-    let mut c = c1;
+    let mut v = angle;
     for k in 0..n {
-        sum = sum + s * zz[k];
-        let t = s * c1 + c * s1;
-        c = c * c1 - s * s1;
-        s = t;
+        sum = sum + v.sine * zz[k];
+        v = v.plus(angle);
     }
     sum
-}
-
-// The sine and the cosine of an angle.
-#[derive(Clone, Copy)]
-struct Wave {
-    sine: f32,
-    cosine: f32,
-}
-
-fn wave_of(x: f32) -> Wave
-    ensures sine { result.sine ≡ sin32_of x }
-    ensures cosine { result.cosine ≡ cos32_of x }
-{
-    Wave {
-        sine: sin32(x),
-        cosine: cos32(x),
-    }
 }
 
 // A map of lm columns, each summed over ln sines of half the longitude, and they over sines of the
@@ -116,9 +124,8 @@ fn noisy_sum(
     ensures { let zz = zz_of (λ k. (turn_of half.sine half.cosine k).sine) plane.now ln in
         result ≡ latitude_sum (λ k. (turn_of angle.sine angle.cosine k).sine) zz lm ⊕ alf ⊕ bet ⊗ p }
 {
-    let sx = sines(half.sine, half.cosine, ln);
-    let zz = columns(&sx, plane, ln, lm);
-    latitude_sum(&zz, angle.sine, angle.cosine, lm) + alf + bet * p
+    let zz = columns(&sines(half, ln), plane, ln, lm);
+    latitude_sum(&zz, angle, lm) + alf + bet * p
 }
 
 // The value of a Fourier map at `xla` and `ceg`, in degrees; `alf` and `bet` are what the file has
@@ -126,9 +133,9 @@ fn noisy_sum(
 pub fn noisy(plane: &Plane, alf: f32, bet: f32, ratio_map: bool, xla: f32, ceg: f32) -> f32
     ensures { result ≡ noisy_of plane.now alf bet ratio_map xla ceg }
 {
-    let half = wave_of(0.0087266466 * ceg);
+    let half = Wave::of(0.0087266466 * ceg);
     let p = 0.01745329252 * (xla + 90.0);
-    let angle = wave_of(p);
+    let angle = Wave::of(p);
     if ratio_map {
         noisy_sum(15, 10, plane, alf, bet, p, half, angle)
     } else {

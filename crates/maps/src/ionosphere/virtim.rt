@@ -1,14 +1,13 @@
 // VIRTIM: the maps' coefficients at an hour.
 ghost use Rattle.std.specs.Prelude.{◌≡◌, ◌+◌, ◌-◌, ◌*◌, ◌<◌, ◌≤◌, slice_index};
-ghost use Rattle.base.specs.Index.{map_word};
 ghost use Rattle.base.specs.Blend.{IC};
-ghost use Rattle.maps.specs.Virtim.{GoodTable, StartsRule, hour_waves, wave_in, value_of, time_map_of, virtim_of};
+ghost use Rattle.maps.specs.Virtim.{StartsRule, hour_waves, wave_in, value_of, time_map_of, virtim_of};
 
+use crate::ionosphere::index::CheckedIndex;
 use crate::ionosphere::starts::{AB_ROWS, SERIES_STARTS, SeriesStarts};
 use base::angle::Degrees;
 use base::blend::SixMaps;
 use base::elementary::{cos32, sin32};
-use base::index::IndexTable;
 
 // `AB`, the coefficients of the six maps at an hour, one map after the other.
 pub type TimeMaps = [f32; AB_ROWS];
@@ -22,28 +21,6 @@ pub(crate) fn first_row(k: usize) -> usize
     ensures { result ≡ slice_index IC k - 1 }
 {
     IC[k] - 1
-}
-
-// A word as an index.
-fn wide(x: u32) -> usize
-    ensures { result ≡ x }
-{
-    x as usize
-}
-
-// A start as an index.
-fn wide_start(x: u16) -> usize
-    ensures { result ≡ x }
-{
-    x as usize
-}
-
-// The word j of the map k.
-pub(crate) fn word(index: &IndexTable, k: usize, j: usize) -> usize
-    requires { (k < 6) × (j < 10) }
-    ensures { result ≡ map_word index.now k j }
-{
-    wide(index[k * 10 + j])
 }
 
 // The cosines and sines of 1 to 8 times the hour's angle.
@@ -64,91 +41,73 @@ fn hour_waves(gmt: f32) -> Waves
     let mut s = [0.0f32; 8];
     let mut cosine = c0;
     let mut sine = s0;
-    let mut jb = 0usize;
-    while jb < 8 {
+    for jb in 0..8 {
         c[jb] = cosine;
         s[jb] = sine;
         let next = c0 * cosine - s0 * sine;
         sine = c0 * sine + s0 * cosine;
         cosine = next;
-        jb += 1;
     }
     Waves { c, s }
 }
 
-// The values of two series.
-#[derive(Clone, Copy)]
-struct TwoValues {
-    first: f32,
-    second: f32,
-}
-
 // Two rows' series at the hour: their means, which stand at a and b, and n harmonics of each. Two at
 // a time, so that each wave is read once for both.
-fn two_values(cof: &SixMaps, a: usize, b: usize, n: usize, c: &[f32; 8], s: &[f32; 8]) -> TwoValues
+fn two_values(cof: &SixMaps, a: usize, b: usize, n: usize, c: &[f32; 8], s: &[f32; 8]) -> (f32, f32)
     requires { (n ≤ 8) × (a + 2 * n < 2604) × (b + 2 * n < 2604) }
-    ensures first { result.first ≡ value_of (wave_in c.now s.now) cof.now a n }
-    ensures second { result.second ≡ value_of (wave_in c.now s.now) cof.now b n }
+    ensures first { result.0 ≡ value_of (wave_in c.now s.now) cof.now a n }
+    ensures second { result.1 ≡ value_of (wave_in c.now s.now) cof.now b n }
 {
     let mut first = cof[a];
     let mut second = cof[b];
-    let mut ka = 0usize;
-    while ka < n {
+    for ka in 0..n {
         let sine = s[ka];
         let cosine = c[ka];
         first = first + sine * cof[a + 2 * ka + 1] + cosine * cof[a + 2 * ka + 2];
         second = second + sine * cof[b + 2 * ka + 1] + cosine * cof[b + 2 * ka + 2];
-        ka += 1;
     }
-    TwoValues { first, second }
+    (first, second)
 }
 
 // The rows of the map k up to word 8, put into `AB`; the table says where the series of each starts.
 fn time_map(
     cof: &SixMaps,
-    index: &IndexTable,
+    index: CheckedIndex,
     starts: &SeriesStarts,
     k: usize,
     c: &[f32; 8],
     s: &[f32; 8],
     ab: &mut TimeMaps,
 )
-    requires { GoodTable index.now × StartsRule starts.now × (k < 6) }
+    requires { StartsRule starts.now × (k < 6) }
     ensures { let wave = wave_in c.now s.now in
-        ab.new ≡ time_map_of wave cof.now index.now k ab.old }
+        ab.new ≡ time_map_of wave cof.now index.entry.words.now k ab.old }
 {
-    let mut row = first_row(k);
-    let last = row + word(index, k, 8);
-    let n = word(index, k, 9);
-    while row < last {
-        let a = wide_start(starts[row]);
-        let b = wide_start(starts[row + 1]);
-        let two = two_values(cof, a, b, n, c, s);
-        ab[row] = two.first;
-        ab[row + 1] = two.second;
-        row += 2;
+    let first = first_row(k);
+    let rows = index.word(k, 8) + 1;
+    let n = index.word(k, 9);
+    for pair in 0..rows / 2 {
+        let row = first + 2 * pair;
+        let a = starts[row] as usize;
+        let b = starts[row + 1] as usize;
+        (ab[row], ab[row + 1]) = two_values(cof, a, b, n, c, s);
     }
     // The last of an odd number of rows, taken as both.
-    if row == last {
-        let a = wide_start(starts[row]);
-        let one = two_values(cof, a, a, n, c, s);
-        ab[row] = one.first;
+    if rows % 2 == 1 {
+        let last = first + rows - 1;
+        let a = starts[last] as usize;
+        (ab[last], _) = two_values(cof, a, a, n, c, s);
     }
 }
 
 // Every map's daily series, worked out at one hour of Greenwich mean time.
-pub(crate) fn virtim(cof: &SixMaps, index: &IndexTable, gmt: f32) -> TimeMaps
-    requires { GoodTable index.now }
-    ensures { result ≡ virtim_of cof.now index.now gmt }
+pub(crate) fn virtim(cof: &SixMaps, index: CheckedIndex, gmt: f32) -> TimeMaps
+    ensures { result ≡ virtim_of cof.now index.entry.words.now gmt }
 {
-    let w = hour_waves(gmt);
-    let c = w.c;
-    let s = w.s;
+    let Waves { c, s } = hour_waves(gmt);
     let mut ab = [0.0f32; AB_ROWS];
-    let mut k = 0usize;
-    while k < 6 {
+    for k in 0..6 {
         time_map(cof, index, &SERIES_STARTS, k, &c, &s, &mut ab);
-        k += 1;
     }
     ab
 }

@@ -1,12 +1,8 @@
 -- A buffer with its pairs written is the year file of the parts that lie in it: since parts cut from
 -- a list have the sizes asked for and lie in it one after the other. Assumes nothing.
-use borrow.Author.Tests.{le-leb, lt-leb}
-use mathlib.Core.Path.{◌≡◌, refl, sym, ap, ◌∙◌}
-use mathlib.Core.List.{List, [], ◌∷◌, ◌++◌, append_assoc, map}
-use Prim.Native.Nat.{ℕ, suc, ◌+◌, ◌<◌, ◌≤◌}
-use native.Mathlib.Omega.{arith}
-use lib.ListN.{length, take, drop, take-append-drop, length-append, length-drop}
-use lib.Seq.{length-take-le, take-append_seam, take_all, drop-drop}
+use Rattle.std.proofs.Common.{le-leb, ◌≡◌, refl, sym, ap, ◌∙◌, List, [], ◌∷◌, ◌++◌, append_assoc, map, ℕ, suc, ◌+◌, ◌<◌, ◌≤◌, arith, length, take, drop, take-append-drop, length-append, length-drop, length-take-le, take_all, drop-drop}
+use borrow.Author.Tests.{lt-leb}
+use lib.Seq.{take-append_seam}
 use Rattle.base.proofs.verdicts.Picks.{cond_true, cond_false}
 use Rattle.packing.specs.Pack.{pairs_of, together, packed, year_most, start_in, parts_of, sealed_file}
 use Rattle.packing.proofs.pairs.Starts.{start_end, start_least, length_pairs}

@@ -1,11 +1,6 @@
 -- Where parts start that lie one after the other, and how many bytes their pairs have: by going
 -- through the sizes. Assumes nothing.
-use mathlib.Core.Path.{◌≡◌, refl, sym, ap, ◌∙◌}
-use mathlib.Core.List.{List, [], ◌∷◌, map}
-use Prim.Native.Nat.{ℕ, zero, suc, ◌+◌, ◌*◌, ◌<◌, ◌≤◌}
-use native.Mathlib.Numerals.{add-one}
-use native.Mathlib.Omega.{arith}
-use lib.ListN.{length, get_or, length-append}
+use Rattle.std.proofs.Common.{fold, sum, add_assoc, add-zero, ◌≡◌, refl, sym, ap, ◌∙◌, List, [], ◌∷◌, map, ℕ, zero, suc, ◌+◌, ◌*◌, ◌<◌, ◌≤◌, add-one, arith, length, get_or, length-append}
 use Rattle.packing.specs.Pack.{pairs_of, start_in, together}
 
 pub start_next : (at : ℕ) (ns : List ℕ) (k : ℕ) → k < length ns → start_in at ns (suc k) ≡ start_in at ns k + get_or ns k 0
@@ -24,6 +19,19 @@ start_end at [] = omega arith
 start_end at (p ∷ ps) =
     let a = length-append p (together ps) in
     start_end (at + length p) ps ∙ omega arith
+
+-- behind the last part: the sum of the sizes, however it is added up
+fold_from : (at n : ℕ) (ns : List ℕ) → at + fold (λ a x. a + x) n ns ≡ fold (λ a x. a + x) (at + n) ns
+fold_from at n [] = refl
+fold_from at n (m ∷ ns) = fold_from at (n + m) ns ∙ ap (λ (a : ℕ). fold (λ a x. a + x) a ns) (sym (add_assoc at n m))
+
+start_fold : (at : ℕ) (ns : List ℕ) → start_in at ns (length ns) ≡ fold (λ a x. a + x) at ns
+unfolding start_in
+start_fold at [] = refl
+start_fold at (n ∷ ns) = start_fold (at + n) ns
+
+pub start_sum : (at : ℕ) (ns : List ℕ) → at + sum ns ≡ start_in at ns (length ns)
+start_sum at ns = fold_from at 0 ns ∙ ap (λ (a : ℕ). fold (λ a x. a + x) a ns) (add-zero at) ∙ sym (start_fold at ns)
 
 -- no part starts before the first, and none before an earlier one
 pub start_least : (at : ℕ) (ns : List ℕ) (k : ℕ) → at ≤ start_in at ns k

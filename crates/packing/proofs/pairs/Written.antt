@@ -1,12 +1,7 @@
 -- Pairs that are written word after word over the front of a buffer: by what one more pair is, and
 -- since a fill leaves what stands before it and behind it. Assumes nothing.
-use mathlib.Core.Path.{◌≡◌, refl, sym, ap, ◌∙◌}
-use mathlib.Core.List.{List, [], ◌∷◌, ◌++◌, append_assoc}
-use Prim.Native.Nat.{ℕ, zero, suc, ◌+◌, ◌*◌, ◌<◌, ◌≤◌}
-use native.Mathlib.Numerals.{add-one}
-use native.Mathlib.Omega.{arith}
-use lib.ListN.{length, get_or, take, drop, length-append, length-drop}
-use lib.Seq.{length-take-le, drop-drop}
+use Rattle.std.proofs.Common.{w32, ◌≡◌, refl, sym, ap, ◌∙◌, List, [], ◌∷◌, ◌++◌, append_assoc, ℕ, zero, suc, ◌+◌, ◌*◌, ◌/◌, ◌%◌, ◌^◌, ◌<◌, ◌≤◌, add-one, arith, length, get_or, take, drop, length-append, length-drop, take-append-drop, length-take-le, drop-drop}
+use Rattle.std.specs.Int.{to_le_bytes}
 use Rattle.base.specs.Fill.{fill, tabulate}
 use Rattle.base.specs.Words.{four_bytes}
 use Rattle.base.proofs.lists.Fills.{fill_run}
@@ -20,6 +15,23 @@ byte_of w k = get_or (four_bytes w) k 0
 -- the buffer l after the pairs of the first k parts are written
 abbrev pub begun : List ℕ → List ℕ → ℕ → List ℕ
 begun ns l k = pairs_of 112 (take k ns) ++ drop (8 * k) l
+
+-- a word's bytes as std gives them
+four_are : (w : ℕ) → w < 2 ^ 32 → to_le_bytes w32 w ≡ four_bytes w
+four_are w h =
+    let a : w / 256 % 256 ≡ w / 256 % 256 = refl in
+    let d : w / 16777216 % 256 ≡ w / 16777216 = omega arith in
+    λ i. w % 256 ∷ a i ∷ (w / 65536 % 256) ∷ d i ∷ []
+
+-- a word that is copied over four bytes of a buffer
+pub word_copied :
+    (w at : ℕ) (l xs : List ℕ) → w < 2 ^ 32 → at + 4 ≤ length l → xs ≡ to_le_bytes w32 w →
+    take at l ++ (xs ++ drop 4 (drop at l)) ≡ fill (byte_of w) at l 4
+unfolding tabulate
+word_copied w at l xs r h e =
+    ap (λ (x : List ℕ). take at l ++ (x ++ drop 4 (drop at l))) (e ∙ four_are w r)
+    ∙ sym (fill_run (byte_of w) at (take at l) (drop at l) 4 (length-take-le at l (omega arith)) (omega (arith, length-drop at l)))
+    ∙ ap (λ (x : List ℕ). fill (byte_of w) at x 4) (take-append-drop at l)
 
 -- a word behind what is written
 word_put :

@@ -1,6 +1,5 @@
 -- `part_check` is `part_check`, by its test and what its calls ensure.
-use borrow.Author.Tests.{lt-ltb, le-ltb}
-use mathlib.Core.Path.{sym, ◌∙◌}
+use Rattle.std.proofs.Common.{lt-ltb, le-ltb, sym, ◌∙◌}
 use Rattle.base.proofs.verdicts.Picks.{cond_true, cond_false}
 use Rattle.packing.specs.Pack.{part_check}
 use Rattle.packing.proofs.part_check.Goals as goal

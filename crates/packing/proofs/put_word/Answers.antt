@@ -1,31 +1,13 @@
--- `put_word` fills four bytes with the word's. The loop's invariant: the first k are filled.
-use borrow.Author.Rules.{rules}
-use mathlib.Core.Path.{◌≡◌, refl, sym, ap, ◌∙◌}
-use Prim.Native.Nat.{◌+◌}
-use native.Mathlib.Omega.{arith}
-use lib.ListN.{get_or, set}
-use Rattle.base.specs.Fill.{fill}
-use Rattle.base.proofs.lists.Fills.{fill_next}
-use Rattle.packing.proofs.pairs.Written.{byte_of}
+-- `put_word` copies the word's bytes over four of the buffer (`word_copied`).
+use Rattle.std.proofs.Common.{◌≡◌, ℕ, ◌+◌, ◌-◌, ◌++◌, take, drop, ap, ◌∙◌, arith}
+use Rattle.packing.proofs.pairs.Written.{word_copied}
 use Rattle.packing.proofs.put_word.Goals as goal
-
-pub loop-k-init : goal.loop-k-init
-unfolding fill
-loop-k-init c = (search rules, refl)
-
-pub loop-k-preserved : goal.loop-k-preserved
-loop-k-preserved c =
-    let a = c.args in
-    let l = c.loop-k in
-    let b = c.four_bytes-bytes.ensures in
-    let f = byte_of a.w in (
-      search rules,
-      (λ i. set (l.invariant.1 i) (a.at + l.k) (get_or (b i) l.k 0)) ∙ sym (fill_next f a.at a.out.now l.k),
-    )
 
 pub returns : goal.returns
 returns c =
     let a = c.args in
-    let l = c.loop-k in
-    let e : l.k ≡ 4 = omega arith in
-    l.invariant.1 ∙ ap (fill (byte_of a.w) a.at a.out.now) e
+    let l = a.out.now in
+    let xs = c.copy_from_slice.new.self in
+    let e : a.at + 4 - a.at ≡ 4 = omega arith in
+    ap (λ (n : ℕ). take a.at l ++ (xs ++ drop n (drop a.at l))) e
+    ∙ word_copied a.w a.at l xs c.ranges.w.fits (omega (arith, c.told-out)) (c.copy_from_slice.ensures.after ∙ c.to_le_bytes.ensures)

@@ -1,35 +1,28 @@
--- `size_of_year` is where a part behind the last would start. The loop's invariant: n is where the
--- part k starts, with room for k sizes of 2^32 - 1.
-use borrow.Author.Rules.{rules}
-use mathlib.Core.Path.{◌≡◌, refl, ap, ◌∙◌}
-use Prim.Native.Nat.{ℕ, ◌+◌}
-use native.Mathlib.Omega.{arith}
-use lib.ListN.{get_or}
+-- `size_of_year` is where a part behind the last would start: behind the directory and the sum of
+-- the sizes (`start_sum`).
+use Rattle.std.proofs.Common.{◌≡◌, ◌+◌, ◌≤◌, sum, ap, ◌∙◌, arith, rules}
+use Rattle.std.proofs.lemmas.List.Elements.{All-from_get_or}
+use Rattle.std.proofs.lemmas.List.Sums.{sum_by-le}
+use Rattle.std.proofs.iter.runs.Sources.{sums}
+use Rattle.std.proofs.iter.runs.Made.{chains}
 use Rattle.packing.specs.Pack.{start_in}
-use Rattle.packing.proofs.pairs.Starts.{start_more}
+use Rattle.packing.proofs.pairs.Starts.{start_sum}
+use Rattle.packing.proofs.size_of_year.Goals.{After-sum}
 use Rattle.packing.proofs.size_of_year.Goals as goal
 
-pub loop-k-init : goal.loop-k-init
-unfolding start_in
-loop-k-init c = (search rules, search rules, refl)
+total : (c : After-sum) → c.sum.result ≡ sum c.args.sizes.now
+total c = search (rules, chains)
 
-pub overflow_cast-n : goal.overflow_cast-n
-overflow_cast-n c = omega (arith, c.shared_slice_known-1.given c.loop-k.k)
+pub sum-requires-clause-fits : goal.sum-requires-clause-fits
+sum-requires-clause-fits c = search (rules, sums)
 
-pub overflow_add-n : goal.overflow_add-n
-overflow_add-n c = omega (arith, c.shared_slice_known-1.given c.loop-k.k)
-
-pub loop-k-preserved : goal.loop-k-preserved
-loop-k-preserved c =
+pub overflow_add-result : goal.overflow_add-result
+overflow_add-result c =
     let ns = c.args.sizes.now in
-    let l = c.loop-k in (
-      search rules,
-      omega (arith, c.shared_slice_known-1.given l.k),
-      ap (λ (n : ℕ). n + get_or ns l.k 0) l.invariant.2 ∙ start_more 112 ns l.k (omega arith),
-    )
+    let each = All-from_get_or (λ n. n ≤ 4294967295) ns 0 (λ i h. omega (arith, c.fits-sizes i)) in
+    omega (arith, total (goal.at.overflow_add-result c).After-sum, c.told-sizes, sum_by-le (λ n. n) 4294967295 ns each)
 
 pub returns : goal.returns
 returns c =
-    let l = c.loop-k in
-    let e : l.k ≡ 14 = omega arith in
-    l.invariant.2 ∙ ap (start_in 112 c.args.sizes.now) e
+    let ns = c.args.sizes.now in
+    ap (λ n. 112 + n) (total (goal.at.returns c).After-sum) ∙ start_sum 112 ns ∙ ap (start_in 112 ns) c.told-sizes

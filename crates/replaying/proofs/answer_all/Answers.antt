@@ -1,8 +1,6 @@
 -- `answer_all` leaves the worksheet that a run of the calls read so far leaves: each call adds
--- itself to the run. `turns` falls, and a call has at most 28 bytes, so `at` stays small.
-use borrow.Author.Rules.{rules}
-use mathlib.Core.List.{[], ◌∷◌, ◌++◌}
-use mathlib.Core.Path.{◌≡◌, refl, sym, ap, ◌∙◌}
+-- itself to the run, and has at most 28 bytes, so that `at` stays small.
+use Rattle.std.proofs.Common.{rules, ◌≡◌, refl, sym, ap, ◌∙◌, [], ◌∷◌, ◌++◌}
 use Rattle.worksheet.specs.declared.desks.Worksheet.{Worksheet}
 use Rattle.worksheet.specs.Showing.{Source}
 use Rattle.worksheet.specs.Journal.{Call, step, run}
@@ -16,18 +14,18 @@ one_more source w v c e h = (
   e ∙ ap (λ (z : Worksheet). (step source c z).sheet) h.1 ∙ sym (run_last source h.0 c w),
 )
 
-pub loop-turns-init : goal.loop-turns-init
+pub loop-turn-init : goal.loop-turn-init
 unfolding run
-loop-turns-init c = (search rules, ([], refl))
+loop-turn-init c = (search rules, ([], refl))
 
 pub returns-in-Bad : goal.returns-in-Bad
-returns-in-Bad c = c.loop-turns.invariant.1
+returns-in-Bad c = c.loop-turn.invariant.1
 
 pub returns-in-End : goal.returns-in-End
-returns-in-End c = c.loop-turns.invariant.1
+returns-in-End c = c.loop-turn.invariant.1
 
-pub loop-turns-preserved : goal.loop-turns-preserved
-loop-turns-preserved c = (search rules, one_more _ _ _ _ c.answer-w.ensures c.loop-turns.invariant.1)
+pub loop-turn-preserved : goal.loop-turn-preserved
+loop-turn-preserved c = (search rules, one_more _ _ _ _ c.answer-w.ensures c.loop-turn.invariant.1)
 
 pub returns : goal.returns
-returns c = c.loop-turns.invariant.1
+returns c = c.loop-turn.invariant.1

@@ -2,16 +2,9 @@
 -- a turn it is above 0 and at most 24. The sum is between -13 and 37, since rounding keeps order,
 -- and what an f32 has over 24 is not rounded away, since no f32 is finer than 2 ^ -149. Assumes
 -- nothing.
-use mathlib.Core.Path.{◌≡◌, refl, sym, subst, ◌∙◌}
-use mathlib.Core.Bool.{Bool, true, false, not, ◌&&◌, cond}
-use mathlib.Core.List.{List}
-use Prim.Native.Nat.{ℕ, zero, suc, ◌+◌, ◌*◌, ◌%◌, ◌^◌, ◌≤◌, ◌<◌}
-use native.Mathlib.Nat.{le_trans, le_of_eq, one-mul, add-mul, mul-le-mul_right}
-use native.Mathlib.Omega.{arith}
+use Rattle.std.proofs.Common.{◌≡◌, refl, sym, subst, ◌∙◌, Bool, true, false, not, ◌&&◌, cond, List, ℕ, zero, suc, ◌+◌, ◌*◌, ◌%◌, ◌^◌, ◌≤◌, ◌<◌, le_trans, le_of_eq, one-mul, add-mul, mul-le-mul_right, arith, T, ltb, eqb, leb, ltb→lt, leb→le, eqb→eq, lit<, lit≤, pos, negsuc, Float}
 use native.Mathlib.Decide.{dec_lt}
-use lib.Dec.{T, ltb, eqb, leb, ltb→lt, leb→le, eqb→eq, lit<, lit≤}
-use lib.IntN.{pos, negsuc}
-use lib.Ieee.{Float, nan, inf, fin, binary32, up, down, fits, round, neg, add, sub, mul, div, lt, le, is_nan}
+use lib.Ieee.{nan, inf, fin, binary32, up, down, fits, round, neg, add, sub, mul, div, lt, le, is_nan}
 use lib.Ieee.Fits.{and_l, and_r, add-fits}
 use lib.Ieee.Scale.{finite}
 use lib.Ieee.Positive.{den, den_pos}

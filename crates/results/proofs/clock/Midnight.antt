@@ -1,9 +1,8 @@
 -- '`timvar_clck` corrects once: 24 stays, 0 becomes 24' (document 01, Figures), of every hour and
 -- longitude whose sum is one of these: the correction is computed at 24, at +0 and at -0. Assumes
 -- nothing.
-use mathlib.Core.Path.{◌≡◌, refl, ap, ◌∙◌}
-use mathlib.Core.Bool.{cond}
-use lib.Ieee.{Float, round, neg, add, sub, lt, le}
+use Rattle.std.proofs.Common.{◌≡◌, refl, ap, ◌∙◌, cond, Float}
+use lib.Ieee.{round, neg, add, sub, lt, le}
 use Rattle.base.specs.declared.angle.Radians.{Radians}
 use Rattle.base.specs.Single.{◌⊕◌, ◌⊖◌, decimal, minus_decimal}
 use Rattle.maps.specs.Layers.{clock_of}

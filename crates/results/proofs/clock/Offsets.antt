@@ -2,15 +2,8 @@
 -- degrees either way the time after the shift is from -13 to 37. By the quotients' whole parts the
 -- offset is at most 13 hours either way: an f32 below 360 is so by 2 ^ -16 at least, which no
 -- rounding hides, so that both quotients reach a whole number together. Assumes nothing.
-use mathlib.Core.Path.{◌≡◌, refl, sym, ap, subst}
-use mathlib.Core.Logic.{◌⊎◌, inl, inr}
-use mathlib.Core.Bool.{Bool, true, false, ◌&&◌, cond}
-use Prim.Native.Nat.{ℕ, zero, suc, ◌+◌, ◌*◌, ◌%◌, ◌^◌, ◌≤◌, ◌<◌}
-use native.Mathlib.Nat.{zero-mul}
-use native.Mathlib.Omega.{arith}
-use lib.Dec.{T, ltb, eqb, leb, ltb→lt, lit<}
-use lib.IntN.{pos, negsuc}
-use lib.Ieee.{Float, nan, inf, fin, binary32, up, down, fits, round, neg, add, sub, mul, div, lt, le, of_int, to_signed}
+use Rattle.std.proofs.Common.{◌≡◌, refl, sym, ap, subst, ◌⊎◌, inl, inr, Bool, true, false, ◌&&◌, cond, ℕ, zero, suc, ◌+◌, ◌*◌, ◌%◌, ◌^◌, ◌≤◌, ◌<◌, zero-mul, arith, T, ltb, eqb, leb, ltb→lt, lit<, pos, negsuc, Float}
+use lib.Ieee.{nan, inf, fin, binary32, up, down, fits, round, neg, add, sub, mul, div, lt, le, of_int, to_signed}
 use lib.Ieee.Fits.{and_l, and_r, add-fits, down_pos}
 use lib.Ieee.Scale.{finite}
 use lib.Ieee.Positive.{den}

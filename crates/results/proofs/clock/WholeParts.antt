@@ -1,15 +1,9 @@
 -- A number's whole part, as a conversion to `i32` takes it, from what the number lies between.
 -- Assumes nothing.
-use mathlib.Core.Path.{◌≡◌, ap, ◌∙◌}
-use mathlib.Core.Logic.{◌⊎◌, inl, inr}
-use mathlib.Core.Bool.{true, false}
-use Prim.Native.Nat.{ℕ, zero, suc, ◌+◌, ◌-◌, ◌*◌, ◌/◌, ◌^◌, ◌≤◌, ◌<◌, min}
-use native.Mathlib.Nat.{add-mul, one-mul, zero-mul, suc-mul, min-eq_left, div-lt_iff_lt-mul, le-div_iff_mul-le}
-use native.Mathlib.Omega.{arith}
+use Rattle.std.proofs.Common.{◌≡◌, ap, ◌∙◌, ◌⊎◌, inl, inr, true, false, ℕ, zero, suc, ◌+◌, ◌-◌, ◌*◌, ◌/◌, ◌^◌, ◌≤◌, ◌<◌, min, add-mul, one-mul, zero-mul, suc-mul, div-lt_iff_lt-mul, le-div_iff_mul-le, arith, T, lit<, ℤ, pos, negsuc, neg_ℤ, Float}
+use native.Mathlib.Nat.{min-eq_left}
 use native.Mathlib.Decide.{dec_lt}
-use lib.Dec.{T, lit<}
-use lib.IntN.{ℤ, pos, negsuc, neg_ℤ}
-use lib.Ieee.{Float, nan, inf, fin, up, down, le, to_signed}
+use lib.Ieee.{nan, inf, fin, up, down, le, to_signed}
 use lib.Ieee.Fits.{down_pos}
 use lib.Ieee.Scale.{finite}
 use lib.Ieee.Positive.{den}

@@ -2,23 +2,15 @@
 -- degrees either way one turn of the loop is enough, and the answer is a time from 0 to 24 with a
 -- day of -1, 0 or 1. The time after the shift is from -13 to 37 (`Offsets`), so that the loop
 -- starts between -24 and 48. Assumes nothing.
-use mathlib.Core.Path.{◌≡◌, refl, sym, ap, subst, ◌∙◌}
-use mathlib.Core.Logic.{◌⊎◌, inl, inr}
-use mathlib.Core.Bool.{Bool, true, false, cond}
-use Prim.Native.Nat.{ℕ, zero, suc, ◌*◌, ◌≤◌}
-use native.Mathlib.Nat.{zero-mul}
-use native.Mathlib.Omega.{arith}
-use lib.Dec.{T, eqb, leb, leb→le, eqb→eq, lit<}
-use lib.IntN.{ℤ, pos, negsuc, ◌+ℤ◌}
-use lib.Ieee.{Float, nan, inf, fin, binary32, up, down, round, neg, add, sub, mul, div, lt, le, eq, of_int, to_signed}
+use Rattle.std.proofs.Common.{Err, Ok, ◌≡◌, refl, sym, ap, subst, ◌∙◌, ◌⊎◌, inl, inr, Bool, true, false, cond, ℕ, zero, suc, ◌*◌, ◌≤◌, zero-mul, arith, T, eqb, leb, leb→le, eqb→eq, lit<, ℤ, pos, negsuc, ◌+ℤ◌, Float}
+use lib.Ieee.{nan, inf, fin, binary32, up, down, round, neg, add, sub, mul, div, lt, le, eq, of_int, to_signed}
 use lib.Ieee.Fits.{and_l, and_r}
 use lib.Ieee.Order.{round_mono}
 use lib.Ieee.Scale.{finite}
 use Rattle.base.specs.declared.angle.Degrees.{Degrees}
 use Rattle.base.specs.declared.refusal.Refusal.{Refusal}
 use Rattle.base.specs.declared.refusal.Refusal.TheVariants.{Hour as BadHour, Longitude}
-use Rattle.base.specs.declared.refusal.Verdict.{Verdict}
-use Rattle.base.specs.declared.refusal.Verdict.TheVariants.{Accepted, Refused}
+use Rattle.base.specs.Refusal.{Verdict}
 use Rattle.base.specs.Ranges.{is_to, hour_check, longitude_check}
 use Rattle.base.specs.Refusal.{refuse_unless, ◌then◌, unless_refused}
 use Rattle.base.specs.Single.{◌⊕◌, ◌⊖◌, ◌⊗◌, ◌⊘◌, decimal, minus_decimal}
@@ -31,9 +23,6 @@ use Rattle.base.proofs.order.Intervals.{exactly, add_in, sub_in, mul_in, mul_abo
 use Rattle.maps.specs.declared.ionosphere.clocks.Direction.{Direction}
 use Rattle.maps.specs.declared.ionosphere.clocks.Direction.TheVariants.{ToLocal, ToUniversal}
 use Rattle.maps.specs.declared.ionosphere.clocks.Shifted.{Shifted}
-use Rattle.maps.specs.declared.ionosphere.clocks.Moved.TheVariants.{To, Refused as NotMoved}
-use Rattle.maps.specs.declared.ionosphere.clocks.Times.TheVariants.{Hours, Refused as NoTimes}
-use Rattle.maps.specs.declared.ionosphere.clocks.LocalTime.TheVariants.{At, Refused as NoLocalTime}
 use Rattle.maps.specs.Clocks.{theta_of, whole_of, after_shift, cngday_of, for_loop, wraps, cngtim_of, time_at, geotim_of, time_check, hours_check, moved_of, times_of, local_time_of}
 use Rattle.results.specs.AsInTheRust.{InDay, DayChange, yesterday, today, tomorrow, Settled, MovedInDay, TimesInDay, LocalInDay}
 use Rattle.results.proofs.clock.Clock.{lt_not_le, Hour, farthest, typed_longitude}
@@ -280,7 +269,7 @@ is_typed : (d : Degrees) → is_to (minus_decimal 180 0) (decimal 180 0) d.0 ≡
 unfolding decimal minus_decimal round
 is_typed d e = let t = subst T (sym e) tt in record { low = and_l (le (minus_decimal 180 0) d.0) (le d.0 half) t; high = and_r (le (minus_decimal 180 0) d.0) (le d.0 half) t }
 
-checked : (A : Verdict → Type 0) (time : Float) (d : Degrees) → (Hour time → Typed d → A Accepted) → ((why : Refusal) → A (Refused why)) → A (time_check time d)
+checked : (A : Verdict → Type 0) (time : Float) (d : Degrees) → (Hour time → Typed d → A (Ok tt)) → ((why : Refusal) → A (Err why)) → A (time_check time d)
 unfolding time_check hour_check longitude_check
 checked A time d f g = go (is_to (decimal 0 1) (decimal 24 0) time) (is_to (minus_decimal 180 0) (decimal 180 0) d.0) refl refl
   where
@@ -292,14 +281,14 @@ checked A time d f g = go (is_to (decimal 0 1) (decimal 24 0) time) (is_to (minu
 pub moved_in_day : (time : Float) (lon : Degrees) (isw : Direction) → MovedInDay (moved_of time lon isw)
 unfolding moved_of
 moved_in_day time lon isw =
-    checked (λ (v : Verdict). MovedInDay (unless_refused v (To (cngtim_of time lon isw)) NotMoved)) time lon
+    checked (λ (v : Verdict). MovedInDay (unless_refused v (Ok (cngtim_of time lon isw)) Err)) time lon
     (λ h b. let s = cngtim_settled time lon isw h (typed_near lon b) in (s.day, s.change))
     (λ why. tt)
 
 pub local_in_day : (gmt : Float) (lon : Degrees) → LocalInDay (local_time_of gmt lon)
 unfolding local_time_of
 local_in_day gmt lon =
-    checked (λ (v : Verdict). LocalInDay (unless_refused v (At (time_at gmt (radians_of lon) ToLocal)) NoLocalTime)) gmt lon
+    checked (λ (v : Verdict). LocalInDay (unless_refused v (Ok (time_at gmt (radians_of lon) ToLocal)) Err)) gmt lon
     (λ h b. time_in_day gmt lon ToLocal h b)
     (λ why. tt)
 
@@ -309,7 +298,7 @@ times_in_day hour local tlong rlong = go (leb hour 24) (is_to (minus_decimal 180
   where
     go :
         (a b c : Bool) → leb hour 24 ≡ a → is_to (minus_decimal 180 0) (decimal 180 0) tlong.0 ≡ b → is_to (minus_decimal 180 0) (decimal 180 0) rlong.0 ≡ c
-        → TimesInDay (unless_refused (refuse_unless a BadHour then refuse_unless b (Longitude 5) then refuse_unless c (Longitude 7)) (Hours (geotim_of hour local (radians_of tlong) (radians_of rlong))) NoTimes)
+        → TimesInDay (unless_refused (refuse_unless a BadHour then refuse_unless b (Longitude 5) then refuse_unless c (Longitude 7)) (Ok (geotim_of hour local (radians_of tlong) (radians_of rlong))) Err)
     go true true true p q r =
         let s = geotim_settled hour local tlong rlong (leb→le hour 24 (subst T (sym p) tt)) (is_typed tlong q) (is_typed rlong r) in
         (s.gmt, s.lmt_tx, s.gmtr)

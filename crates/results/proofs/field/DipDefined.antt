@@ -1,11 +1,7 @@
 -- The dip is never that of zero by zero: up is not zero, or the square under the root is not, since
 -- the field vanishes nowhere (`FieldNotZero`) and 1/64 squared is 2 ^ -12. Assumes nothing.
-use mathlib.Core.Path.{◌≡◌, refl, sym, subst}
-use mathlib.Core.Logic.{◌⊎◌, inl, inr}
-use mathlib.Core.Bool.{Bool, true, false, not}
-use lib.Dec.{T, T_not}
-use lib.IntN.{pos, negsuc}
-use lib.Ieee.{Float, nan, inf, fin, Format, binary32, round, neg, add, mul, lt, le}
+use Rattle.std.proofs.Common.{◌≡◌, refl, sym, subst, ◌⊎◌, inl, inr, Bool, true, false, not, T, T_not, pos, negsuc, Float}
+use lib.Ieee.{nan, inf, fin, Format, binary32, round, neg, add, mul, lt, le}
 use lib.Ieee.Scale.{finite}
 use Rattle.base.specs.Single.{◌⊕◌, ◌⊗◌, decimal}
 use Rattle.base.specs.Number.{negative, abs_of}

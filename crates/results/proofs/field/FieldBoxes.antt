@@ -1,15 +1,8 @@
 -- The field over intervals (`Strips`), by the closed forms of specs/Magnetic.antt: from what holds
 -- the sine c of the latitude and the sine and the cosine of the longitude, tables of what holds
 -- Legendre's functions and the waves, and from them what holds bv and bn. Assumes nothing.
-use mathlib.Core.Path.{◌≡◌, subst}
-use mathlib.Core.Bool.{Bool, true, false, cond}
-use mathlib.Core.List.{List, [], ◌∷◌}
-use Prim.Native.Nat.{ℕ, zero, suc, ◌+◌, ◌-◌}
-use native.Mathlib.Omega.{arith}
-use lib.Dec.{eqb, leb}
-use lib.IntN.{pos}
-use lib.ListN.{get_or}
-use lib.Ieee.{Float, nan, binary32, neg, of_int}
+use Rattle.std.proofs.Common.{◌≡◌, subst, Bool, true, false, cond, List, [], ◌∷◌, ℕ, zero, suc, ◌+◌, ◌-◌, arith, eqb, leb, pos, get_or, Float}
+use lib.Ieee.{nan, binary32, neg, of_int}
 use Rattle.base.specs.Single.{◌⊕◌, ◌⊖◌, ◌⊗◌, decimal}
 use Rattle.base.specs.Number.{sqrt_of}
 use Rattle.base.specs.Elementary.{sin32_of, cos32_of}

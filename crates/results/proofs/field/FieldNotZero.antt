@@ -2,16 +2,8 @@
 -- latitudes are cut into 19 bands and the longitudes into 16 sectors, and in each of the 304 boxes
 -- the interval of bv or that of bn (`FieldBoxes`), as computed, stays clear of zero. Assumes
 -- nothing.
-use mathlib.Core.Path.{◌≡◌}
-use mathlib.Core.Logic.{◌⊎◌, inl, inr}
-use mathlib.Core.Bool.{Bool, true, false, not, ◌&&◌, ◌||◌}
-use mathlib.Core.List.{List, [], ◌∷◌}
-use Prim.Native.Nat.{ℕ, zero, suc, ◌*◌, ◌≤◌}
-use native.Mathlib.Omega.{arith}
-use lib.Dec.{T}
-use lib.IntN.{pos, negsuc}
-use lib.ListN.{get_or}
-use lib.Ieee.{Float, fin, binary32, round, neg, add, sub, mul, div, le, is_nan, of_int, to_unsigned}
+use Rattle.std.proofs.Common.{◌≡◌, ◌⊎◌, inl, inr, Bool, true, false, not, ◌&&◌, ◌||◌, List, [], ◌∷◌, ℕ, zero, suc, ◌*◌, ◌≤◌, arith, T, pos, negsuc, get_or, Float}
+use lib.Ieee.{fin, binary32, round, neg, add, sub, mul, div, le, is_nan, of_int, to_unsigned}
 use lib.Ieee.Fits.{and_l, and_r}
 use lib.Ieee.Scale.{finite}
 use Rattle.base.specs.Single.{◌⊕◌, ◌⊖◌, ◌⊗◌, ◌⊘◌, decimal, minus_decimal}

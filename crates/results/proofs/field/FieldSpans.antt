@@ -1,12 +1,7 @@
 -- The field's expansion over intervals (`Spans`), step by step as `expansion_of`: what holds the
 -- sines, the cosines and s of a place gives what holds its field. Assumes nothing.
-use mathlib.Core.Bool.{Bool, true, false, cond}
-use mathlib.Core.List.{List, [], ◌∷◌}
-use Prim.Native.Nat.{ℕ, zero, suc, ◌+◌, ◌-◌, ◌*◌}
-use lib.Dec.{eqb}
-use lib.IntN.{pos}
-use lib.ListN.{get_or, set, replicate}
-use lib.Ieee.{Float, binary32, neg, of_int}
+use Rattle.std.proofs.Common.{Bool, true, false, cond, List, [], ◌∷◌, ℕ, zero, suc, ◌+◌, ◌-◌, ◌*◌, eqb, pos, get_or, set, replicate, Float}
+use lib.Ieee.{binary32, neg, of_int}
 use Rattle.base.specs.Single.{◌⊕◌, ◌⊖◌, ◌⊗◌, ◌⊘◌, decimal}
 use Rattle.base.specs.Elementary.{sin32_of, cos32_of}
 use Rattle.base.specs.declared.angle.Radians.{Radians}

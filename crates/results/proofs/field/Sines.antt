@@ -2,19 +2,10 @@
 -- 3 or 4 quarter turns, and less than 5/4 from them, since rounding keeps order. That near, the
 -- cosine's series has no zero, and the sine's only at zero itself. No f32 is within 2 ^ -48 of two
 -- quarter turns, which are an odd number of 2 ^ -48. Assumes nothing.
-use mathlib.Core.Path.{◌≡◌, refl, sym, ap, subst, ◌∙◌}
-use mathlib.Core.Logic.{◌⊎◌, inl, inr}
-use mathlib.Core.Bool.{Bool, true, false, not, ◌&&◌}
-use mathlib.Core.List.{[], ◌∷◌}
-use Prim.Native.Nat.{ℕ, zero, suc, ◌+◌, ◌-◌, ◌*◌, ◌%◌, ◌^◌, ◌≤◌, ◌<◌}
-use native.Mathlib.Nat.{mul_assoc, mul_comm, mul_left_comm, add-mul, mul-le-mul_right, mul-pos, zero-mul, pow-succ'}
-use native.Mathlib.Omega.{arith}
+use Rattle.std.proofs.Common.{◌≡◌, refl, sym, ap, subst, ◌∙◌, ◌⊎◌, inl, inr, Bool, true, false, not, ◌&&◌, [], ◌∷◌, ℕ, zero, suc, ◌+◌, ◌-◌, ◌*◌, ◌%◌, ◌^◌, ◌≤◌, ◌<◌, mul_assoc, mul_comm, mul_left_comm, add-mul, mul-le-mul_right, mul-pos, zero-mul, arith, T, T_not, ltb, leb, eqb, ltb→lt, lit<, ℤ, pos, negsuc, pow_pos, pow_mono, pow-add, le-ltb, Float}
+use native.Mathlib.Nat.{pow-succ'}
 use native.Mathlib.Decide.{dec_lt}
-use lib.Dec.{T, T_not, ltb, leb, eqb, ltb→lt, lit<}
-use lib.IntN.{ℤ, pos, negsuc}
-use lib.Pow.{pow_pos, pow_mono, pow-add}
-use borrow.Author.Tests.{le-ltb}
-use lib.Ieee.{Float, nan, inf, fin, Format, binary32, binary64, prec, emax, low, up, down, fits, round, neg, sum, add, sub, mul, le, is_nan, to_unsigned}
+use lib.Ieee.{nan, inf, fin, Format, binary32, binary64, prec, emax, low, up, down, fits, round, neg, sum, add, sub, mul, le, is_nan, to_unsigned}
 use lib.Ieee.Bits.{is_true}
 use lib.Ieee.Fits.{and_l, and_r, down_pos, add-fits}
 use lib.Ieee.Scale.{finite}

@@ -1,15 +1,9 @@
 -- Intervals that are quick to compute with: their ends are whole numbers of 2 ^ -18, below 64 in
 -- size. Such numbers are f32, so what lies between two of them is rounded to between them, and sums
 -- and products of ends are those of whole numbers. Assumes nothing.
-use mathlib.Core.Path.{◌≡◌, refl, sym, ap, subst, ◌∙◌}
-use mathlib.Core.Bool.{Bool, true, false, not, ◌&&◌, cond}
-use Prim.Native.Nat.{ℕ, ◌+◌, ◌-◌, ◌*◌, ◌/◌, ◌^◌, ◌≤◌, ◌<◌}
-use native.Mathlib.Nat.{mul_assoc, mul-one, lt_of_lt_of_le, zero-mul}
-use native.Mathlib.Omega.{arith}
-use lib.Dec.{T, ltb, leb, ltb→lt, nltb→le, leb→le, nleb→lt, lit<}
-use lib.IntN.{negsuc}
-use lib.Pow.{pow_pos, pow_mono, shl_lt}
-use lib.Ieee.{Float, nan, inf, fin, binary32, up, down, unlike, round, add, sub, mul, neg, le}
+use Rattle.std.proofs.Common.{◌≡◌, refl, sym, ap, subst, ◌∙◌, Bool, true, false, not, ◌&&◌, cond, ℕ, ◌+◌, ◌-◌, ◌*◌, ◌/◌, ◌^◌, ◌≤◌, ◌<◌, mul_assoc, mul-one, lt_of_lt_of_le, zero-mul, arith, T, ltb, leb, ltb→lt, nltb→le, leb→le, lit<, negsuc, pow_pos, pow_mono, shl_lt, Float}
+use lib.Dec.{nleb→lt}
+use lib.Ieee.{nan, inf, fin, binary32, up, down, unlike, round, add, sub, mul, neg, le}
 use lib.Ieee.Exact.{HasValue, round_exact}
 use lib.Ieee.Scale.{finite}
 use Rattle.base.specs.Number.{negative, abs_of}

@@ -1,12 +1,7 @@
 -- Document 01, Known points: the rows of the files and the blend, (a) to (c) and (g) to (i). The
 -- rows (b) and (c) follow from laws over all such files (`cut_short`, `last_wrong` of Marks).
 -- Assumes nothing.
-use mathlib.Core.Path.{◌≡◌, refl, sym, ap, ◌∙◌}
-use mathlib.Core.List.{List, [], ◌∷◌, ◌++◌, append-nil}
-use Prim.Native.Nat.{ℕ, ◌+◌}
-use native.Mathlib.Omega.{arith}
-use lib.Dec.{lit<, lit≤}
-use lib.ListN.{length, take, replicate}
+use Rattle.std.proofs.Common.{◌≡◌, refl, sym, ap, ◌∙◌, List, [], ◌∷◌, ◌++◌, append-nil, ℕ, ◌+◌, arith, lit<, lit≤, length, take, replicate}
 use lib.Ieee.{round, add, sub, mul, div}
 use Rattle.base.specs.Refusal.{verdict_report}
 use Rattle.base.specs.Single.{decimal}

@@ -2,19 +2,11 @@
 -- finite number, and refuse with 23 and a place exactly where that is the byte of the first that is
 -- none. No two checks of the files share a refusal, so a refusal tells which one refused and that
 -- those before it accepted. Assumes nothing.
-use mathlib.Core.Path.{◌≡◌, refl, sym, ap, ◌∙◌, subst}
-use mathlib.Core.Bool.{Bool, true, false, cond}
-use mathlib.Core.List.{List, [], ◌∷◌}
-use Prim.Native.Nat.{ℕ, zero, suc, ◌+◌, ◌-◌, ◌*◌, ◌≤◌, ◌<◌}
-use native.Mathlib.Omega.{arith}
-use lib.Dec.{T, leb, eqb}
-use lib.ListN.{length, get_or}
+use Rattle.std.proofs.Common.{Err, Ok, ◌≡◌, refl, sym, ap, ◌∙◌, subst, Bool, true, false, cond, List, [], ◌∷◌, ℕ, zero, suc, ◌+◌, ◌-◌, ◌*◌, ◌≤◌, ◌<◌, arith, T, leb, eqb, length, get_or, le-leb, leb-true}
 use lib.Ieee.Scale.{finite}
-use borrow.Author.Tests.{le-leb, leb-true}
 use Rattle.base.specs.declared.refusal.Refusal.{Refusal}
 use Rattle.base.specs.declared.refusal.Refusal.TheVariants.{Record, RecordWord, MonthWord, Index}
-use Rattle.base.specs.declared.refusal.Verdict.{Verdict}
-use Rattle.base.specs.declared.refusal.Verdict.TheVariants.{Accepted, Refused}
+use Rattle.base.specs.Refusal.{Verdict}
 use Rattle.base.specs.Refusal.{report_of, verdict_report, refuse_unless, ◌then◌}
 use Rattle.base.specs.Words.{float_at, FiniteRun}
 use Rattle.base.specs.MonthFile.{record_size, month_file_check}
@@ -22,7 +14,6 @@ use Rattle.base.specs.Tables.{Table, words_in, no_such_table, start_of, words_of
 use Rattle.base.specs.Index.{ikim_at, rows, harmonics, good_map, lowest_bad, index_check}
 use Rattle.base.specs.Finite.{words_check, record_words_check, float_tables, each_check, table_words_check, first_other}
 use Rattle.base.specs.Files.{file_check, files_check}
-use Rattle.listing.specs.Reason.{reason_row}
 use Rattle.results.specs.AcceptedFiles.{FileAnswer, taken, ended, wrong, RecordWordsGood, MonthWordsGood, FirstInRecord, RecordWordRefused, FirstInMonth, MonthWordRefused, FileWordRefused, IndexRefusedLast, FilesGood}
 use Rattle.base.proofs.verdicts.Refusals.{refused_not_accepted, then_both}
 use Rattle.base.proofs.layout.FirstWords.{by_first, two_runs, run_finite, finite_run, tables_finite, finite_tables, record_finite, finite_record}
@@ -54,15 +45,15 @@ module _ (s : List ℕ) where
   -- the byte is read off the refusal's place, so `why` must keep it there
   first_found :
       (why : ℕ → Refusal) → ((q : ℕ) → (report_of (why q)).1 ≡ q) → (at n p : ℕ) →
-      words_check why s at n ≡ Refused (why p) → First at n p
+      words_check why s at n ≡ Err (why p) → First at n p
   unfolding words_check
   first_found why keeps at zero p e = refused_not_accepted (sym e)
   first_found why keeps at (suc n) p e = go (finite (float_at s at)) refl (first_found why keeps (at + 4) n p) e
     where
       go :
           (b : Bool) → finite (float_at s at) ≡ b →
-          (words_check why s (at + 4) n ≡ Refused (why p) → First (at + 4) n p) →
-          cond b (words_check why s (at + 4) n) (Refused (why at)) ≡ Refused (why p) → First at (suc n) p
+          (words_check why s (at + 4) n ≡ Err (why p) → First (at + 4) n p) →
+          cond b (words_check why s (at + 4) n) (Err (why at)) ≡ Err (why p) → First at (suc n) p
       go true f more e =
           let m = more e in
           let w = m.word in
@@ -84,7 +75,7 @@ module _ (s : List ℕ) where
           }
 
   -- the words before it are a run that is accepted, and it is the first of the run behind them
-  first_refused : (why : ℕ → Refusal) (at n p : ℕ) → First at n p → words_check why s at n ≡ Refused (why p)
+  first_refused : (why : ℕ → Refusal) (at n p : ℕ) → First at n p → words_check why s at n ≡ Err (why p)
   unfolding words_check
   first_refused why at n p f =
       let w = f.word in
@@ -97,7 +88,7 @@ module _ (s : List ℕ) where
       ∙ ap (λ (q : ℕ). words_check why s q (suc m)) (sym f.place)
       ∙ stops (finite (float_at s p)) f.bad (words_check why s (p + 4) m)
     where
-      stops : (b : Bool) → (T b → ⊥) → (v : Verdict) → cond b v (Refused (why p)) ≡ Refused (why p)
+      stops : (b : Bool) → (T b → ⊥) → (v : Verdict) → cond b v (Err (why p)) ≡ Err (why p)
       stops true n v = absurd (n tt)
       stops false n v = refl
 
@@ -112,16 +103,16 @@ module _ (s : List ℕ) where
     earlier : (j : ℕ) → j < table → FiniteTable (get_or ts j no_such_table)
     first : First (get_or ts table no_such_table).from (words_in (get_or ts table no_such_table)) p
 
-  each_found : (ts : List Table) (p : ℕ) → each_check s ts ≡ Refused (MonthWord p) → FirstTable ts p
+  each_found : (ts : List Table) (p : ℕ) → each_check s ts ≡ Err (MonthWord p) → FirstTable ts p
   unfolding each_check
   each_found [] p e = refused_not_accepted (sym e)
   each_found (t ∷ ts) p e = go (words_check MonthWord s t.from (words_in t)) refl (each_found ts p) e
     where
       go :
           (v : Verdict) → words_check MonthWord s t.from (words_in t) ≡ v →
-          (each_check s ts ≡ Refused (MonthWord p) → FirstTable ts p) → (v then each_check s ts) ≡ Refused (MonthWord p) →
+          (each_check s ts ≡ Err (MonthWord p) → FirstTable ts p) → (v then each_check s ts) ≡ Err (MonthWord p) →
           FirstTable (t ∷ ts) p
-      go Accepted a more e =
+      go (Ok _) a more e =
           let m = more e in
           let k = m.table in
           let l = m.inside in
@@ -132,7 +123,7 @@ module _ (s : List ℕ) where
               FiniteTable (get_or (t ∷ ts) j no_such_table)
           all k r zero h = run_finite s MonthWord t.from (words_in t) a
           all k r (suc j) h = r j (omega arith)
-      go (Refused why) a more e =
+      go (Err why) a more e =
           record {
             table = 0;
             inside = omega arith;
@@ -142,7 +133,7 @@ module _ (s : List ℕ) where
 
   each_refused :
       (ts : List Table) (p k : ℕ) → k < length ts → ((j : ℕ) → j < k → FiniteTable (get_or ts j no_such_table)) →
-      First (get_or ts k no_such_table).from (words_in (get_or ts k no_such_table)) p → each_check s ts ≡ Refused (MonthWord p)
+      First (get_or ts k no_such_table).from (words_in (get_or ts k no_such_table)) p → each_check s ts ≡ Err (MonthWord p)
   unfolding each_check
   each_refused [] p k h r f = absurd (omega arith)
   each_refused (t ∷ ts) p zero h r f =
@@ -153,7 +144,7 @@ module _ (s : List ℕ) where
 
 -- ---- by record and by number
 
-record_first : (f2 : List ℕ) (p : ℕ) → record_words_check f2 1 ≡ Refused (RecordWord p) → FirstInRecord f2 p
+record_first : (f2 : List ℕ) (p : ℕ) → record_words_check f2 1 ≡ Err (RecordWord p) → FirstInRecord f2 p
 unfolding record_words_check
 record_first f2 p e =
     let f = first_found f2 RecordWord (λ q. refl) (start_of xf2cof) (words_of xf2cof) p e in
@@ -166,7 +157,7 @@ record_first f2 p e =
       before = λ i h. subst (λ (a : ℕ). T (finite (float_at f2 a))) (omega arith) (f.before i h);
     }
 
-first_record : (f2 : List ℕ) (p : ℕ) → FirstInRecord f2 p → record_words_check f2 1 ≡ Refused (RecordWord p)
+first_record : (f2 : List ℕ) (p : ℕ) → FirstInRecord f2 p → record_words_check f2 1 ≡ Err (RecordWord p)
 unfolding record_words_check
 first_record f2 p f =
     let q = f.place in
@@ -180,7 +171,7 @@ first_record f2 p f =
     })
 
 -- the table k of those of f32 has the number k + 2
-month_first : (month : List ℕ) (p : ℕ) → table_words_check month ≡ Refused (MonthWord p) → FirstInMonth month p
+month_first : (month : List ℕ) (p : ℕ) → table_words_check month ≡ Err (MonthWord p) → FirstInMonth month p
 unfolding table_words_check
 month_first month p e =
     let g = each_found month float_tables p e in
@@ -206,7 +197,7 @@ month_first month p e =
     by_number k r (suc zero) i l h m = absurd (omega arith)
     by_number k r (suc (suc j)) i l h m = r j (omega arith) i m
 
-first_month : (month : List ℕ) (p : ℕ) → FirstInMonth month p → table_words_check month ≡ Refused (MonthWord p)
+first_month : (month : List ℕ) (p : ℕ) → FirstInMonth month p → table_words_check month ≡ Err (MonthWord p)
 unfolding table_words_check
 first_month month p f =
     by_number f.table f.low f.high (λ t l h i m. f.earlier t i l h m)
@@ -214,7 +205,7 @@ first_month month p f =
   where
     by_number :
         (k : ℕ) → 2 ≤ k → k ≤ 20 → ((t : ℕ) → 2 ≤ t → t < k → FiniteRun month (start_of t) (words_of t)) →
-        First month (start_of k) (words_of k) p → each_check month float_tables ≡ Refused (MonthWord p)
+        First month (start_of k) (words_of k) p → each_check month float_tables ≡ Err (MonthWord p)
     by_number zero l h r g = absurd (omega arith)
     by_number (suc zero) l h r g = absurd (omega arith)
     by_number (suc (suc k)) l h r g =
@@ -224,8 +215,8 @@ first_month month p f =
 
 -- it accepts or refuses as `why` says of some place
 data Answers (why : ℕ → Refusal) : Verdict → Type 0 where
-  fine : Answers why Accepted
-  other : (p : ℕ) → Answers why (Refused (why p))
+  fine : Answers why (Ok tt)
+  other : (p : ℕ) → Answers why (Err (why p))
 
 test_answers : (why : ℕ → Refusal) (b : Bool) (p : ℕ) → Answers why (refuse_unless b (why p))
 test_answers why true p = fine
@@ -252,7 +243,7 @@ lowest_answers month (suc n) k =
   where
     go :
         (b : Bool) → Answers Index (lowest_bad month n (k + 1)) →
-        Answers Index (cond b (lowest_bad month n (k + 1)) (Refused (Index (k + 1))))
+        Answers Index (cond b (lowest_bad month n (k + 1)) (Err (Index (k + 1))))
     go true a = a
     go false a = other (k + 1)
 
@@ -270,54 +261,45 @@ index_answers month = lowest_answers month 6 0
 
 -- ---- the order of the checks
 
--- verdicts by a number of their own: of documents 01 and 02, 23 is that of two refusals
-abbrev kind : Verdict → ℕ
-kind Accepted = 0
-kind (Refused why) = suc (reason_row why)
-
 abbrev in_turn : Bool → Verdict → Verdict → Verdict → Verdict → Verdict
-in_turn b m v t x = cond b (m then v then t then x) (Refused Record)
-
--- the kinds differ
-apart : {A : Type 0} {v w : Verdict} → v ≡ w → (kind v ≡ kind w → ⊥) → A
-apart e n = absurd (n (ap kind e))
+in_turn b m v t x = cond b (m then v then t then x) (Err Record)
 
 module _ (p : ℕ) where
   -- refused by the record's words: the checks before them accept,
   record_turn :
       (b : Bool) {m v t x : Verdict} → FileAnswer m → Answers RecordWord v → Answers MonthWord t → Answers Index x →
-      in_turn b m v t x ≡ Refused (RecordWord p) → (b ≡ true) × (m ≡ Accepted) × (v ≡ Refused (RecordWord p))
-  record_turn false am av at ax e = apart e (λ q. omega arith)
-  record_turn true (ended a) av at ax e = apart e (λ q. omega arith)
-  record_turn true (wrong a) av at ax e = apart e (λ q. omega arith)
+      in_turn b m v t x ≡ Err (RecordWord p) → (b ≡ true) × (m ≡ Ok tt) × (v ≡ Err (RecordWord p))
+  record_turn false am av at ax e = cc
+  record_turn true (ended a) av at ax e = cc
+  record_turn true (wrong a) av at ax e = cc
   record_turn true taken (other a) at ax e = (refl, refl, e)
-  record_turn true taken fine (other a) ax e = apart e (λ q. omega arith)
-  record_turn true taken fine fine (other a) e = apart e (λ q. omega arith)
-  record_turn true taken fine fine fine e = apart e (λ q. omega arith)
+  record_turn true taken fine (other a) ax e = cc
+  record_turn true taken fine fine (other a) e = cc
+  record_turn true taken fine fine fine e = cc
 
   -- and by the month file's words the record's too
   month_turn :
       (b : Bool) {m v t x : Verdict} → FileAnswer m → Answers RecordWord v → Answers MonthWord t → Answers Index x →
-      in_turn b m v t x ≡ Refused (MonthWord p) →
-      (b ≡ true) × (m ≡ Accepted) × (v ≡ Accepted) × (t ≡ Refused (MonthWord p))
-  month_turn false am av at ax e = apart e (λ q. omega arith)
-  month_turn true (ended a) av at ax e = apart e (λ q. omega arith)
-  month_turn true (wrong a) av at ax e = apart e (λ q. omega arith)
-  month_turn true taken (other a) at ax e = apart e (λ q. omega arith)
+      in_turn b m v t x ≡ Err (MonthWord p) →
+      (b ≡ true) × (m ≡ Ok tt) × (v ≡ Ok tt) × (t ≡ Err (MonthWord p))
+  month_turn false am av at ax e = cc
+  month_turn true (ended a) av at ax e = cc
+  month_turn true (wrong a) av at ax e = cc
+  month_turn true taken (other a) at ax e = cc
   month_turn true taken fine (other a) ax e = (refl, refl, refl, e)
-  month_turn true taken fine fine (other a) e = apart e (λ q. omega arith)
-  month_turn true taken fine fine fine e = apart e (λ q. omega arith)
+  month_turn true taken fine fine (other a) e = cc
+  month_turn true taken fine fine fine e = cc
 
   -- and by the index table the month file's words too
   index_turn :
       (b : Bool) {m v t x : Verdict} → FileAnswer m → Answers RecordWord v → Answers MonthWord t → Answers Index x →
-      in_turn b m v t x ≡ Refused (Index p) →
-      (b ≡ true) × (m ≡ Accepted) × (v ≡ Accepted) × (t ≡ Accepted) × (x ≡ Refused (Index p))
-  index_turn false am av at ax e = apart e (λ q. omega arith)
-  index_turn true (ended a) av at ax e = apart e (λ q. omega arith)
-  index_turn true (wrong a) av at ax e = apart e (λ q. omega arith)
-  index_turn true taken (other a) at ax e = apart e (λ q. omega arith)
-  index_turn true taken fine (other a) ax e = apart e (λ q. omega arith)
+      in_turn b m v t x ≡ Err (Index p) →
+      (b ≡ true) × (m ≡ Ok tt) × (v ≡ Ok tt) × (t ≡ Ok tt) × (x ≡ Err (Index p))
+  index_turn false am av at ax e = cc
+  index_turn true (ended a) av at ax e = cc
+  index_turn true (wrong a) av at ax e = cc
+  index_turn true taken (other a) at ax e = cc
+  index_turn true taken fine (other a) ax e = cc
   index_turn true taken fine fine ax e = (refl, refl, refl, refl, e)
 
 -- what is said of the parts is put together again by a path through the checks in turn
@@ -359,7 +341,7 @@ file_word_refused answer month p = (
   λ e.
       let o = month_turn p true (answer month) fine (month_answers month) (index_answers month) e in
       record { walked = o.1; first = month_first month p o.3 },
-  λ d i. in_turn true (d.walked i) Accepted (first_month month p d.first i) (index_check month),
+  λ d i. in_turn true (d.walked i) (Ok tt) (first_month month p d.first i) (index_check month),
 )
 
 pub index_refused_last : ((s : List ℕ) → FileAnswer (month_file_check s)) → IndexRefusedLast

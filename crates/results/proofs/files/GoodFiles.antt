@@ -2,16 +2,9 @@
 -- 60 words whose six maps are good stands in an accepted month file (`made_accepted`), and one such
 -- table is written out, with ladders that climb. No byte is computed: the bytes before a word are
 -- counted. Assumes nothing.
-use mathlib.Core.Path.{◌≡◌, refl, sym, ap, ◌∙◌}
-use mathlib.Core.Bool.{Bool, true, ◌&&◌}
-use mathlib.Core.List.{List, [], ◌∷◌, ◌++◌, append_assoc, append-nil}
-use Prim.Native.Nat.{ℕ, zero, suc, ◌+◌, ◌*◌, ◌^◌, ◌≤◌, ◌<◌}
-use native.Mathlib.Omega.{arith}
-use lib.ListN.{length, get_or, drop, replicate, length-append, length-replicate}
-use lib.Dec.{T, ltb, ltb→lt, lit≤, lit<}
+use Rattle.std.proofs.Common.{Ok, ◌≡◌, refl, sym, ap, ◌∙◌, Bool, true, ◌&&◌, List, [], ◌∷◌, ◌++◌, append_assoc, append-nil, ℕ, zero, suc, ◌+◌, ◌*◌, ◌^◌, ◌≤◌, ◌<◌, arith, length, get_or, drop, replicate, length-append, T, ltb, ltb→lt, lit≤, lit<, le-leb}
+use lib.ListN.{length-replicate}
 use lib.Ieee.Fits.{and_l, and_r}
-use borrow.Author.Tests.{le-leb}
-use Rattle.base.specs.declared.refusal.Verdict.TheVariants.{Accepted}
 use Rattle.base.specs.Refusal.{◌then◌}
 use Rattle.base.specs.Number.{signed_of}
 use Rattle.base.specs.Words.{word_at, four_bytes}
@@ -66,7 +59,7 @@ module _ (table : List ℕ) (n : length table ≡ 60) where
         (let a = length-append (word_bytes table) (four_bytes 240) in let b = length_words table in omega arith),
   )
 
-  pub made_walks : month_file_check (file_with table) ≡ Accepted
+  pub made_walks : month_file_check (file_with table) ≡ Ok tt
   made_walks = (month_file_good (file_with table)).1 (record { whole = omega (arith, file_length); marks = file_marks })
 
   -- the words that are read are those of the table
@@ -77,13 +70,13 @@ module _ (table : List ℕ) (n : length table ≡ 60) where
       ∙ words_in_law _ (four_bytes 240) 4 table (four_bytes 240 ++ file_of (drop 1 sizes)) refl refl (k * 10 + j) (omega arith)
 
   module _ (good : (k : ℕ) → k < 6 → GoodIndex (map_word table k) (get_or rows k 0) (get_or harmonics k 0)) where
-    pub made_index : index_check (file_with table) ≡ Accepted
+    pub made_index : index_check (file_with table) ≡ Ok tt
     made_index =
         (index_good (file_with table)).1
         (λ k h. words_read (map_word table k) (map_word (index_of (file_with table)) k) (λ j q. table_read k j h (omega arith)) _ _ (good k h))
 
     -- a good table, in any file made of it, with any record that is long enough and of finite numbers
-    pub made_accepted : (f2 : List ℕ) → record_size ≤ length f2 → FiniteRecord f2 → files_check f2 (file_with table) ≡ Accepted
+    pub made_accepted : (f2 : List ℕ) → record_size ≤ length f2 → FiniteRecord f2 → files_check f2 (file_with table) ≡ Ok tt
     unfolding files_check
     made_accepted f2 h f =
         let words = finite_record f2 f in
@@ -142,16 +135,16 @@ table_good k h =
     good_known (map_word good_index_table k) (get_or rows k 0) (get_or harmonics k 0) l.some l.few l.waves
     (six (λ i. good_map (λ j. signed_of (map_word good_index_table i j)) (get_or rows i 0) (get_or harmonics i 0) ≡ true) refl refl refl refl refl refl k h)
 
-pub month_file_accepted : month_file_check good_month_file ≡ Accepted
+pub month_file_accepted : month_file_check good_month_file ≡ Ok tt
 month_file_accepted = made_walks good_index_table refl
 
-pub index_accepted : index_check good_month_file ≡ Accepted
+pub index_accepted : index_check good_month_file ≡ Ok tt
 index_accepted = made_index good_index_table refl table_good
 
-pub tables_accepted : table_words_check good_month_file ≡ Accepted
+pub tables_accepted : table_words_check good_month_file ≡ Ok tt
 tables_accepted = finite_tables good_month_file (month_finite good_index_table refl)
 
-pub files_accepted : files_check good_record good_month_file ≡ Accepted
+pub files_accepted : files_check good_record good_month_file ≡ Ok tt
 files_accepted =
     made_accepted good_index_table refl table_good good_record (omega (arith, length-replicate {A = ℕ} record_size 0))
     (record { words = zeros_finite record_size 1976 (lit≤ tt) })

@@ -1,19 +1,10 @@
 -- What the index check's answer says, both ways: it accepts exactly the tables whose six maps are
 -- good over their words (`index_good`), and refuses with 11 and a map exactly where that map is the
 -- lowest bad one (`index_refused`). Words past a ladder's end stay free. Assumes nothing.
-use mathlib.Core.Path.{◌≡◌, refl, sym, ap, ◌∙◌, subst}
-use mathlib.Core.Bool.{Bool, true, false, cond}
-use mathlib.Core.List.{List}
-use Prim.Native.Nat.{ℕ, zero, suc, ◌+◌, ◌-◌, ◌≤◌, ◌<◌}
-use native.Mathlib.Omega.{arith}
-use native.Mathlib.Numerals.{add-one}
+use Rattle.std.proofs.Common.{Err, Ok, ◌≡◌, refl, sym, ap, ◌∙◌, subst, Bool, true, false, cond, List, ℕ, zero, suc, ◌+◌, ◌-◌, ◌≤◌, ◌<◌, arith, add-one, ℤ, get_or, le-leb}
 use native.Mathlib.Decide.{ℕ_discrete}
-use lib.IntN.{ℤ}
-use lib.ListN.{get_or}
-use borrow.Author.Tests.{le-leb}
 use Rattle.base.specs.declared.refusal.Refusal.TheVariants.{Index}
-use Rattle.base.specs.declared.refusal.Verdict.{Verdict}
-use Rattle.base.specs.declared.refusal.Verdict.TheVariants.{Accepted, Refused}
+use Rattle.base.specs.Refusal.{Verdict}
 use Rattle.base.specs.Refusal.{verdict_report}
 use Rattle.base.specs.Index.{ikim_at, index_of, map_word, rows, harmonics, climbs, good_map, lowest_bad, index_check, Climbs, top, level, up, GoodIndex}
 use Rattle.results.specs.AcceptedFiles.{GoodWords, LowestBad}
@@ -78,7 +69,7 @@ module _ (month : List ℕ) where
       (next_map month k (gone_by k (omega arith) (λ i l. f i (omega arith))) (omega arith) refl (f k (omega arith)))
 
   -- it accepts exactly where the words of all six maps are good
-  pub index_good : (index_check month ≡ Accepted → (k : ℕ) → k < 6 → GoodWords month k) × (((k : ℕ) → k < 6 → GoodWords month k) → index_check month ≡ Accepted)
+  pub index_good : (index_check month ≡ Ok tt → (k : ℕ) → k < 6 → GoodWords month k) × (((k : ℕ) → k < 6 → GoodWords month k) → index_check month ≡ Ok tt)
   index_good = (
     λ e k h. good_index month e k h,
     λ f. no_map month 6 (gone_by 6 (omega arith) (λ i l. (map_good month i l).1 (f i l))) (omega arith),
@@ -91,14 +82,14 @@ module _ (month : List ℕ) where
     bad : good_at month (place - 1) ≡ false
     before : (i : ℕ) → k ≤ i → i < place - 1 → good_at month i ≡ true
 
-  found : (n k place : ℕ) → lowest_bad month n k ≡ Refused (Index place) → Found n k place
+  found : (n k place : ℕ) → lowest_bad month n k ≡ Err (Index place) → Found n k place
   unfolding lowest_bad
   found zero k place e = refused_not_accepted (sym e)
   found (suc n) k place e = go (good_at month k) refl (found n (k + 1) place) e
     where
       go :
-          (b : Bool) → good_at month k ≡ b → (lowest_bad month n (k + 1) ≡ Refused (Index place) → Found n (k + 1) place) →
-          cond b (lowest_bad month n (k + 1)) (Refused (Index (k + 1))) ≡ Refused (Index place) → Found (suc n) k place
+          (b : Bool) → good_at month k ≡ b → (lowest_bad month n (k + 1) ≡ Err (Index place) → Found n (k + 1) place) →
+          cond b (lowest_bad month n (k + 1)) (Err (Index (k + 1))) ≡ Err (Index place) → Found (suc n) k place
       go true g f e =
           let r = f e in
           record {
@@ -123,8 +114,8 @@ module _ (month : List ℕ) where
   -- '11, place the lowest bad map 1 to 6'
   pub index_refused :
       (place : ℕ) →
-      (index_check month ≡ Refused (Index place) → LowestBad month place)
-      × (LowestBad month place → index_check month ≡ Refused (Index place))
+      (index_check month ≡ Err (Index place) → LowestBad month place)
+      × (LowestBad month place → index_check month ≡ Err (Index place))
   unfolding index_check
   index_refused place = (
     λ e.
@@ -144,5 +135,5 @@ module _ (month : List ℕ) where
         bad_map month (place - 1)
         (gone_by (place - 1) (omega arith) (λ k m. (map_good month k (omega arith)).1 (b.before k m)))
         (omega arith) refl (bad_test (place - 1) (omega arith) b.bad)
-        ∙ ap (λ (n : ℕ). Refused (Index n)) q,
+        ∙ ap (λ (n : ℕ). Err (Index n)) q,
   )

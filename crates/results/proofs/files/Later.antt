@@ -1,20 +1,12 @@
 -- Files that agree in their first bytes are checked and read alike, whatever follows: every word
 -- that is asked for lies among those bytes. Assumes nothing.
-use mathlib.Core.Path.{◌≡◌, refl, sym, ap, ◌∙◌}
-use mathlib.Core.Bool.{Bool, true, cond, ◌&&◌}
-use mathlib.Core.List.{List, [], ◌∷◌, ◌++◌}
-use Prim.Native.Nat.{ℕ, zero, suc, ◌+◌, ◌-◌, ◌*◌, ◌/◌, ◌≤◌, ◌<◌}
-use native.Mathlib.Omega.{arith}
-use lib.Dec.{T, leb, eqb, leb→le, lit≤}
-use lib.IntN.{ℤ}
-use lib.ListN.{length, get_or, replicate, length-append, length-replicate}
-use lib.Ieee.{Float, binary32, of_bits}
+use Rattle.std.proofs.Common.{Err, ◌≡◌, refl, sym, ap, ◌∙◌, Bool, true, cond, ◌&&◌, List, [], ◌∷◌, ◌++◌, ℕ, zero, suc, ◌+◌, ◌-◌, ◌*◌, ◌/◌, ◌≤◌, ◌<◌, arith, T, leb, eqb, leb→le, lit≤, ℤ, length, get_or, replicate, length-append, Float, le-leb}
+use lib.ListN.{length-replicate}
+use lib.Ieee.{binary32, of_bits}
 use lib.Ieee.Fits.{and_l, and_r}
 use lib.Ieee.Scale.{finite}
-use borrow.Author.Tests.{le-leb}
 use Rattle.base.specs.declared.refusal.Refusal.{Refusal}
 use Rattle.base.specs.declared.refusal.Refusal.TheVariants.{Index, Marker, Ended, RecordWord, MonthWord}
-use Rattle.base.specs.declared.refusal.Verdict.TheVariants.{Refused}
 use Rattle.base.specs.declared.blend.Weights.{Weights}
 use Rattle.base.specs.Refusal.{◌then◌}
 use Rattle.base.specs.Number.{signed_of}
@@ -75,7 +67,7 @@ module _ (n : ℕ) (s t : List ℕ) (a : Alike n s t) where
       let l : leb (at + 4) (length s) ≡ leb (at + 4) (length t) = le-leb (at + 4) (length s) (omega arith) ∙ sym (le-leb (at + 4) (length t) (omega arith)) in
       let r = right_alike at f (omega arith) in
       let e = walk_alike (at + 4) fs (omega arith) in
-      λ i. cond (l i) (cond (r i) (e i) (Refused (Marker at))) (Refused (Ended at))
+      λ i. cond (l i) (cond (r i) (e i) (Err (Marker at))) (Err (Ended at))
 
   -- ---- the index table
 
@@ -104,7 +96,7 @@ module _ (n : ℕ) (s t : List ℕ) (a : Alike n s t) where
     lowest_alike (suc m) k h =
         let g = good_alike (ikim_at s k) (ikim_at t k) (get_or rows k 0) (get_or harmonics k 0) (λ j q. integer_alike (ikim_place k j) (omega arith)) in
         let e = lowest_alike m (k + 1) (omega arith) in
-        λ i. cond (g i) (e i) (Refused (Index (k + 1)))
+        λ i. cond (g i) (e i) (Err (Index (k + 1)))
 
     pub check_alike : index_check s ≡ index_check t
     unfolding index_check
@@ -122,7 +114,7 @@ module _ (n : ℕ) (s t : List ℕ) (a : Alike n s t) where
   words_alike why at (suc m) h =
       let f = ap finite (float_alike at (omega arith)) in
       let e = words_alike why (at + 4) m (omega arith) in
-      λ i. cond (f i) (e i) (Refused (why at))
+      λ i. cond (f i) (e i) (Err (why at))
 
   each_alike : (ts : List Table) → T (ends_by n ts) → each_check s ts ≡ each_check t ts
   unfolding each_check ends_by

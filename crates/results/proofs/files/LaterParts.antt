@@ -1,20 +1,10 @@
 -- Month record and Table look at no byte after those they need: files that agree in these have the
 -- same check, and the same bytes are handed back, whatever follows. Each file by itself too: the
 -- other one may then be any list at all. Assumes nothing.
-use mathlib.Core.Path.{◌≡◌, refl, sym, ap, ◌∙◌}
-use mathlib.Core.Bool.{Bool, cond}
-use mathlib.Core.List.{List}
-use Prim.Native.Nat.{ℕ, ◌+◌, ◌*◌, ◌≤◌}
-use native.Mathlib.Omega.{arith}
+use Rattle.std.proofs.Common.{Err, Ok, ◌≡◌, refl, sym, ap, ◌∙◌, Bool, cond, List, ℕ, ◌+◌, ◌*◌, ◌≤◌, arith, leb, length, take, drop, length-drop, length-take-le, get_or-take, get_or-drop, ext_get_or, Bor, le-leb}
 use native.Mathlib.Decide.{dec_lt}
-use lib.Dec.{leb}
-use lib.ListN.{length, take, drop, length-drop}
-use lib.Seq.{length-take-le, get_or-take, get_or-drop, ext_get_or}
-use denote.Ref.{Bor}
-use borrow.Author.Tests.{le-leb}
 use Rattle.base.specs.declared.refusal.Refusal.TheVariants.{Record, Table as NoTable}
-use Rattle.base.specs.declared.refusal.Verdict.{Verdict}
-use Rattle.base.specs.declared.refusal.Verdict.TheVariants.{Accepted, Refused}
+use Rattle.base.specs.Refusal.{Verdict}
 use Rattle.base.specs.Refusal.{refuse_unless, ◌then◌, is_accepted}
 use Rattle.base.specs.Ranges.{month_check}
 use Rattle.base.specs.MonthFile.{record_size, month_file_size, Part, empty_part, month_record_check, month_start, month_part, month_file_check}
@@ -65,12 +55,12 @@ module _ (s t : List ℕ) (m : ℕ) (a : Alike (m * record_size) s t) where
   month_bytes_later = go (month_record_check s m) refl
     where
       go : (v : Verdict) → v ≡ month_record_check s m → bytes_at (month_part s m) s ≡ bytes_at (month_part t m) t
-      go Accepted e =
+      go (Ok _) e =
           let l = (month_known s m (sym e)).low in
           ap (λ (p : Part). bytes_at p s) (month_part_law s m e refl)
           ∙ part_alike (m * record_size) s t a (record { from = month_start m; size = record_size }) (omega arith)
           ∙ sym (ap (λ (p : Part). bytes_at p t) (month_part_law t m (e ∙ month_check_later) refl))
-      go (Refused why) e =
+      go (Err why) e =
           ap (λ (p : Part). bytes_at p s) (month_none s m e refl) ∙ sym (ap (λ (p : Part). bytes_at p t) (month_none t m (e ∙ month_check_later) refl))
 
 -- ---- Table: what follows the record's 7,904 bytes, and the month file's 38,552
@@ -80,13 +70,13 @@ module _ (k : ℕ) where
   pub table_record_later : (f g s : List ℕ) → Alike record_size f g → table_check k f s ≡ table_check k g s
   unfolding table_check
   table_record_later f g s b =
-      ap (λ (c : Bool). cond (leb k 20) (cond c (month_file_check s) (Refused Record)) (Refused NoTable)) (enough record_size f g b record_size (omega arith))
+      ap (λ (c : Bool). cond (leb k 20) (cond c (month_file_check s) (Err Record)) (Err NoTable)) (enough record_size f g b record_size (omega arith))
 
   -- the month file alone, beside any record
   pub table_month_later : (f s t : List ℕ) → Alike month_file_size s t → table_check k f s ≡ table_check k f t
   unfolding table_check
   table_month_later f s t a =
-      ap (λ (v : Verdict). cond (leb k 20) (cond (leb record_size (length f)) v (Refused Record)) (Refused NoTable)) (file_alike s t a)
+      ap (λ (v : Verdict). cond (leb k 20) (cond (leb record_size (length f)) v (Err Record)) (Err NoTable)) (file_alike s t a)
 
   module _ (f g s t : Bor (List ℕ)) (b : Alike record_size f.now g.now) (a : Alike month_file_size s.now t.now) where
     pub table_check_later : table_check k f.now s.now ≡ table_check k g.now t.now
@@ -107,11 +97,11 @@ module _ (k : ℕ) where
     table_bytes_later = go (table_check k f.now s.now) refl
       where
         go : (v : Verdict) → v ≡ table_check k f.now s.now → bytes_at (table_part k f.now s.now) here ≡ bytes_at (table_part k g.now t.now) there
-        go (Refused why) e =
+        go (Err why) e =
             ap (λ (p : Part). bytes_at p here) (table_none k f.now s.now e refl)
             ∙ sym (ap (λ (p : Part). bytes_at p there) (table_none k g.now t.now (e ∙ table_check_later) refl))
-        go Accepted e =
-            let d : Accepted ≡ table_check k g.now t.now = e ∙ table_check_later in
+        go (Ok _) e =
+            let d : Ok tt ≡ table_check k g.now t.now = e ∙ table_check_later in
             let w = placed k (table_known k f.now s.now (sym e)).known in
             ap (λ (p : Part). bytes_at p here) (table_part_law k f.now s.now e refl)
             ∙ elim (dec_lt 0 k) [

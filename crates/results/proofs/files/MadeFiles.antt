@@ -1,11 +1,8 @@
 -- Files made of records' sizes, and that each marker stands where it is asked for: the bytes before
 -- it are counted, and none is computed. Assumes nothing.
-use mathlib.Core.Path.{◌≡◌, refl, ap, ◌∙◌}
-use mathlib.Core.List.{List, [], ◌∷◌, ◌++◌, append_assoc, append-nil}
-use Prim.Native.Nat.{ℕ, ◌+◌, ◌%◌}
-use native.Mathlib.Omega.{arith}
-use lib.ListN.{length, get_or, replicate, length-append, length-replicate}
-use lib.Seq.{get_or-append_seam, get_or-append-add}
+use Rattle.std.proofs.Common.{◌≡◌, refl, ap, ◌∙◌, List, [], ◌∷◌, ◌++◌, append_assoc, append-nil, ℕ, ◌+◌, ◌%◌, arith, length, get_or, replicate, length-append, get_or-append-add}
+use lib.ListN.{length-replicate}
+use lib.Seq.{get_or-append_seam}
 use Rattle.base.specs.Words.{word_at}
 use Rattle.base.specs.MonthFile.{Marked}
 pub use Rattle.base.specs.Words.{four_bytes}

@@ -1,15 +1,8 @@
 -- Month record as Table has it: 'it gives 0 and 0 exactly when nothing is refused', and the part
 -- handed back is 7,904 bytes inside the lent file. Assumes nothing.
-use mathlib.Core.Path.{◌≡◌, refl, ap, ◌∙◌}
-use mathlib.Core.List.{List}
-use Prim.Native.Nat.{ℕ, ◌+◌, ◌*◌, ◌≤◌}
-use native.Mathlib.Omega.{arith}
-use lib.Dec.{leb}
-use lib.ListN.{length}
-use borrow.Author.Tests.{le-leb}
+use Rattle.std.proofs.Common.{Ok, ◌≡◌, refl, ap, ◌∙◌, List, ℕ, ◌+◌, ◌*◌, ◌≤◌, arith, leb, length, le-leb}
 use Rattle.base.specs.declared.refusal.Refusal.TheVariants.{Month, Record}
-use Rattle.base.specs.declared.refusal.Verdict.{Verdict}
-use Rattle.base.specs.declared.refusal.Verdict.TheVariants.{Accepted}
+use Rattle.base.specs.Refusal.{Verdict}
 use Rattle.base.specs.Refusal.{verdict_report, refuse_unless, ◌then◌}
 use Rattle.base.specs.Ranges.{is_month, month_check}
 use Rattle.base.specs.MonthFile.{record_size, month_record_check, month_part}
@@ -19,10 +12,10 @@ use Rattle.base.proofs.layout.Records.{MonthThere, month_known, month_part_law}
 use Rattle.base.proofs.verdicts.Refusals.{accepted_by_number}
 
 module _ (s : List ℕ) (m : ℕ) where
-  pub month_there : MonthThere s m → month_record_check s m ≡ Accepted
+  pub month_there : MonthThere s m → month_record_check s m ≡ Ok tt
   unfolding month_record_check month_check
   month_there t =
-      let a : refuse_unless (is_month m) Month ≡ Accepted = cond_true _ _ (and_true (le-leb 1 m t.low) (le-leb m 12 t.high)) in
+      let a : refuse_unless (is_month m) Month ≡ Ok tt = cond_true _ _ (and_true (le-leb 1 m t.low) (le-leb m 12 t.high)) in
       ap (λ (v : Verdict). v then refuse_unless (leb (m * record_size) (length s)) Record) a
       ∙ cond_true _ _ (le-leb (m * record_size) (length s) t.room)
 
@@ -34,7 +27,7 @@ module _ (s : List ℕ) (m : ℕ) where
   )
 
   -- 'those 7,904 bytes .., a part of the lent file'
-  pub month_inside : month_record_check s m ≡ Accepted → ((month_part s m).size ≡ record_size) × ((month_part s m).from + (month_part s m).size ≤ length s)
+  pub month_inside : month_record_check s m ≡ Ok tt → ((month_part s m).size ≡ record_size) × ((month_part s m).from + (month_part s m).size ≤ length s)
   month_inside e =
       let t = month_known s m e in
       let l = t.low in

@@ -1,14 +1,9 @@
 -- Fourteen files put one after the other behind their directory are an accepted year, and each is
 -- handed back as it was put in: the bytes before a pair and before a part are counted, and none is
 -- computed. Assumes nothing.
-use mathlib.Core.Path.{◌≡◌, refl, sym, ap, ◌∙◌}
-use mathlib.Core.List.{List, [], ◌∷◌, ◌++◌, append_assoc, map}
-use Prim.Native.Nat.{ℕ, zero, suc, ◌+◌, ◌*◌, ◌<◌}
-use native.Mathlib.Numerals.{add-one}
-use native.Mathlib.Omega.{arith}
-use lib.ListN.{length, get_or, take, drop, length-append, length-map, get_or-map}
+use Rattle.std.proofs.Common.{Ok, ◌≡◌, refl, sym, ap, ◌∙◌, List, [], ◌∷◌, ◌++◌, append_assoc, map, ℕ, zero, suc, ◌+◌, ◌*◌, ◌<◌, add-one, arith, length, get_or, take, drop, length-append}
+use lib.ListN.{length-map, get_or-map}
 use lib.Seq.{take-append_seam, drop-append_seam}
-use Rattle.base.specs.declared.refusal.Verdict.TheVariants.{Accepted}
 use Rattle.base.specs.Words.{word_at, four_bytes}
 use Rattle.base.specs.Year.{directory_size, offset_at, length_at, end_at, year_check, pair_part, part_bytes}
 use Rattle.packing.specs.Pack.{pairs_of, start_in, together, packed}
@@ -104,7 +99,7 @@ module _ (ps : List (List ℕ)) (n : length ps ≡ 14) where
             omega (arith, e, z, long);
       }
 
-  pub packed_accepted : year_check (packed ps) ≡ Accepted
+  pub packed_accepted : year_check (packed ps) ≡ Ok tt
   unfolding s
   packed_accepted = (year_good s).1 good
 

@@ -1,11 +1,6 @@
 -- The tables stand packed in the nine records: one test that antt computes over the whole list,
 -- turned into the statement. Assumes nothing.
-use mathlib.Core.Path.{◌≡◌, refl}
-use mathlib.Core.Bool.{Bool, false}
-use mathlib.Core.List.{List, [], ◌∷◌}
-use Prim.Native.Nat.{ℕ, ◌+◌}
-use lib.Dec.{T, leb, eqb, leb→le, eqb→eq}
-use lib.ListN.{length}
+use Rattle.std.proofs.Common.{◌≡◌, refl, Bool, false, List, [], ◌∷◌, ℕ, ◌+◌, T, leb, eqb, leb→le, eqb→eq, length}
 use Rattle.base.specs.MonthFile.{record_size, month_file_size, sizes}
 use Rattle.base.specs.Tables.{Table, tables, tables_by_record, xf2cof, part_of, table_end, bytes_of, Packed, PackedRecords}
 use Rattle.base.proofs.lists.Entries.{both, both_left, both_right}

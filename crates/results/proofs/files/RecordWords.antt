@@ -1,16 +1,9 @@
 -- The words of a `.daw` file and those of its records: a record's are the file's own, from its start
 -- on, so that all are finite exactly where those of each record are. Assumes nothing.
-use mathlib.Core.Path.{◌≡◌, sym, ap, subst, ◌∙◌}
-use mathlib.Core.List.{List}
-use Prim.Native.Nat.{ℕ, ◌+◌, ◌-◌, ◌*◌, ◌/◌, ◌%◌, ◌≤◌, ◌<◌}
-use native.Mathlib.Omega.{arith}
-use lib.Dec.{T}
-use lib.ListN.{get_or, take, drop}
-use lib.Seq.{get_or-take, get_or-drop}
+use Rattle.std.proofs.Common.{Ok, ◌≡◌, sym, ap, subst, ◌∙◌, List, ℕ, ◌+◌, ◌-◌, ◌*◌, ◌/◌, ◌%◌, ◌≤◌, ◌<◌, arith, T, get_or, take, drop, get_or-take, get_or-drop}
 use lib.Ieee.{binary32, of_bits}
 use lib.Ieee.Scale.{finite}
 use Rattle.base.specs.declared.refusal.Refusal.TheVariants.{RecordWord}
-use Rattle.base.specs.declared.refusal.Verdict.TheVariants.{Accepted}
 use Rattle.base.specs.Words.{word_of, word_at, float_at}
 use Rattle.base.specs.MonthFile.{record_size, month_start}
 use Rattle.base.specs.Finite.{record_words_check}
@@ -43,14 +36,14 @@ module _ (daw : List ℕ) where
   unfolding float_at
   finite_in m at h = ap (λ (w : ℕ). finite (of_bits binary32 w)) (word_of_law m at h)
 
-  pub record_in : record_words_check daw 12 ≡ Accepted → (m : ℕ) → 1 ≤ m → m ≤ 12 → record_words_check (record_of m) 1 ≡ Accepted
+  pub record_in : record_words_check daw 12 ≡ Ok tt → (m : ℕ) → 1 ≤ m → m ≤ 12 → record_words_check (record_of m) 1 ≡ Ok tt
   unfolding record_words_check
   record_in e m low high = finite_run (record_of m) RecordWord 0 1976 (λ i h.
       let p : 0 + 4 * ((m - 1) * 1976 + i) ≡ month_start m + (0 + 4 * i) = omega arith in
       subst T (ap (λ (at : ℕ). finite (float_at daw at)) p ∙ sym (finite_in m (0 + 4 * i) (omega arith)))
       (run_finite daw RecordWord 0 23712 e ((m - 1) * 1976 + i) (omega arith)))
 
-  pub all_in : ((m : ℕ) → 1 ≤ m → m ≤ 12 → record_words_check (record_of m) 1 ≡ Accepted) → record_words_check daw 12 ≡ Accepted
+  pub all_in : ((m : ℕ) → 1 ≤ m → m ≤ 12 → record_words_check (record_of m) 1 ≡ Ok tt) → record_words_check daw 12 ≡ Ok tt
   unfolding record_words_check
   all_in each = finite_run daw RecordWord 0 23712 (λ i h.
       let m = i / 1976 + 1 in

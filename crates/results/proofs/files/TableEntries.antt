@@ -2,19 +2,11 @@
 -- lie inside their table, two of them in two places, and none of the table's words is left out. And
 -- the coefficients of the six maps, the words of `ikim` and what else is read are such entries. By
 -- rows of so many words each, one after the other. Assumes nothing.
-use mathlib.Core.Path.{◌≡◌, refl, sym, ap, ◌∙◌, subst}
-use mathlib.Core.Bool.{Bool, true, false, cond}
-use mathlib.Core.List.{List, []}
-use Prim.Native.Nat.{ℕ, ◌+◌, ◌-◌, ◌*◌, ◌/◌, ◌%◌, ◌≤◌, ◌<◌}
-use native.Mathlib.Nat.{zero-add, add_assoc, zero-mul, one-mul, mul-zero, mul_comm, add-mul, mul-le-mul_right, mod-lt, div-add-mod, div-lt_iff_lt-mul}
-use native.Mathlib.Omega.{arith}
+use Rattle.std.proofs.Common.{Ok, ◌≡◌, refl, sym, ap, ◌∙◌, subst, Bool, true, false, cond, List, [], ℕ, ◌+◌, ◌-◌, ◌*◌, ◌/◌, ◌%◌, ◌≤◌, ◌<◌, zero-add, add_assoc, zero-mul, one-mul, mul-zero, mul_comm, add-mul, mul-le-mul_right, mod-lt, div-lt_iff_lt-mul, arith, eqb, get_or, take, drop, get_or-take, get_or-drop, Float, Bor}
+use native.Mathlib.Nat.{div-add-mod}
 use native.Mathlib.Decide.{dec_lt}
-use lib.Dec.{eqb}
-use lib.ListN.{get_or, take, drop, get_or-map}
-use lib.Seq.{get_or-take, get_or-drop}
-use lib.Ieee.{Float, nan}
-use denote.Ref.{Bor}
-use Rattle.base.specs.declared.refusal.Verdict.TheVariants.{Accepted}
+use lib.ListN.{get_or-map}
+use lib.Ieee.{nan}
 use Rattle.base.specs.declared.blend.Weights.{Weights}
 use Rattle.base.specs.Words.{word_of, word_at, float_at}
 use Rattle.base.specs.Refusal.{is_accepted}
@@ -275,7 +267,7 @@ module _ (number i j k : ℕ) (e : HasEntry number i j k) where
 
   -- its entries are the words of the file that holds it
   pub table_entry :
-      (f m x : Bor (List ℕ)) → table_check number f.now m.now ≡ Accepted → IsPart (table_part number f.now m.now) (table_file number f m) x →
+      (f m x : Bor (List ℕ)) → table_check number f.now m.now ≡ Ok tt → IsPart (table_part number f.now m.now) (table_file number f m) x →
       word_at x.now (4 * entry_word number i j k) ≡ word_at (holding number f.now m.now) (entry_place number i j k)
   unfolding table_file
   table_entry f m x a p =

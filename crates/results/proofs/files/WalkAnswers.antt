@@ -1,18 +1,10 @@
 -- Which month files earn refusal 9 and which 10, and at which place, both ways: 'each refusal names
 -- the only inputs that earn it'. With `month_file_good` these are all the answers there are
 -- (`file_answers`). The walk is gone through record by record. Assumes nothing.
-use mathlib.Core.Path.{◌≡◌, refl, sym, ap, ◌∙◌, subst}
-use mathlib.Core.Bool.{Bool, true, false, cond}
-use mathlib.Core.List.{List, [], ◌∷◌}
-use Prim.Native.Nat.{ℕ, ◌+◌, ◌*◌, ◌/◌, ◌%◌, ◌≤◌, ◌<◌}
-use native.Mathlib.Omega.{arith}
+use Rattle.std.proofs.Common.{Err, ◌≡◌, refl, sym, ap, ◌∙◌, subst, Bool, true, false, cond, List, [], ◌∷◌, ℕ, ◌+◌, ◌*◌, ◌/◌, ◌%◌, ◌≤◌, ◌<◌, arith, leb, length, take, length-take-le, get_or-take}
 use native.Mathlib.Decide.{dec_le, ℕ_discrete}
-use lib.Dec.{leb}
-use lib.ListN.{length, take}
-use lib.Seq.{length-take-le, get_or-take}
 use Rattle.base.specs.declared.refusal.Refusal.TheVariants.{Ended, Marker}
-use Rattle.base.specs.declared.refusal.Verdict.{Verdict}
-use Rattle.base.specs.declared.refusal.Verdict.TheVariants.{Refused}
+use Rattle.base.specs.Refusal.{Verdict}
 use Rattle.base.specs.Refusal.{verdict_report}
 use Rattle.base.specs.Words.{word_of, word_at}
 use Rattle.base.specs.MonthFile.{month_file_size, sizes, Four, layout, is_right, walk, month_file_check, Marked, WellMarked}
@@ -25,7 +17,7 @@ use Rattle.results.proofs.files.Marks.{done}
 place : {v w : Verdict} → v ≡ w → (verdict_report v).1 ≡ (verdict_report w).1
 place e = ap (λ (v : Verdict). (verdict_report v).1) e
 
-ended_marker : {A : Type 0} (p q : ℕ) → Refused (Ended p) ≡ Refused (Marker q) → A
+ended_marker : {A : Type 0} (p q : ℕ) → (let v : Verdict = Err (Ended p) in v ≡ Err (Marker q)) → A
 ended_marker p q e = let x : ◌≡◌ {A = ℕ} 9 10 = ap (λ (v : Verdict). (verdict_report v).0) e in absurd (omega arith)
 
 -- ---- '10 at a wrong marker': the first one, where its four bytes are there
@@ -38,7 +30,7 @@ not_before s at (n ∷ ns) p (beyond o c r) = let h = not_before s (at + n + 8) 
 
 wrong_walk :
     (s : List ℕ) (at : ℕ) (ns : List ℕ) (p : ℕ) → Fours ns → at % 4 ≡ 0 → FirstWrong s at ns p → p + 4 ≤ length s →
-    walk s at (layout ns) ≡ Refused (Marker p)
+    walk s at (layout ns) ≡ Err (Marker p)
 wrong_walk s at [] p f m w l = elim w [ ]
 wrong_walk s at (n ∷ ns) p f m (opening d) l = bad_open s at n ns m f.0 (omega arith) l d
 wrong_walk s at (n ∷ ns) p f m (closing o d) l = bad_close s at n ns m f.0 (omega arith) (omega arith) o (omega arith) d
@@ -48,7 +40,7 @@ wrong_walk s at (n ∷ ns) p f m (beyond o c r) l =
     passed s at n ns m w (omega arith) (omega arith) o (omega arith) c ∙ wrong_walk s (at + n + 8) ns p f.1 (omega arith) r l
 
 wrong_met :
-    (s : List ℕ) (at : ℕ) (ns : List ℕ) (p : ℕ) → Fours ns → at % 4 ≡ 0 → at ≤ length s → walk s at (layout ns) ≡ Refused (Marker p) →
+    (s : List ℕ) (at : ℕ) (ns : List ℕ) (p : ℕ) → Fours ns → at % 4 ≡ 0 → at ≤ length s → walk s at (layout ns) ≡ Err (Marker p) →
     WrongMarker s at ns p
 wrong_met s at [] p f m h e = refused_not_accepted (sym e ∙ done s at)
 wrong_met s at (n ∷ ns) p f m h e = let w = f.0 in elim (dec_le (at + 4) (length s)) [
@@ -68,7 +60,7 @@ wrong_met s at (n ∷ ns) p f m h e = let w = f.0 in elim (dec_le (at + 4) (leng
   ]
 ]
 
-pub marker_refused : (s : List ℕ) (p : ℕ) → (month_file_check s ≡ Refused (Marker p) → WrongMarker s 0 sizes p) × (WrongMarker s 0 sizes p → month_file_check s ≡ Refused (Marker p))
+pub marker_refused : (s : List ℕ) (p : ℕ) → (month_file_check s ≡ Err (Marker p) → WrongMarker s 0 sizes p) × (WrongMarker s 0 sizes p → month_file_check s ≡ Err (Marker p))
 unfolding month_file_check
 marker_refused s p = (
   λ e. wrong_met s 0 sizes p fours refl (omega arith) e,
@@ -83,7 +75,7 @@ past s at [] h = tt
 past s at (n ∷ ns) h = (λ l. absurd (omega arith), λ l. absurd (omega arith), past s (at + n + 8) ns (omega arith))
 
 end_met :
-    (s : List ℕ) (at : ℕ) (ns : List ℕ) (p : ℕ) → Fours ns → at % 4 ≡ 0 → at ≤ length s → walk s at (layout ns) ≡ Refused (Ended p) →
+    (s : List ℕ) (at : ℕ) (ns : List ℕ) (p : ℕ) → Fours ns → at % 4 ≡ 0 → at ≤ length s → walk s at (layout ns) ≡ Err (Ended p) →
     EndsAt s at ns p
 end_met s at [] p f m h e = refused_not_accepted (sym e ∙ done s at)
 end_met s at (n ∷ ns) p f m h e = let w = f.0 in elim (dec_le (at + 4) (length s)) [
@@ -106,7 +98,7 @@ end_met s at (n ∷ ns) p f m h e = let w = f.0 in elim (dec_le (at + 4) (length
 
 end_walk :
     (s : List ℕ) (at : ℕ) (ns : List ℕ) → Fours ns → at % 4 ≡ 0 → at ≤ length s → length s < at + with_markers ns → RightSoFar s at ns →
-    walk s at (layout ns) ≡ Refused (Ended (length s / 4 * 4))
+    walk s at (layout ns) ≡ Err (Ended (length s / 4 * 4))
 end_walk s at [] f m h l r = absurd (omega arith)
 end_walk s at (n ∷ ns) f m h l r = let w = f.0 in elim (dec_le (at + 4) (length s)) [
   | no q ↦ no_open s at n ns m w h (omega arith)
@@ -116,11 +108,11 @@ end_walk s at (n ∷ ns) f m h l r = let w = f.0 in elim (dec_le (at + 4) (lengt
   ]
 ]
 
-pub ended_refused : (s : List ℕ) (p : ℕ) → (month_file_check s ≡ Refused (Ended p) → EndsAt s 0 sizes p) × (EndsAt s 0 sizes p → month_file_check s ≡ Refused (Ended p))
+pub ended_refused : (s : List ℕ) (p : ℕ) → (month_file_check s ≡ Err (Ended p) → EndsAt s 0 sizes p) × (EndsAt s 0 sizes p → month_file_check s ≡ Err (Ended p))
 unfolding month_file_check
 ended_refused s p = (
   λ e. end_met s 0 sizes p fours refl (omega arith) e,
-  λ x. end_walk s 0 sizes fours refl (omega arith) x.short x.right ∙ ap (λ (n : ℕ). Refused (Ended n)) (sym x.place),
+  λ x. end_walk s 0 sizes fours refl (omega arith) x.short x.right ∙ ap (λ (n : ℕ). Err (Ended n)) (sym x.place),
 )
 
 -- ---- a good file cut short, as in the known points (a) and (b)
@@ -144,7 +136,7 @@ module _ (s : List ℕ) (n : ℕ) (l : n ≤ length s) where
       let c = cut_length in
       (λ h. cut_word at (omega arith) ∙ k.0, λ h. cut_word (at + x + 4) (omega arith) ∙ k.1, cut_right (at + x + 8) ns k.2)
 
-pub cut_anywhere : (s : List ℕ) (n : ℕ) → WellMarked s → n < month_file_size → month_file_check (take n s) ≡ Refused (Ended (n / 4 * 4))
+pub cut_anywhere : (s : List ℕ) (n : ℕ) → WellMarked s → n < month_file_size → month_file_check (take n s) ≡ Err (Ended (n / 4 * 4))
 cut_anywhere s n w h =
     let l = w.whole in
     let c = cut_length s n (omega arith) in
@@ -158,7 +150,7 @@ unfolding walk
 walk_answers s at [] = taken
 walk_answers s at (f ∷ fs) = go (leb (at + 4) (length s)) (is_right s at f) (walk_answers s (at + 4) fs)
   where
-    go : (a b : Bool) → FileAnswer (walk s (at + 4) fs) → FileAnswer (cond a (cond b (walk s (at + 4) fs) (Refused (Marker at))) (Refused (Ended at)))
+    go : (a b : Bool) → FileAnswer (walk s (at + 4) fs) → FileAnswer (cond a (cond b (walk s (at + 4) fs) (Err (Marker at))) (Err (Ended at)))
     go true true r = r
     go true false r = wrong at
     go false b r = ended at

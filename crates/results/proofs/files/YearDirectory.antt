@@ -2,19 +2,10 @@
 -- lowest pair that breaks it: the check goes through the pairs in order, and each pair's test is its
 -- rule. Of an accepted one the parts lie within the file and do not overlap: their ends rise.
 -- Assumes nothing.
-use mathlib.Core.Path.{◌≡◌, refl, sym, ap, subst, ◌∙◌}
-use mathlib.Core.Bool.{Bool, true, false, cond, ◌&&◌, ◌||◌, true≢false}
-use mathlib.Core.List.{List}
-use mathlib.Core.Logic.{◌⊎◌, inl, inr}
-use Prim.Native.Nat.{ℕ, zero, suc, ◌+◌, ◌-◌, ◌*◌, ◌≤◌, ◌<◌}
-use native.Mathlib.Omega.{arith}
+use Rattle.std.proofs.Common.{Err, Ok, ◌≡◌, refl, sym, ap, subst, ◌∙◌, Bool, true, false, cond, ◌&&◌, ◌||◌, true≢false, List, ◌⊎◌, inl, inr, ℕ, zero, suc, ◌+◌, ◌-◌, ◌*◌, ◌≤◌, ◌<◌, arith, leb, ltb, length, le-leb, leb-true, leb-false, lt-ltb, ltb-true, ltb-false, ne_eqb}
 use native.Mathlib.Decide.{dec_lt}
-use lib.Dec.{leb, ltb}
-use lib.ListN.{length}
-use borrow.Author.Tests.{le-leb, leb-true, leb-false, lt-ltb, ltb-true, ltb-false, ne_eqb}
 use Rattle.base.specs.declared.refusal.Refusal.TheVariants.{Year}
-use Rattle.base.specs.declared.refusal.Verdict.{Verdict}
-use Rattle.base.specs.declared.refusal.Verdict.TheVariants.{Accepted, Refused}
+use Rattle.base.specs.Refusal.{Verdict}
 use Rattle.base.specs.Refusal.{verdict_report}
 use Rattle.base.specs.Year.{directory_size, offset_at, length_at, end_at, floor_at, is_there, is_after, is_within, keeps_rules, pairs_check, year_check, pair_part}
 use Rattle.base.proofs.verdicts.Picks.{cond_true, cond_false}
@@ -101,21 +92,21 @@ module _ (s : List ℕ) (k : ℕ) where
 -- ---- the check goes through the pairs in order
 
 module _ (s : List ℕ) where
-  all_kept : (k n : ℕ) → pairs_check s k n ≡ Accepted → (j : ℕ) → k ≤ j → j < k + n → keeps_rules s j ≡ true
+  all_kept : (k n : ℕ) → pairs_check s k n ≡ Ok tt → (j : ℕ) → k ≤ j → j < k + n → keeps_rules s j ≡ true
   unfolding pairs_check
   all_kept k zero e j a b = absurd (omega arith)
   all_kept k (suc n) e j a b = go (λ q. all_kept (k + 1) n q j) (keeps_rules s k) refl e
     where
       go :
-          (pairs_check s (k + 1) n ≡ Accepted → k + 1 ≤ j → j < k + 1 + n → keeps_rules s j ≡ true) →
-          (t : Bool) → keeps_rules s k ≡ t → cond t (pairs_check s (k + 1) n) (Refused (Year (k + 1))) ≡ Accepted → keeps_rules s j ≡ true
+          (pairs_check s (k + 1) n ≡ Ok tt → k + 1 ≤ j → j < k + 1 + n → keeps_rules s j ≡ true) →
+          (t : Bool) → keeps_rules s k ≡ t → cond t (pairs_check s (k + 1) n) (Err (Year (k + 1))) ≡ Ok tt → keeps_rules s j ≡ true
       go rest false p q = refused_not_accepted q
       go rest true p q = elim (dec_lt k j) [
         | yes h ↦ rest q (omega arith) (omega arith)
         | no h ↦ let same : j ≡ k = omega (arith, h) in ap (keeps_rules s) same ∙ p
       ]
 
-  none_broken : (k n : ℕ) → ((j : ℕ) → k ≤ j → j < k + n → keeps_rules s j ≡ true) → pairs_check s k n ≡ Accepted
+  none_broken : (k n : ℕ) → ((j : ℕ) → k ≤ j → j < k + n → keeps_rules s j ≡ true) → pairs_check s k n ≡ Ok tt
   unfolding pairs_check
   none_broken k zero h = refl
   none_broken k (suc n) h =
@@ -128,7 +119,7 @@ module _ (s : List ℕ) where
     fails : keeps_rules s q ≡ false
     before : (j : ℕ) → k ≤ j → j < q → keeps_rules s j ≡ true
 
-  refused_at : (k n p : ℕ) → pairs_check s k n ≡ Refused (Year p) → (q : ℕ) × ((p ≡ q + 1) × FirstBroken k n q)
+  refused_at : (k n p : ℕ) → pairs_check s k n ≡ Err (Year p) → (q : ℕ) × ((p ≡ q + 1) × FirstBroken k n q)
   unfolding pairs_check
   refused_at k zero p e = refused_not_accepted (sym e)
   refused_at k (suc n) p e = go (refused_at (k + 1) n p) (keeps_rules s k) refl e
@@ -154,8 +145,8 @@ module _ (s : List ℕ) where
       )
 
       go :
-          (pairs_check s (k + 1) n ≡ Refused (Year p) → (q : ℕ) × ((p ≡ q + 1) × FirstBroken (k + 1) n q)) →
-          (t : Bool) → keeps_rules s k ≡ t → cond t (pairs_check s (k + 1) n) (Refused (Year (k + 1))) ≡ Refused (Year p) → Found
+          (pairs_check s (k + 1) n ≡ Err (Year p) → (q : ℕ) × ((p ≡ q + 1) × FirstBroken (k + 1) n q)) →
+          (t : Bool) → keeps_rules s k ≡ t → cond t (pairs_check s (k + 1) n) (Err (Year (k + 1))) ≡ Err (Year p) → Found
       go rest true t q = further (rest q) t
       go rest false t q = (
         k,
@@ -165,7 +156,7 @@ module _ (s : List ℕ) where
         ),
       )
 
-  at_refused : (k n q : ℕ) → FirstBroken k n q → pairs_check s k n ≡ Refused (Year (q + 1))
+  at_refused : (k n q : ℕ) → FirstBroken k n q → pairs_check s k n ≡ Err (Year (q + 1))
   unfolding pairs_check
   at_refused k zero q f = let a = f.low in let b = f.high in absurd (omega arith)
   at_refused k (suc n) q f = elim (dec_lt k q) [
@@ -181,7 +172,7 @@ module _ (s : List ℕ) where
     | no h ↦
         let l = f.low in
         let same : k ≡ q = omega (arith, h, l) in
-        cond_false _ _ (ap (keeps_rules s) same ∙ f.fails) ∙ ap (λ (j : ℕ). Refused (Year (j + 1))) same
+        cond_false _ _ (ap (keeps_rules s) same ∙ f.fails) ∙ ap (λ (j : ℕ). Err (Year (j + 1))) same
   ]
 
 -- ---- accepted: the rule as document 02 has it
@@ -193,7 +184,7 @@ floor_next s k =
     cond_false _ _ (ne_eqb (k + 1) 0 (λ z. omega arith)) ∙ ap (end_at s) e
 
 module _ (s : List ℕ) where
-  good : year_check s ≡ Accepted → GoodYear s
+  good : year_check s ≡ Ok tt → GoodYear s
   unfolding year_check floor_at
   good e =
       let at : (k : ℕ) → k < 14 → Kept s k = λ k l. kept s k (all_kept s 0 14 e k (omega arith) (omega arith)) in
@@ -211,7 +202,7 @@ module _ (s : List ℕ) where
       go (inl l) = absurd (omega arith)
       go (inr l) = l
 
-  accepted : GoodYear s → year_check s ≡ Accepted
+  accepted : GoodYear s → year_check s ≡ Ok tt
   unfolding year_check floor_at
   accepted g = none_broken s 0 14 (λ k a b. keeps s k (record { there = there k b; after = after k b; within = within k b }))
     where
@@ -232,13 +223,13 @@ module _ (s : List ℕ) where
         | no h ↦ let e : 13 ≡ k = omega (arith, h, b) in inr (subst (λ (j : ℕ). end_at s j ≤ length s) e g.last)
       ]
 
-pub year_good : (s : List ℕ) → (year_check s ≡ Accepted → GoodYear s) × (GoodYear s → year_check s ≡ Accepted)
+pub year_good : (s : List ℕ) → (year_check s ≡ Ok tt → GoodYear s) × (GoodYear s → year_check s ≡ Ok tt)
 year_good s = (good s, accepted s)
 
 -- ---- refused: the lowest broken pair
 
 module _ (s : List ℕ) (p : ℕ) where
-  lowest : year_check s ≡ Refused (Year p) → LowestBroken s p
+  lowest : year_check s ≡ Err (Year p) → LowestBroken s p
   unfolding year_check
   lowest e = go (refused_at s 0 14 p e)
     where
@@ -254,7 +245,7 @@ module _ (s : List ℕ) (p : ℕ) where
                 unkept s (j - 1) (kept s (j - 1) (f.before (j - 1) (omega arith) (omega arith))) (subst (BrokenPair s) (sym i) x);
           }
 
-  refused : LowestBroken s p → year_check s ≡ Refused (Year p)
+  refused : LowestBroken s p → year_check s ≡ Err (Year p)
   unfolding year_check
   refused h =
       let a = h.low in
@@ -267,7 +258,7 @@ module _ (s : List ℕ) (p : ℕ) where
         fails = is_false (keeps_rules s (p - 1)) refl;
         before = λ j c d. is_true j (omega arith) (keeps_rules s j) refl;
       })
-      ∙ ap (λ (j : ℕ). Refused (Year j)) e
+      ∙ ap (λ (j : ℕ). Err (Year j)) e
     where
       is_false : (t : Bool) → keeps_rules s (p - 1) ≡ t → keeps_rules s (p - 1) ≡ false
       is_false false e = e
@@ -280,7 +271,7 @@ module _ (s : List ℕ) (p : ℕ) where
       is_true j l true e = e
       is_true j l false e = let b = h.high in absurd (h.before (j + 1) (omega arith) l (breaks s j (omega arith) e))
 
-pub year_refused : (s : List ℕ) (p : ℕ) → (year_check s ≡ Refused (Year p) → LowestBroken s p) × (LowestBroken s p → year_check s ≡ Refused (Year p))
+pub year_refused : (s : List ℕ) (p : ℕ) → (year_check s ≡ Err (Year p) → LowestBroken s p) × (LowestBroken s p → year_check s ≡ Err (Year p))
 year_refused s p = (lowest s p, refused s p)
 
 answers : (s : List ℕ) (k n : ℕ) → YearAnswer (pairs_check s k n)
@@ -288,7 +279,7 @@ unfolding pairs_check
 answers s k zero = taken
 answers s k (suc n) = go (answers s (k + 1) n) (keeps_rules s k)
   where
-    go : YearAnswer (pairs_check s (k + 1) n) → (t : Bool) → YearAnswer (cond t (pairs_check s (k + 1) n) (Refused (Year (k + 1))))
+    go : YearAnswer (pairs_check s (k + 1) n) → (t : Bool) → YearAnswer (cond t (pairs_check s (k + 1) n) (Err (Year (k + 1))))
     go rest true = rest
     go rest false = broken (k + 1)
 
@@ -298,7 +289,7 @@ year_answers s = answers s 0 14
 
 -- ---- the parts of an accepted year
 
-module _ (s : List ℕ) (e : year_check s ≡ Accepted) where
+module _ (s : List ℕ) (e : year_check s ≡ Ok tt) where
   g : GoodYear s
   g = good s e
 

@@ -1,13 +1,8 @@
 -- Month files made of an index table, and records of zeros: every word of their tables is zero, and
 -- so a finite number, since each table lies in the body of a record, and those are zeros. Assumes
 -- nothing.
-use mathlib.Core.Path.{◌≡◌, refl, sym, ap, subst, ◌∙◌}
-use mathlib.Core.Bool.{Bool, true, false, ◌&&◌, ◌||◌, cond}
-use mathlib.Core.List.{List, [], ◌∷◌, ◌++◌, append_assoc, append-nil}
-use Prim.Native.Nat.{ℕ, ◌+◌, ◌-◌, ◌*◌, ◌≤◌, ◌<◌}
-use native.Mathlib.Omega.{arith}
+use Rattle.std.proofs.Common.{◌≡◌, refl, sym, ap, subst, ◌∙◌, Bool, true, false, ◌&&◌, ◌||◌, cond, List, [], ◌∷◌, ◌++◌, append_assoc, append-nil, ℕ, ◌+◌, ◌-◌, ◌*◌, ◌≤◌, ◌<◌, arith, T, leb, leb→le, le→leb, get_or-append-add}
 use native.Mathlib.Decide.{dec_lt}
-use lib.Dec.{T, leb, leb→le, le→leb}
 use lib.ListN.{
   length,
   get_or,
@@ -19,7 +14,6 @@ use lib.ListN.{
   get_or-append,
   get_or-eq_default,
 }
-use lib.Seq.{get_or-append-add}
 use lib.Ieee.{binary32, of_bits}
 use lib.Ieee.Fits.{and_l, and_r}
 use lib.Ieee.Scale.{finite}

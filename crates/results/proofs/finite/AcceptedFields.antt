@@ -1,12 +1,8 @@
 -- Inputs that the worksheet accepts have every field in range, each by the check of its own: the
 -- 15 fields' check is one after the other. Assumes nothing.
-use mathlib.Core.Path.{◌≡◌, sym, subst}
-use Prim.Native.Nat.{ℕ}
-use lib.Dec.{T}
-use lib.Ieee.{Float}
+use Rattle.std.proofs.Common.{Ok, ◌≡◌, sym, subst, ℕ, T, Float}
 use Rattle.base.specs.declared.angle.Degrees.{Degrees}
 use Rattle.base.specs.declared.refusal.Refusal.TheVariants.{Month, Hour, Latitude, Longitude, Sunspot, Factor}
-use Rattle.base.specs.declared.refusal.Verdict.TheVariants.{Accepted}
 use Rattle.base.specs.Refusal.{◌then◌}
 use Rattle.base.specs.Single.{decimal, minus_decimal}
 use Rattle.base.specs.Ranges.{is_to, is_month, month_check, hour_check, latitude_check, longitude_check, model_check}
@@ -26,7 +22,7 @@ use Rattle.worksheet.specs.Inputs.{
 use Rattle.results.specs.FiniteOrNot.{PlaceInRange, RouteInRange, FieldsInRange}
 
 place_in_law :
-    (m n : ℕ) (lat lon : Degrees) → latitude_check m lat ≡ Accepted → longitude_check n lon ≡ Accepted →
+    (m n : ℕ) (lat lon : Degrees) → latitude_check m lat ≡ Ok tt → longitude_check n lon ≡ Ok tt →
     PlaceInRange lat lon
 unfolding latitude_check longitude_check
 place_in_law m n lat lon h k = record {
@@ -34,11 +30,11 @@ place_in_law m n lat lon h k = record {
   longitude = subst T (sym (passed (is_to (minus_decimal 180 0) (decimal 180 0) lon.0) (Longitude n) k)) tt;
 }
 
-factor_in : (n : ℕ) (x : Float) → factor_check n x ≡ Accepted → T (is_to (decimal 125 3) (decimal 8 0) x)
+factor_in : (n : ℕ) (x : Float) → factor_check n x ≡ Ok tt → T (is_to (decimal 125 3) (decimal 8 0) x)
 unfolding factor_check
 factor_in n x h = subst T (sym (passed (is_to (decimal 125 3) (decimal 8 0) x) (Factor n) h)) tt
 
-ends_in : (r : Route) → route_check r ≡ Accepted → PlaceInRange r.tlat r.tlong × PlaceInRange r.rlat r.rlong
+ends_in : (r : Route) → route_check r ≡ Ok tt → PlaceInRange r.tlat r.tlong × PlaceInRange r.rlat r.rlong
 unfolding route_check
 ends_in r h =
     let flag = flag_check r.long_path in
@@ -51,14 +47,14 @@ ends_in r h =
     let d = then_both rlong flag c.1 in
     (place_in_law 4 5 r.tlat r.tlong a.0 b.0, place_in_law 6 7 r.rlat r.rlong c.0 d.0)
 
-pole_in : (p : MagneticPole) → pole_check p ≡ Accepted → PlaceInRange p.lat p.lon
+pole_in : (p : MagneticPole) → pole_check p ≡ Ok tt → PlaceInRange p.lat p.lon
 unfolding pole_check
 pole_in p h =
     let a = then_both (latitude_check 13 p.lat) (longitude_check 14 p.lon) h in
     place_in_law 13 14 p.lat p.lon a.0 a.1
 
 pub accepted_in_range :
-    (i : Inputs) → inputs_check i ≡ Accepted → RouteInRange i × FieldsInRange i × T (is_month i.month)
+    (i : Inputs) → inputs_check i ≡ Ok tt → RouteInRange i × FieldsInRange i × T (is_month i.month)
 unfolding inputs_check factors_check sunspot_check hour_check month_check
 accepted_in_range i h =
     let p = i.psc in

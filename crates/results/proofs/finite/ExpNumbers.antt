@@ -1,16 +1,9 @@
 -- The exponential of document 01's steps is a number for every number, and finite up to 48: up to
 -- 700 in size both of its factors are finite, and beyond that it is zero or infinite. Assumes
 -- nothing.
-use mathlib.Core.Path.{◌≡◌, refl, sym, ap, subst}
-use mathlib.Core.Bool.{Bool, true, false, not, cond}
-use mathlib.Core.List.{List, [], ◌∷◌}
-use Prim.Native.Nat.{ℕ, ◌+◌, ◌-◌, ◌*◌, ◌/◌, ◌^◌, ◌≤◌, ◌<◌}
-use native.Mathlib.Nat.{le_trans, min-le_left, div-lt_iff_lt-mul, mul-pos, mul-le-mul_right, mul-one, add-mul}
-use native.Mathlib.Omega.{arith}
-use lib.Dec.{T, lit<}
-use lib.IntN.{pos, negsuc}
-use lib.Pow.{pow_pos, pow_mono}
-use lib.Ieee.{Float, nan, inf, fin, Format, binary64, up, down, round, neg, add, sub, mul, lt, le, is_nan, to_unsigned}
+use Rattle.std.proofs.Common.{◌≡◌, refl, sym, ap, subst, Bool, true, false, not, cond, List, [], ◌∷◌, ℕ, ◌+◌, ◌-◌, ◌*◌, ◌/◌, ◌^◌, ◌≤◌, ◌<◌, le_trans, div-lt_iff_lt-mul, mul-pos, mul-le-mul_right, mul-one, add-mul, arith, T, lit<, pos, negsuc, pow_pos, pow_mono, Float}
+use native.Mathlib.Nat.{min-le_left}
+use lib.Ieee.{nan, inf, fin, Format, binary64, up, down, round, neg, add, sub, mul, lt, le, is_nan, to_unsigned}
 use lib.Ieee.Fits.{down_pos}
 use lib.Ieee.Order.{round_mono}
 use lib.Ieee.Scale.{finite}

@@ -1,11 +1,7 @@
 -- What finite words of files give: an accepted showing's files have no others, and what is read of a
 -- month file beside the maps is no NaN; a blend can still overflow to one. Assumes nothing.
-use mathlib.Core.Path.{◌≡◌, refl, sym, subst}
-use mathlib.Core.Bool.{not}
-use mathlib.Core.List.{List}
-use Prim.Native.Nat.{ℕ, ◌+◌, ◌*◌, ◌≤◌, ◌<◌}
-use lib.Dec.{T, lit≤, lit<}
-use lib.Ieee.{Float, nan, binary32, round, units, odd, of_bits, add, sub, mul, div, neg, is_nan}
+use Rattle.std.proofs.Common.{Ok, ◌≡◌, refl, sym, subst, not, List, ℕ, ◌+◌, ◌*◌, ◌≤◌, ◌<◌, T, lit≤, lit<, Float}
+use lib.Ieee.{nan, binary32, round, units, odd, of_bits, add, sub, mul, div, neg, is_nan}
 use lib.Ieee.Scale.{finite}
 use Rattle.base.specs.Single.{decimal}
 use Rattle.base.specs.Ranges.{is_to}
@@ -16,7 +12,6 @@ use Rattle.base.specs.Finite.{FiniteMonth}
 use Rattle.base.proofs.lists.Fills.{run_at}
 use Rattle.base.proofs.layout.Readers.{files_record_finite, files_finite}
 use Rattle.maps.specs.Layers.{term_of, abmap_at, monthly_of}
-use Rattle.maps.specs.declared.figures.Shown.TheVariants.{Points}
 use Rattle.worksheet.specs.declared.desks.Worksheet.{Worksheet}
 use Rattle.worksheet.specs.Showing.{Source, inputs_shown}
 use Rattle.worksheet.specs.Journal.{show, shown, step}
@@ -27,7 +22,7 @@ use Rattle.results.proofs.force.Insured.{shown_figures}
 
 pub shown_finite :
     (source : Source) (w : Worksheet) (n : ℕ) (lent figures : List Float) (count : ℕ) →
-    (step source (show n lent) w).answer ≡ shown (Points count) figures →
+    (step source (show n lent) w).answer ≡ shown (Ok count) figures →
     let i = inputs_shown n w in FiniteFiles (source i).f2 (source i).file
 shown_finite source w n lent figures count h =
     let i = inputs_shown n w in

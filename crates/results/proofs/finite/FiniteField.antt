@@ -1,19 +1,10 @@
 -- The magnetic values of a control point are finite: intervals (`FieldSpans`) hold the field 300 km
 -- over it, and its horizontal part is divided by s, which is not near zero, since latitudes are
 -- pinned to 89.9 degrees and the sine of those is less than 1. Assumes nothing.
-use mathlib.Core.Path.{◌≡◌, refl, sym, ap, subst, ◌∙◌}
-use mathlib.Core.Logic.{◌⊎◌, inl, inr}
-use mathlib.Core.Bool.{Bool, true, false, not, ◌&&◌, cond}
-use mathlib.Core.List.{[], ◌∷◌}
-use Prim.Native.Nat.{ℕ, zero, suc, ◌+◌, ◌-◌, ◌*◌, ◌^◌, ◌≤◌, ◌<◌}
-use native.Mathlib.Nat.{zero-mul, mul-pos, zero-lt-suc, pow-succ', eq-zero-or-pos}
-use native.Mathlib.Omega.{arith}
+use Rattle.std.proofs.Common.{◌≡◌, refl, sym, ap, subst, ◌∙◌, ◌⊎◌, inl, inr, Bool, true, false, not, ◌&&◌, cond, [], ◌∷◌, ℕ, zero, suc, ◌+◌, ◌-◌, ◌*◌, ◌^◌, ◌≤◌, ◌<◌, zero-mul, mul-pos, zero-lt-suc, eq-zero-or-pos, arith, T, eqb, ltb→lt, lt→ltb, ℤ, pos, negsuc, pow_pos, lt-ltb, ne_eqb, Float}
+use native.Mathlib.Nat.{pow-succ'}
 use native.Mathlib.Decide.{dec_lt}
-use lib.Dec.{T, eqb, ltb→lt, lt→ltb}
-use lib.IntN.{ℤ, pos, negsuc}
-use lib.Pow.{pow_pos}
-use borrow.Author.Tests.{lt-ltb, ne_eqb}
-use lib.Ieee.{Float, nan, inf, fin, binary32, binary64, up, down, unlike, fits, round, neg, sum, add, sub, mul, div, lt, le, is_nan, of_int, to_unsigned}
+use lib.Ieee.{nan, inf, fin, binary32, binary64, up, down, unlike, fits, round, neg, sum, add, sub, mul, div, lt, le, is_nan, of_int, to_unsigned}
 use lib.Ieee.Fits.{and_l, and_r, add-fits, up_pos, down_pos, eq→eqb}
 use lib.Ieee.Scale.{finite}
 use lib.Ieee.Positive.{positive, den_pos}

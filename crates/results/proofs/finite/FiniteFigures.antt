@@ -1,15 +1,8 @@
 -- What is known of each figure of the layers, and Es finite, at a point: what a sheet's files and
 -- fields give to `FiniteMaps` and `FiniteLayers`, put together. Assumes nothing.
-use mathlib.Core.Path.{◌≡◌, refl}
-use mathlib.Core.Bool.{Bool, true, false, cond}
-use mathlib.Core.List.{List}
-use Prim.Native.Nat.{ℕ}
-use lib.Dec.{T}
-use lib.IntN.{pos, negsuc}
-use lib.ListN.{get_or}
-use lib.Ieee.{Float, nan, fin, round, neg, add, mul, sub, lt, le}
+use Rattle.std.proofs.Common.{Ok, ◌≡◌, refl, Bool, true, false, cond, List, ℕ, T, pos, negsuc, get_or, Float}
+use lib.Ieee.{nan, fin, round, neg, add, mul, sub, lt, le}
 use Rattle.base.specs.declared.angle.Radians.{Radians}
-use Rattle.base.specs.declared.refusal.Verdict.TheVariants.{Accepted}
 use Rattle.base.specs.Single.{◌⊕◌, decimal}
 use Rattle.base.specs.Number.{negative, abs_of}
 use Rattle.base.specs.Constants.{D2R, PI, PI2}
@@ -85,7 +78,7 @@ east_sized lon b = go (lt lon.0 o)
     go true = plus_sized (fin false 1 (pos 5)) tt turn near
     go false = larger (fin false 1 (pos 5)) tt near
 
-module _ (f2 file : List ℕ) (i : Inputs) (held : Bounded f2 file) (passed : index_check file ≡ Accepted) (F : Fields i.ssn i.gmt i.psc) where
+module _ (f2 file : List ℕ) (i : Inputs) (held : Bounded f2 file) (passed : index_check file ≡ Ok tt) (F : Fields i.ssn i.gmt i.psc) where
   pub hour_full : Full (hour_of f2 file i).ab
   unfolding hour_of hour_from
   hour_full = virtim_sized (cofion_of f2 file i.ssn) (index_of file) i.gmt (cofion_sized f2 file held i.ssn F.sunspots) (good_same file passed refl) F.hour

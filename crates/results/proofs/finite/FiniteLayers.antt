@@ -2,16 +2,8 @@
 -- bounds: every step has a bound, by the rules of `Sized`. What can go wrong is named: the cosine
 -- of the zenith angle can come out beyond 1 in size, f2m3 can be next to zero, so can an F1
 -- frequency above zero, and E's can be too high for the exponential. Assumes nothing.
-use mathlib.Core.Path.{◌≡◌, refl, sym, ap, subst, ◌∙◌}
-use mathlib.Core.Logic.{◌⊎◌, inl, inr}
-use mathlib.Core.Bool.{Bool, true, false, not, cond}
-use mathlib.Core.List.{List, [], ◌∷◌}
-use Prim.Native.Nat.{ℕ, zero, suc, ◌+◌, ◌*◌, ◌≤◌}
-use native.Mathlib.Omega.{arith}
-use lib.Dec.{T, lt→ltb}
-use lib.IntN.{ℤ, pos, negsuc}
-use lib.ListN.{get_or}
-use lib.Ieee.{Float, nan, inf, fin, binary32, round, neg, add, sub, mul, div, lt, le, is_nan, to_unsigned}
+use Rattle.std.proofs.Common.{◌≡◌, refl, sym, ap, subst, ◌∙◌, ◌⊎◌, inl, inr, Bool, true, false, not, cond, List, [], ◌∷◌, ℕ, zero, suc, ◌+◌, ◌*◌, ◌≤◌, arith, T, lt→ltb, ℤ, pos, negsuc, get_or, Float}
+use lib.Ieee.{nan, inf, fin, binary32, round, neg, add, sub, mul, div, lt, le, is_nan, to_unsigned}
 use lib.Ieee.Fits.{div-fits}
 use lib.Ieee.Scale.{finite}
 use lib.Ieee.Positive.{positive}

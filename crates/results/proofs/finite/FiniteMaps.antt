@@ -2,18 +2,10 @@
 -- of `noisy`, at most 2 ^ 111, where the files' words are at most 2 ^ 16: a bound of every number
 -- on the way, from the words to the waves of the hour, the rows, the geographic functions and the
 -- series, with a test for each turn that is computed for all turns. Assumes nothing.
-use mathlib.Core.Path.{◌≡◌, sym, subst, ◌∙◌}
-use mathlib.Core.Logic.{inl, inr}
-use mathlib.Core.Bool.{Bool, false, cond}
-use mathlib.Core.List.{List, [], ◌∷◌}
-use Prim.Native.Nat.{ℕ, zero, suc, ◌+◌, ◌-◌, ◌*◌, ◌/◌, ◌%◌, ◌^◌, ◌≤◌, ◌<◌}
-use native.Mathlib.Nat.{zero-add}
-use native.Mathlib.Omega.{arith}
+use Rattle.std.proofs.Common.{◌≡◌, sym, subst, ◌∙◌, inl, inr, Bool, false, cond, List, [], ◌∷◌, ℕ, zero, suc, ◌+◌, ◌-◌, ◌*◌, ◌/◌, ◌%◌, ◌^◌, ◌≤◌, ◌<◌, zero-add, arith, T, eqb, leb, pos, negsuc, length, get_or, replicate, Float}
 use native.Mathlib.Decide.{dec_lt}
-use lib.Dec.{T, eqb, leb}
-use lib.IntN.{pos, negsuc}
-use lib.ListN.{length, get_or, replicate, length-replicate, get_or-replicate}
-use lib.Ieee.{Float, nan, fin, binary32, binary64, round, neg, add, mul, div, le, of_int}
+use lib.ListN.{length-replicate, get_or-replicate}
+use lib.Ieee.{nan, fin, binary32, binary64, round, neg, add, mul, div, le, of_int}
 use lib.Ieee.Scale.{finite}
 use Rattle.base.specs.declared.blend.Weights.{Weights}
 use Rattle.base.specs.Single.{◌⊕◌, ◌⊗◌, decimal}

@@ -1,15 +1,9 @@
 -- No NaN and no infinity on a path: with both ends in range its six figures are finite, and with
 -- the magnetic pole in range too the four numbers of each control point, since each has a bound
 -- (`Longitudes`). Assumes nothing.
-use mathlib.Core.Path.{subst}
-use mathlib.Core.Bool.{Bool, true, false, cond}
-use Prim.Native.Nat.{ℕ, zero, suc, ◌<◌}
-use native.Mathlib.Omega.{arith}
-use lib.Dec.{T, eqb, lit<}
-use lib.IntN.{pos}
-use lib.Ieee.{Float, fin, binary32, round, add, mul, div, le}
+use Rattle.std.proofs.Common.{subst, Bool, true, false, cond, ℕ, zero, suc, ◌<◌, arith, T, eqb, lit<, pos, Float, get_or}
+use lib.Ieee.{fin, binary32, round, add, mul, div, le}
 use lib.Ieee.Scale.{finite}
-use lib.ListN.{get_or}
 use Rattle.base.specs.declared.angle.Degrees.{Degrees}
 use Rattle.base.specs.declared.angle.Radians.{Radians}
 use Rattle.maps.specs.declared.inputs.MagneticPole.{MagneticPole}

@@ -2,16 +2,8 @@
 -- of each point and of the field there, and the ground, of any files; Es beside bounded words of
 -- the files; all 29 numbers of a point besides where it is ordinary. What the laws of a point ask
 -- (`Placed`) every control point of such a route has. Assumes nothing.
-use mathlib.Core.Path.{◌≡◌, refl, sym, subst}
-use mathlib.Core.Bool.{Bool, false}
-use mathlib.Core.List.{List, [], ◌∷◌}
-use Prim.Native.Nat.{ℕ, zero, suc, ◌+◌, ◌-◌, ◌≤◌, ◌<◌}
-use native.Mathlib.Nat.{le_of_suc-le-suc, not-suc-le-zero}
-use native.Mathlib.Omega.{arith}
-use lib.Dec.{T, leb, leb→le}
-use lib.IntN.{pos, negsuc}
-use lib.ListN.{length, get_or}
-use lib.Ieee.{Float, nan, fin, round, lt, le}
+use Rattle.std.proofs.Common.{◌≡◌, refl, sym, subst, Bool, false, List, [], ◌∷◌, ℕ, zero, suc, ◌+◌, ◌-◌, ◌≤◌, ◌<◌, le_of_suc-le-suc, not-suc-le-zero, arith, T, leb, leb→le, pos, negsuc, length, get_or, Float}
+use lib.Ieee.{nan, fin, round, lt, le}
 use lib.Ieee.Scale.{finite}
 use lib.Ieee.Fits.{and_l, and_r}
 use Rattle.base.specs.declared.angle.Degrees.{Degrees}

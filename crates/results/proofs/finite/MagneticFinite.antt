@@ -1,12 +1,7 @@
 -- No NaN and no infinity among the magnetic values of a path: the field 300 km over a control point
 -- is finite (`FiniteField`) and vanishes nowhere, so the dip divides no zero by zero
 -- (`DipDefined`). Assumes nothing.
-use mathlib.Core.Logic.{◌⊎◌}
-use mathlib.Core.Bool.{Bool, true, false, not}
-use Prim.Native.Nat.{ℕ, ◌<◌}
-use lib.Dec.{T}
-use lib.IntN.{pos}
-use lib.ListN.{get_or}
+use Rattle.std.proofs.Common.{◌⊎◌, Bool, true, false, not, ℕ, ◌<◌, T, pos, get_or}
 use lib.Ieee.{fin, le, is_nan}
 use Rattle.base.specs.declared.angle.Degrees.{Degrees}
 use Rattle.base.specs.declared.angle.Radians.{Radians}

@@ -1,16 +1,9 @@
 -- A month out of 1 to 12 has no row in `SUN` and no zenith angle: what the layers are then, of
 -- every file, factor and point. A NaN passes through the sines, the cosines and the sums; a test of
 -- it fails, so that there is no F1 layer. Assumes nothing.
-use mathlib.Core.Path.{◌≡◌, refl, sym, ap, ◌∙◌, subst}
-use mathlib.Core.Logic.{◌⊎◌, inl, inr}
-use mathlib.Core.Bool.{Bool, true, false, cond}
-use mathlib.Core.List.{List}
-use Prim.Native.Nat.{ℕ, zero, suc, ◌-◌, ◌<◌}
-use native.Mathlib.Omega.{arith}
-use lib.Dec.{T}
-use lib.ListN.{get_or, get_or-eq_default}
-use lib.Ieee.{Float, nan, binary32, neg, round, add, sub, mul, lt, le, eq, is_nan}
-use borrow.Author.Tests.{eq-eqb, ne_eqb}
+use Rattle.std.proofs.Common.{◌≡◌, refl, sym, ap, ◌∙◌, subst, ◌⊎◌, inl, inr, Bool, true, false, cond, List, ℕ, zero, suc, ◌-◌, ◌<◌, arith, T, get_or, Float, eq-eqb, ne_eqb}
+use lib.ListN.{get_or-eq_default}
+use lib.Ieee.{nan, binary32, neg, round, add, sub, mul, lt, le, eq, is_nan}
 use Rattle.base.specs.declared.angle.Radians.{Radians}
 use Rattle.base.specs.declared.angle.Degrees.{Degrees}
 use Rattle.base.specs.Single.{◌⊕◌, ◌⊖◌, ◌⊗◌, ◌⊘◌, decimal}

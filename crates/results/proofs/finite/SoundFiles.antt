@@ -1,11 +1,6 @@
 -- Files that the layers' laws ask for, exhibited: every word of `good_record` and of `good_month_file`
 -- that figures read is zero. Assumes nothing.
-use mathlib.Core.Path.{◌≡◌, refl, sym, subst}
-use mathlib.Core.Bool.{Bool, true, false, cond}
-use mathlib.Core.List.{List}
-use Prim.Native.Nat.{ℕ, ◌+◌, ◌*◌, ◌≤◌}
-use native.Mathlib.Omega.{arith}
-use lib.Dec.{T, eqb, leb, leb→le, eqb→eq}
+use Rattle.std.proofs.Common.{◌≡◌, refl, sym, subst, Bool, true, false, cond, List, ℕ, ◌+◌, ◌*◌, ◌≤◌, arith, T, eqb, leb, leb→le, eqb→eq}
 use lib.Ieee.{binary32, of_bits, le}
 use Rattle.base.specs.Number.{negative, abs_of}
 use Rattle.base.specs.Words.{word_at, float_at}

@@ -1,22 +1,14 @@
 -- The insurer's line: of every list of calls, each accepted showing of the worksheet gave, whole,
 -- the figures of the inputs in force; and where those come from. By the invariant of the run at the
 -- showing or the commit. Assumes nothing.
-use Prim.Native.Nat.{ℕ}
-use mathlib.Core.Bool.{Bool, true, false, cond, not, ◌&&◌, false≢true}
+use Rattle.std.proofs.Common.{Err, Ok, ℕ, Bool, true, false, cond, not, ◌&&◌, List, [], ◌∷◌, ◌++◌, reverse, append_assoc, ◌⊎◌, inl, inr, ◌≡◌, refl, sym, ap, ap₂, subst, ◌∙◌, arith, eqb, length, Float}
+use mathlib.Core.Bool.{false≢true}
 use mathlib.Core.List.Memᴰ
-use mathlib.Core.List.{List, [], ◌∷◌, ◌++◌, reverse, reverse_aux, append_assoc, reverse-cons, reverse-append, reverse-reverse, nil≢cons, head-eq_of_cons-eq, tail-eq_of_cons-eq, Memᴰ}
-use mathlib.Core.Logic.{◌⊎◌, inl, inr}
-use mathlib.Core.Path.{◌≡◌, refl, sym, ap, ap₂, subst, ◌∙◌}
-use native.Mathlib.Omega.{arith}
-use lib.Dec.{eqb}
-use lib.ListN.{length}
-use lib.Ieee.{Float}
-use Rattle.base.specs.declared.refusal.Verdict.{Verdict}
-use Rattle.base.specs.declared.refusal.Verdict.TheVariants.{Accepted, Refused}
+use mathlib.Core.List.{reverse_aux, reverse-cons, reverse-append, reverse-reverse, nil≢cons, head-eq_of_cons-eq, tail-eq_of_cons-eq, Memᴰ}
+use Rattle.base.specs.Refusal.{Verdict}
 use Rattle.base.specs.Refusal.{◌then◌, written_over}
 use Rattle.base.proofs.verdicts.Refusals.{then_both}
 use Rattle.maps.specs.declared.inputs.Inputs.{Inputs}
-use Rattle.maps.specs.declared.figures.Shown.TheVariants.{Points}
 use Rattle.base.specs.Files.{files_check}
 use Rattle.maps.specs.Figures.{sheet_path, figures_of, points_or}
 use Rattle.worksheet.specs.declared.inputs.Edit.{Edit}
@@ -121,7 +113,7 @@ begun_in_force source w rest cs n a =
     ∙ ap Fresh (in_force_law source w rest cs)
 
 -- the same of every worksheet that open gives
-pub opened_in_force : (source : Source) (opened : Inputs) → (open_of opened).answer ≡ Accepted → (cs : List Call)
+pub opened_in_force : (source : Source) (opened : Inputs) → (open_of opened).answer ≡ Ok tt → (cs : List Call)
     → (run source cs (open_of opened).sheet).sheet.inputs ≡ in_force (open_of opened).sheet (run source cs (open_of opened).sheet).entries
 unfolding open_of fresh_sheet
 opened_in_force source opened given cs = in_force_law source (open_of opened).sheet refl cs
@@ -130,7 +122,7 @@ opened_in_force source opened given cs = in_force_law source (open_of opened).sh
 
 -- an accepted showing on the worksheet s, of its inputs or of a desk
 pub shown_figures : (source : Source) (n : ℕ) (s : Worksheet) (lent after : List Float) (count : ℕ)
-    → shown (Points count) after ≡ (step source (show n lent) s).answer → FiguresOf source (inputs_shown n s) count after
+    → shown (Ok count) after ≡ (step source (show n lent) s).answer → FiguresOf source (inputs_shown n s) count after
 unfolding step show_of show_buffer show_check drawn_check
 shown_figures source n s lent after count h =
     go (judged_check n s then drawn_check (source i) (length lent)) refl h
@@ -142,34 +134,34 @@ shown_figures source n s lent after count h =
     files = (source i).verdict then files_check (source i).f2 (source i).file
 
     go : (v : Verdict) → (judged_check n s then buffer_check (length lent) then files) ≡ v
-        → shown (Points count) after ≡ shown (points_or v (sheet_path i).count) (written_over v (figures_of (source i).f2 (source i).file i) lent)
+        → shown (Ok count) after ≡ shown (points_or v (sheet_path i).count) (written_over v (figures_of (source i).f2 (source i).file i) lent)
         → FiguresOf source i count after
-    go Accepted c e =
+    go (Ok _) c e =
         let a = then_both (judged_check n s) (buffer_check (length lent) then files) c in
         let b = then_both (buffer_check (length lent)) files a.1 in
         let d = then_both (source i).verdict (files_check (source i).f2 (source i).file) b.1 in
         record { lent = d.0; checked = d.1; points = (cc); whole = (cc) }
-    go (Refused why) c e = let z : ◌≡◌ {A = ℕ} 0 1 = cc in absurd (omega arith)
+    go (Err why) c e = let z : ◌≡◌ {A = ℕ} 0 1 = cc in absurd (omega arith)
 
 -- Over any source of files, of every worksheet whose desks are closed and every list of calls: each
 -- accepted showing of the worksheet, with the entries before it, gave the number of points and the
 -- whole figures of the inputs in force after those entries.
 pub insurers_line_lent : (source : Source) (w : Worksheet) → at_rest w ≡ w
     → (cs : List Call) (before later : List Entry) (lent figures : List Float) (count : ℕ)
-    → (run source cs w).entries ≡ before ++ (record { call = show 0 lent; answer = shown (Points count) figures } ∷ later)
+    → (run source cs w).entries ≡ before ++ (record { call = show 0 lent; answer = shown (Ok count) figures } ∷ later)
     → FiguresOf source (in_force w before) count figures
 unfolding in_force inputs_shown
 insurers_line_lent source w rest cs before later lent figures count h =
-    let x : Entry = record { call = show 0 lent; answer = shown (Points count) figures } in
+    let x : Entry = record { call = show 0 lent; answer = shown (Ok count) figures } in
     let a = run_split source cs w before x later h in
     let s = (run source a.calls w).sheet in
     subst (λ (j : Inputs). FiguresOf source j count figures) (at_holds source w rest before x a).at_present
     (shown_figures source 0 s lent figures count (ap (λ (y : Entry). y.answer) a.there))
 
 -- THE INSURER'S LINE for every source of files and every worksheet that open gives
-pub insurers_line : (source : Source) (opened : Inputs) → (open_of opened).answer ≡ Accepted
+pub insurers_line : (source : Source) (opened : Inputs) → (open_of opened).answer ≡ Ok tt
     → (cs : List Call) (before later : List Entry) (lent figures : List Float) (count : ℕ)
-    → (run source cs (open_of opened).sheet).entries ≡ before ++ (record { call = show 0 lent; answer = shown (Points count) figures } ∷ later)
+    → (run source cs (open_of opened).sheet).entries ≡ before ++ (record { call = show 0 lent; answer = shown (Ok count) figures } ∷ later)
     → FiguresOf source (in_force (open_of opened).sheet before) count figures
 unfolding open_of fresh_sheet
 insurers_line source opened given = insurers_line_lent source (open_of opened).sheet refl

@@ -2,12 +2,8 @@
 -- accepted showing of the worksheet gave the figures of the inputs in force, which are the words'
 -- inputs, and every change in force was committed and never cancelled. From the same of the
 -- worksheet that the words hold (`all_calls`). Assumes nothing.
-use Prim.Native.Nat.{ℕ}
-use mathlib.Core.List.{List, ◌∷◌, ◌++◌, Memᴰ}
-use mathlib.Core.Path.{◌≡◌, refl, sym, ap, subst, ◌∙◌}
-use lib.Ieee.{Float}
-use Rattle.base.specs.declared.refusal.Verdict.TheVariants.{Accepted}
-use Rattle.maps.specs.declared.figures.Shown.TheVariants.{Points}
+use Rattle.std.proofs.Common.{Ok, ℕ, List, ◌∷◌, ◌++◌, ◌≡◌, refl, sym, ap, subst, ◌∙◌, Float}
+use mathlib.Core.List.{Memᴰ}
 use Rattle.maps.specs.declared.inputs.Inputs.{Inputs}
 use Rattle.worksheet.specs.declared.desks.Worksheet.{Worksheet}
 use Rattle.worksheet.specs.declared.inputs.Edit.{Edit}
@@ -35,7 +31,7 @@ module _
     pub insurers_line_over_lent :
         (before later : List Entry) (lent figures : List Float) (count : ℕ) →
         entries_over source cs l
-        ≡ before ++ (record { call = show 0 lent; answer = shown (Points count) figures } ∷ later) →
+        ≡ before ++ (record { call = show 0 lent; answer = shown (Ok count) figures } ∷ later) →
         FiguresOf source (in_force (worksheet_of l) before) count figures
     insurers_line_over_lent before later lent figures count h =
         insurers_line_lent source (worksheet_of l) rest cs before later lent figures count (sym same ∙ h)
@@ -44,7 +40,7 @@ module _
     pub insurers_sentence_over :
         (before later : List Entry) (lent figures : List Float) (count : ℕ) →
         entries_over source cs l
-        ≡ before ++ (record { call = show 0 lent; answer = shown (Points count) figures } ∷ later) →
+        ≡ before ++ (record { call = show 0 lent; answer = shown (Ok count) figures } ∷ later) →
         Insured source (start_left (worksheet_of l) before) before count figures
     insurers_sentence_over before later lent figures count h =
         insurers_sentence_lent source (worksheet_of l) rest cs before later lent figures count (sym same ∙ h)
@@ -68,7 +64,7 @@ module _
 
 -- the words that an accepted open writes hold a worksheet whose desks are closed
 pub open_rest :
-    (s lent : List ℕ) → (opened_of s).answer ≡ Accepted →
+    (s lent : List ℕ) → (opened_of s).answer ≡ Ok tt →
     at_rest (worksheet_of (words_after (opened_of s) lent)) ≡ worksheet_of (words_after (opened_of s) lent)
 unfolding opened_of open_of fresh_sheet
 open_rest s lent h = ap at_rest (open_read s lent h) ∙ sym (open_read s lent h)
@@ -76,20 +72,20 @@ open_rest s lent h = ap at_rest (open_read s lent h) ∙ sym (open_read s lent h
 -- THE INSURER'S LINE for every source of files, all words that open, and every list of calls by f32
 -- numbers
 pub insurers_line_over :
-    (source : Source) (s words : List ℕ) → (opened_of s).answer ≡ Accepted → (cs : List Call) → CallsSingles cs →
+    (source : Source) (s words : List ℕ) → (opened_of s).answer ≡ Ok tt → (cs : List Call) → CallsSingles cs →
     (before later : List Entry) (lent figures : List Float) (count : ℕ) →
     entries_over source cs (words_after (opened_of s) words)
-    ≡ before ++ (record { call = show 0 lent; answer = shown (Points count) figures } ∷ later) →
+    ≡ before ++ (record { call = show 0 lent; answer = shown (Ok count) figures } ∷ later) →
     FiguresOf source (in_force (worksheet_of (words_after (opened_of s) words)) before) count figures
 insurers_line_over source s words h cs k =
     insurers_line_over_lent source (words_after (opened_of s) words) (open_rest s words h) cs k
 
 -- THE INSURER'S SENTENCE of the same, from the inputs that the words open with
 pub insurers_sentence_opened :
-    (source : Source) (s words : List ℕ) → (opened_of s).answer ≡ Accepted → (cs : List Call) → CallsSingles cs →
+    (source : Source) (s words : List ℕ) → (opened_of s).answer ≡ Ok tt → (cs : List Call) → CallsSingles cs →
     (before later : List Entry) (lent figures : List Float) (count : ℕ) →
     entries_over source cs (words_after (opened_of s) words)
-    ≡ before ++ (record { call = show 0 lent; answer = shown (Points count) figures } ∷ later) →
+    ≡ before ++ (record { call = show 0 lent; answer = shown (Ok count) figures } ∷ later) →
     Insured source (opened_of s).sheet.inputs before count figures
 unfolding opened_of open_of fresh_sheet set_of
 insurers_sentence_opened source s words h cs k before later lent figures count e =

@@ -2,16 +2,10 @@
 -- commits that were accepted and not taken back, in their order, each once. By an invariant of the
 -- run: the set in force and the one before it are those that the entries leave, where what comes
 -- next takes back and where it does not. Assumes nothing.
-use mathlib.Core.Bool.{Bool, true, false, cond, not, ◌&&◌}
+use Rattle.std.proofs.Common.{None, Ok, Option, Some, Bool, true, false, cond, not, ◌&&◌, List, [], ◌∷◌, ◌++◌, reverse, append_assoc, append-nil, ◌⊎◌, inl, inr, ◌≡◌, refl, sym, ap, ap₂, subst, ◌∙◌, ℕ}
 use mathlib.Core.List.Memᴰ
-use mathlib.Core.List.{List, [], ◌∷◌, ◌++◌, reverse, reverse_aux, append_assoc, append-nil, reverse-cons, Memᴰ}
-use mathlib.Core.Logic.{◌⊎◌, inl, inr}
-use mathlib.Core.Path.{◌≡◌, refl, sym, ap, ap₂, subst, ◌∙◌}
-use Prim.Native.Nat.{ℕ}
-use Rattle.base.specs.declared.refusal.Verdict.TheVariants.{Accepted}
+use mathlib.Core.List.{reverse_aux, reverse-cons, Memᴰ}
 use Rattle.maps.specs.declared.inputs.Inputs.{Inputs}
-use Rattle.worksheet.specs.declared.desks.Earlier.{Earlier}
-use Rattle.worksheet.specs.declared.desks.Earlier.TheVariants.{Nothing, Set}
 use Rattle.worksheet.specs.declared.desks.Worksheet.{Worksheet}
 use Rattle.worksheet.specs.Desks.{set_of, fresh_sheet, open_of}
 use Rattle.worksheet.specs.Showing.{Source}
@@ -103,7 +97,7 @@ module _ (e i : Inputs) where
 -- ---- the run
 
 -- an earlier set is there where the worksheet has one
-set_before : (l : List Standing) (i : Inputs) → earlier_by l ≡ Set i → (s : Standing) × ((k : List Standing) × (l ≡ s ∷ k))
+set_before : (l : List Standing) (i : Inputs) → earlier_by l ≡ Some i → (s : Standing) × ((k : List Standing) × (l ≡ s ∷ k))
 set_before [] i h = absurd (nothing_not_set h)
 set_before (s ∷ k) i h = (s, (k, refl))
 
@@ -115,10 +109,10 @@ module _ (source : Source) (f : Force) (e i : Inputs) where
       let d = go (role_of c) p (law source c w) in
       set_before (force_after f past).before d.0 (sym g.at_earlier ∙ d.1)
     where
-      was : Law source returning c w → (j : Inputs) × (w.earlier ≡ Set j)
+      was : Law source returning c w → (j : Inputs) × (w.earlier ≡ Some j)
       was l = let d = l.done a in (d.set, d.was)
 
-      go : (r : Role) → r ≡ returning → Law source r c w → (j : Inputs) × (w.earlier ≡ Set j)
+      go : (r : Role) → r ≡ returning → Law source r c w → (j : Inputs) × (w.earlier ≡ Some j)
       go r q l = was (subst (λ (z : Role). Law source z c w) q l)
 
   run_leaves : (cs : List Call) (past : List Entry) (w : Worksheet) → Holds f past w → Leaves e i past (force_after f past)
@@ -134,9 +128,9 @@ start_leaves : (w : Worksheet) → Leaves (set_of w.earlier w.inputs) w.inputs [
 unfolding force_after leaves set_of
 start_leaves w = record { present = refl; before = λ s m. go w.earlier s m }
   where
-    go : (e : Earlier) (s : Standing) → Memᴰ s (standing_before e) → s ≡ standing_at (set_of e w.inputs)
-    go Nothing s m = absurd (Memᴰ.not-nil m)
-    go (Set j) s m = Memᴰ.eq_of_singleton m
+    go : (e : Option Inputs) (s : Standing) → Memᴰ s (standing_before e) → s ≡ standing_at (set_of e w.inputs)
+    go None s m = absurd (Memᴰ.not-nil m)
+    go (Some j) s m = Memᴰ.eq_of_singleton m
 
 -- over any source of files, of every worksheet whose desks are closed and every list of calls
 module _ (source : Source) (w : Worksheet) (rest : at_rest w ≡ w) (cs : List Call) where
@@ -165,7 +159,7 @@ same_start true i = refl
 same_start false i = refl
 
 -- of a worksheet that open gives, the inputs that it was opened with
-pub opened_exactly : (source : Source) (opened : Inputs) → (open_of opened).answer ≡ Accepted → (cs : List Call)
+pub opened_exactly : (source : Source) (opened : Inputs) → (open_of opened).answer ≡ Ok tt → (cs : List Call)
     → let w = (open_of opened).sheet in let entries = (run source cs w).entries in
     in_force w entries ≡ changed opened (changes_by (commits_left [] entries))
 unfolding open_of fresh_sheet set_of

@@ -1,17 +1,11 @@
 -- After every list of calls the worksheet's inputs are those in force, its earlier set the one that
 -- a take-back returns, and a fresh draft is what its begin copied with its own changes made: an
 -- invariant of the run, seen to for each role. Assumes nothing.
-use Prim.Native.Nat.{ℕ}
-use mathlib.Core.Bool.{Bool, true, false, cond, not, ◌&&◌, ◌||◌, and-false, false≢true}
-use mathlib.Core.List.{List, [], ◌∷◌, ◌++◌, reverse_aux, append-nil, append_assoc}
-use mathlib.Core.Path.{◌≡◌, refl, sym, ap, ap₂, subst, ◌∙◌}
-use native.Mathlib.Omega.{arith}
-use lib.Dec.{eqb}
-use borrow.Author.Tests.{eqb-true, eq-eqb}
+use Rattle.std.proofs.Common.{None, Option, Some, ℕ, Bool, true, false, cond, not, ◌&&◌, ◌||◌, List, [], ◌∷◌, ◌++◌, append-nil, append_assoc, ◌≡◌, refl, sym, ap, ap₂, subst, ◌∙◌, arith, eqb, eqb-true, eq-eqb}
+use mathlib.Core.Bool.{and-false, false≢true}
+use mathlib.Core.List.{reverse_aux}
 use Rattle.maps.specs.declared.inputs.Inputs.{Inputs}
 use Rattle.worksheet.specs.declared.inputs.Edit.{Edit}
-use Rattle.worksheet.specs.declared.desks.Earlier.{Earlier}
-use Rattle.worksheet.specs.declared.desks.Earlier.TheVariants.{Nothing, Set}
 use Rattle.worksheet.specs.declared.desks.Worksheet.{Worksheet}
 use Rattle.worksheet.specs.Inputs.{edited}
 use Rattle.worksheet.specs.Showing.{Source}
@@ -120,24 +114,24 @@ edits_more n past y p q =
 -- ---- THE INVARIANT, after the entries `past` of a run that began with f in force
 
 -- the earlier set of what is in force
-abbrev pub earlier_by : List Standing → Earlier
-earlier_by [] = Nothing
-earlier_by (s ∷ l) = Set (inputs_by s)
+abbrev pub earlier_by : List Standing → Option Inputs
+earlier_by [] = None
+earlier_by (s ∷ l) = Some (inputs_by s)
 
 pub record Holds (f : Force) (past : List Entry) (w : Worksheet) : Type 0 where
   pub at_present : w.inputs ≡ inputs_by (force_after f past).present
   pub at_earlier : w.earlier ≡ earlier_by (force_after f past).before
   pub drafts : (n : ℕ) (x : Inputs) → FreshAt n x w → Drafting n past w.inputs x
 
-set_same : {j k : Inputs} → Set j ≡ Set k → j ≡ k
+set_same : {j k : Inputs} → Some j ≡ Some k → j ≡ k
 set_same p = cc
 
-pub nothing_not_set : {j : Inputs} → Nothing ≡ Set j → ⊥
+pub nothing_not_set : {j : Inputs} → None ≡ Some j → ⊥
 nothing_not_set p = let z : ◌≡◌ {A = ℕ} 0 1 = cc in omega arith
 
 -- a take-back returns the set that the worksheet has as its earlier one
-returned : (before : List Standing) (f : Force) (i : Inputs) → earlier_by before ≡ Set i
-    → (i ≡ inputs_by (returned_to before f).present) × (Nothing ≡ earlier_by (returned_to before f).before)
+returned : (before : List Standing) (f : Force) (i : Inputs) → earlier_by before ≡ Some i
+    → (i ≡ inputs_by (returned_to before f).present) × (None ≡ earlier_by (returned_to before f).before)
 returned [] f i h = absurd (nothing_not_set h)
 returned (s ∷ l) f i h = (sym (set_same h), refl)
 
@@ -271,7 +265,7 @@ module _ (source : Source) (f : Force) (past : List Entry) (w : Worksheet) (g : 
             ∙ ap (λ (i : Inputs). changed i es) g.at_present
             ∙ sym (changed_append F.present.start (changes_by F.present.commits) es)
             ∙ sym (ap (λ (k : Force). inputs_by k.present) force);
-        at_earlier = d.earlier ∙ ap Set g.at_present ∙ sym (ap (λ (k : Force). earlier_by k.before) force);
+        at_earlier = d.earlier ∙ ap Some g.at_present ∙ sym (ap (λ (k : Force). earlier_by k.before) force);
         drafts = λ m x k. absurd (d.none m x k);
       }
 
@@ -320,9 +314,9 @@ start_holds w none = record {
   drafts = λ n x h. absurd (none n x h);
 }
   where
-    go : (e : Earlier) → e ≡ earlier_by (standing_before e)
-    go Nothing = refl
-    go (Set i) = refl
+    go : (e : Option Inputs) → e ≡ earlier_by (standing_before e)
+    go None = refl
+    go (Some i) = refl
 
 module _ (source : Source) (f : Force) where
   pub run_holds : (cs : List Call) (past : List Entry) (w : Worksheet) → Holds f past w

@@ -2,18 +2,11 @@
 -- its desk's accepted begin and accepted commit, with nothing that disturbs the draft between, and
 -- the commit was not taken back. By the commit that it is an own call of, and what stands since
 -- that commit's begin. Assumes nothing.
-use Prim.Native.Nat.{ℕ}
-use mathlib.Core.Bool.{Bool, true, false, cond, not, ◌&&◌, false≢true}
+use Rattle.std.proofs.Common.{Ok, ℕ, Bool, true, false, cond, not, ◌&&◌, List, [], ◌∷◌, ◌++◌, reverse, append_assoc, ◌⊎◌, inl, inr, ◌≡◌, refl, sym, ap, ap₂, subst, ◌∙◌, eqb, Float, eqb-true, eq-eqb}
+use mathlib.Core.Bool.{false≢true}
 use mathlib.Core.List.Memᴰ
-use mathlib.Core.List.{List, [], ◌∷◌, ◌++◌, reverse, append_assoc, reverse-reverse, nil≢cons, head-eq_of_cons-eq, Memᴰ}
-use mathlib.Core.Logic.{◌⊎◌, inl, inr}
-use mathlib.Core.Path.{◌≡◌, refl, sym, ap, ap₂, subst, ◌∙◌}
-use lib.Dec.{eqb}
-use lib.Ieee.{Float}
-use borrow.Author.Tests.{eqb-true, eq-eqb}
-use Rattle.base.specs.declared.refusal.Verdict.TheVariants.{Accepted}
+use mathlib.Core.List.{reverse-reverse, nil≢cons, head-eq_of_cons-eq, Memᴰ}
 use Rattle.maps.specs.declared.inputs.Inputs.{Inputs}
-use Rattle.maps.specs.declared.figures.Shown.TheVariants.{Points}
 use Rattle.worksheet.specs.declared.inputs.Edit.{Edit}
 use Rattle.worksheet.specs.declared.desks.Worksheet.{Worksheet}
 use Rattle.worksheet.specs.Desks.{set_of, fresh_sheet, open_of}
@@ -181,10 +174,10 @@ never_cancelled source w rest cs e h =
 -- accepted showing of the worksheet
 pub insurers_sentence_lent : (source : Source) (w : Worksheet) → at_rest w ≡ w
     → (cs : List Call) (before later : List Entry) (lent figures : List Float) (count : ℕ)
-    → (run source cs w).entries ≡ before ++ (record { call = show 0 lent; answer = shown (Points count) figures } ∷ later)
+    → (run source cs w).entries ≡ before ++ (record { call = show 0 lent; answer = shown (Ok count) figures } ∷ later)
     → Insured source (start_left w before) before count figures
 insurers_sentence_lent source w rest cs before later lent figures count h =
-    let r = run_before source cs w before (record { call = show 0 lent; answer = shown (Points count) figures }) later h in
+    let r = run_before source cs w before (record { call = show 0 lent; answer = shown (Ok count) figures }) later h in
     let l = (run source r.0 w).entries in
     let exactly : in_force w before ≡ changed (start_left w before) (changes_by (commits_left [] before)) =
     subst (λ (k : List Entry). in_force w k ≡ changed (start_left w k) (changes_by (commits_left [] k))) r.1 (in_force_exactly source w rest r.0) in
@@ -201,9 +194,9 @@ insurers_sentence_lent source w rest cs before later lent figures count h =
 
 -- for every source of files and every worksheet that open gives: from the inputs that it was opened
 -- with
-pub insurers_sentence : (source : Source) (opened : Inputs) → (open_of opened).answer ≡ Accepted
+pub insurers_sentence : (source : Source) (opened : Inputs) → (open_of opened).answer ≡ Ok tt
     → (cs : List Call) (before later : List Entry) (lent figures : List Float) (count : ℕ)
-    → (run source cs (open_of opened).sheet).entries ≡ before ++ (record { call = show 0 lent; answer = shown (Points count) figures } ∷ later)
+    → (run source cs (open_of opened).sheet).entries ≡ before ++ (record { call = show 0 lent; answer = shown (Ok count) figures } ∷ later)
     → Insured source opened before count figures
 unfolding open_of fresh_sheet set_of
 insurers_sentence source opened given cs before later lent figures count h =

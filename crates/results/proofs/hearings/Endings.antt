@@ -1,13 +1,8 @@
--- The line that ends a journal: while none has, the sitting is at the stage of what was told, and once one
+-- The line that ends a journal: while none has, the sitting is as what was told says, and once one
 -- has, nothing more is said. By the lines in their order. Assumes nothing.
-use Prim.Native.Nat.{ℕ, zero, suc, ◌+◌, ◌<◌}
-use mathlib.Core.List.{List, [], ◌∷◌, ◌++◌, append-nil, append_assoc}
-use mathlib.Core.Logic.{◌⊎◌, inl, inr}
-use mathlib.Core.Path.{◌≡◌, refl, sym, ap, subst, ◌∙◌}
-use native.Mathlib.Omega.{arith}
-use lib.ListN.{length, take, get_or}
-use Rattle.base.specs.declared.refusal.Verdict.{Verdict}
-use Rattle.base.specs.declared.refusal.Verdict.TheVariants.{Accepted, Refused}
+use Rattle.std.proofs.Common.{Err, Ok, ℕ, zero, suc, ◌+◌, ◌<◌, List, [], ◌∷◌, ◌++◌, append-nil, append_assoc, ◌⊎◌, inl, inr, ◌≡◌, refl, sym, ap, subst, ◌∙◌, arith, length, take, get_or}
+use Rattle.base.specs.Refusal.{Verdict}
+use Rattle.worksheet.specs.declared.desks.Worksheet.{Worksheet}
 use Rattle.worksheet.specs.Desks.{open_of}
 use Rattle.worksheet.specs.Showing.{Source}
 use Rattle.wording.specs.declared.line.Line.{Line}
@@ -17,52 +12,54 @@ use Rattle.wording.specs.Line.{line_in}
 use Rattle.wording.specs.Written.{inputs_written}
 use Rattle.listing.specs.Spoken.{spoken_verdict}
 use Rattle.sitting.specs.declared.Sitting.{Sitting}
-use Rattle.sitting.specs.declared.Stage.{Stage}
-use Rattle.sitting.specs.declared.Stage.TheVariants.{Waiting, Open, Ended}
-use Rattle.sitting.specs.Sitting.{Hearing, stage_after, opened_by, hear_open, hear_call, hear_wrong, hear_line, hearing}
+use Rattle.sitting.specs.declared.Sitting.TheVariants.{Waiting, Open, Ended}
+use Rattle.sitting.specs.Sitting.{Hearing, sitting_after, opened_by, hear_open, hear_call, hear_wrong, hear_line, hearing}
 use Rattle.auditing.specs.Gathered.{text_lines, Told, waiting, sits, ended, opened_told, telling, told_from, told_by}
 use Rattle.results.specs.Heard.{EndingText, no_call, open_again, not_open, open_refused, heard_from, heard_by, line_after, EndedAt}
 
 -- the journal has ended, and nothing is said
 abbrev Silent : Hearing → Type 0
-Silent h = (h.text ≡ []) × (h.sitting.stage ≡ Ended)
+Silent h = (h.text ≡ []) × (h.sitting ≡ Ended)
 
 -- nothing has ended it
 abbrev Going : Told → Sitting → Type 0
-Going waiting s = s.stage ≡ Waiting
-Going (sits o at cs) s = s.stage ≡ Open
+Going waiting s = s ≡ Waiting
+Going (sits o at cs) s = (w : Worksheet) × (s ≡ Open w)
 Going ended s = ⊥
 
 -- line n ends it
 record Ends (n : ℕ) (t : Told) (l : Line) (h : Hearing) : Type 0 where
   told : telling n t l ≡ ended
-  stage : h.sitting.stage ≡ Ended
+  sitting : h.sitting ≡ Ended
   text : EndingText n t l h.text
 
 abbrev Next : ℕ → Told → Line → Hearing → Type 0
 Next n t l h = Ends n t l h ⊎ Going (telling n t l) h.sitting
 
 opened : (n : ℕ) (o : WrittenInputs) (v : Verdict) → (open_of (inputs_written o)).answer ≡ v → Next n waiting (line.Open o) (opened_by n o)
-opened n o Accepted a =
+opened n o (Ok _) a =
     let w = (open_of (inputs_written o)).sheet in
-    inr (subst (λ (v : Verdict). Going (opened_told n o v) (record { stage = stage_after v; sheet = w })) (sym a) refl)
-opened n o (Refused why) a =
+    inr (subst (λ (v : Verdict). Going (opened_told n o v) (sitting_after v w)) (sym a) (w, refl))
+opened n o (Err why) a =
     inl (record {
       told = ap (opened_told n o) a;
-      stage = ap stage_after a;
+      sitting = ap (λ (v : Verdict). sitting_after v (open_of (inputs_written o)).sheet) a;
       text = subst (λ (v : Verdict). EndingText n waiting (line.Open o) (spoken_verdict n v)) (sym a) (open_refused a);
     })
 
 module _ (source : Source) where
   -- ---- after the end
 
-  pub silent_line : (n : ℕ) (s : Sitting) (l : Line) → s.stage ≡ Ended → Silent (hear_line source n s l)
-  silent_line n s line.Blank e = (refl, e)
-  silent_line n s (line.Open o) e = subst (λ (x : Stage). Silent (hear_open n o x s)) (sym e) (refl, refl)
-  silent_line n s (line.Call c) e = subst (λ (x : Stage). Silent (hear_call source n c x s)) (sym e) (refl, refl)
-  silent_line n s (line.Wrong f) e = subst (λ (x : Stage). Silent (hear_wrong n f x s)) (sym e) (refl, refl)
+  pub silent_line : (n : ℕ) (s : Sitting) (l : Line) → s ≡ Ended → Silent (hear_line source n s l)
+  silent_line n s l e = subst (λ (x : Sitting). Silent (hear_line source n x l)) (sym e) (at_end l)
+    where
+      at_end : (l : Line) → Silent (hear_line source n Ended l)
+      at_end line.Blank = (refl, refl)
+      at_end (line.Open o) = (refl, refl)
+      at_end (line.Call c) = (refl, refl)
+      at_end (line.Wrong f) = (refl, refl)
 
-  silent : (n : ℕ) (s : Sitting) (ls : List (List ℕ)) → s.stage ≡ Ended → (heard_from source n s ls).text ≡ []
+  silent : (n : ℕ) (s : Sitting) (ls : List (List ℕ)) → s ≡ Ended → (heard_from source n s ls).text ≡ []
   unfolding heard_from hearing
   silent n s [] e = refl
   silent n s (l ∷ ls) e =
@@ -75,23 +72,23 @@ module _ (source : Source) where
   next : (n : ℕ) (t : Told) (s : Sitting) (l : Line) → Going t s → Next n t l (hear_line source n s l)
   next n waiting s line.Blank g = inr g
   next n waiting s (line.Open o) g =
-      subst (λ (x : Stage). Next n waiting (line.Open o) (hear_open n o x s)) (sym g)
+      subst (λ (x : Sitting). Next n waiting (line.Open o) (hear_open n o x)) (sym g)
       (opened n o (open_of (inputs_written o)).answer refl)
   next n waiting s (line.Call c) g =
-      subst (λ (x : Stage). Next n waiting (line.Call c) (hear_call source n c x s)) (sym g)
-      (inl (record { told = refl; stage = refl; text = not_open }))
+      subst (λ (x : Sitting). Next n waiting (line.Call c) (hear_call source n c x)) (sym g)
+      (inl (record { told = refl; sitting = refl; text = not_open }))
   next n waiting s (line.Wrong f) g =
-      subst (λ (x : Stage). Next n waiting (line.Wrong f) (hear_wrong n f x s)) (sym g)
-      (inl (record { told = refl; stage = refl; text = no_call }))
+      subst (λ (x : Sitting). Next n waiting (line.Wrong f) (hear_wrong n f x)) (sym g)
+      (inl (record { told = refl; sitting = refl; text = no_call }))
   next n (sits o at cs) s line.Blank g = inr g
   next n (sits o at cs) s (line.Open p) g =
-      subst (λ (x : Stage). Next n (sits o at cs) (line.Open p) (hear_open n p x s)) (sym g)
-      (inl (record { told = refl; stage = refl; text = open_again }))
+      subst (λ (x : Sitting). Next n (sits o at cs) (line.Open p) (hear_open n p x)) (sym g.1)
+      (inl (record { told = refl; sitting = refl; text = open_again }))
   next n (sits o at cs) s (line.Call c) g =
-      subst (λ (x : Stage). Next n (sits o at cs) (line.Call c) (hear_call source n c x s)) (sym g) (inr refl)
+      subst (λ (x : Sitting). Next n (sits o at cs) (line.Call c) (hear_call source n c x)) (sym g.1) (inr (_, refl))
   next n (sits o at cs) s (line.Wrong f) g =
-      subst (λ (x : Stage). Next n (sits o at cs) (line.Wrong f) (hear_wrong n f x s)) (sym g)
-      (inl (record { told = refl; stage = refl; text = no_call }))
+      subst (λ (x : Sitting). Next n (sits o at cs) (line.Wrong f) (hear_wrong n f x)) (sym g.1)
+      (inl (record { told = refl; sitting = refl; text = no_call }))
   next n ended s l g = absurd g
 
   -- ---- the line
@@ -135,7 +132,7 @@ module _ (source : Source) where
           not_ended = λ e. subst (λ (y : Told). Going y s) e g;
           ended_by = x.told;
           said =
-              ap (λ (y : List ℕ). first.text ++ y) (silent (suc n) first.sitting (take k ls) x.stage)
+              ap (λ (y : List ℕ). first.text ++ y) (silent (suc n) first.sitting (take k ls) x.sitting)
               ∙ append-nil first.text;
           ending = x.text;
         }
@@ -175,10 +172,10 @@ module _ (source : Source) where
 
   -- THE LINE that ended a journal
   pub ended_at :
-      (s : Sitting) (text : List ℕ) (k : ℕ) → s.stage ≡ Waiting → told_by text k ≡ ended →
-      (heard_by source s text k).sitting.stage ≡ Ended → EndedAt source s text k
+      (s : Sitting) (text : List ℕ) (k : ℕ) → s ≡ Waiting → told_by text k ≡ ended →
+      (heard_by source s text k).sitting ≡ Ended → EndedAt source s text k
   unfolding told_by
-  ended_at s text k g e stage =
+  ended_at s text k g e sitting =
       let c = cut 1 waiting s (text_lines text) k g e in
       let m = c.before in
       let number : c.number ≡ suc m = omega (arith, c.counted) in
@@ -197,5 +194,5 @@ module _ (source : Source) where
             (λ (x : ℕ).
             EndingText x (told_by text m) (line_in (line_after text m)) (hearing source x on (line_after text m)).text)
             number c.ending;
-        stage = stage;
+        sitting = sitting;
       }

@@ -1,12 +1,8 @@
--- Journals heard by computation, on any worksheet and over any files. Assumes nothing.
-use Prim.Native.Nat.{ℕ}
-use mathlib.Core.Bool.{true, false}
-use mathlib.Core.List.{List, [], ◌∷◌}
-use mathlib.Core.Path.{◌≡◌, refl}
+-- Journals heard by computation, over any files. Assumes nothing.
+use Rattle.std.proofs.Common.{ℕ, Bool, true, false, List, [], ◌∷◌, ◌≡◌, refl}
 use lib.Ieee.{le, round}
 use Rattle.base.specs.Single.{decimal, minus_decimal}
 use Rattle.base.specs.Ranges.{month_check, hour_check, latitude_check, longitude_check, model_check}
-use Rattle.worksheet.specs.declared.desks.Worksheet.{Worksheet}
 use Rattle.worksheet.specs.Inputs.{sunspot_check, factor_check, flag_check, route_check, factors_check, pole_check, inputs_check}
 use Rattle.worksheet.specs.Desks.{draft_at, with_draft, outcome, desk_check, closed_check, fresh_sheet, open_of, begin_check, begin_of}
 use Rattle.worksheet.specs.Showing.{Source}
@@ -15,15 +11,16 @@ use Rattle.wording.specs.declared.number.Decimal.{Decimal}
 use Rattle.wording.specs.declared.written.WrittenCall.TheVariants.{Begin}
 use Rattle.wording.specs.declared.written.WrittenInputs.{WrittenInputs}
 use Rattle.wording.specs.Number.{all_digits, value_from, before_point, after_point, is_unsigned, unsigned_in, number_in, float_of}
-use Rattle.wording.specs.Token.{ascii, same, uncommented, words_from, name_from, token_of, slots_of, first_tokens, tokens_of, token_at}
-use Rattle.wording.specs.Line.{usual_factors, usual_pole, word_fit, number_fit, whole_fit, end_fit, decimal_at, whole_at, pair_fit, route_fit, route_at, route_end, head_fit, factors_start, pole_start, model_start, open_end, factors_fit, pole_fit, models_fit, open_fit, opening_factors, opening_pole, opening_model, opening_at, deed_line, word_line, number_line, line_in}
+use Rattle.wording.specs.Token.{ascii, uncommented, words_from, word_named, token_of, first_tokens, tokens_of, token_at}
+use Rattle.wording.specs.Line.{usual_factors, usual_pole, whole_at, pair_fit, route_fit, route_at, route_end, head_fit, factors_start, pole_start, model_start, open_end, factors_fit, pole_fit, models_fit, open_fit, opening_factors, opening_pole, opening_model, opening_at, deed_line, word_line, number_line, line_in}
 use Rattle.wording.specs.Written.{route_written, factors_written, pole_written, inputs_written, call_written}
 use Rattle.listing.specs.Text.{digit_of, has_digit, digit_at, digits_below}
 use Rattle.listing.specs.Reason.{refused_words}
 use Rattle.listing.specs.Survey.{refused_line}
 use Rattle.listing.specs.Spoken.{line_mark, verdict_words, spoken_text, spoken_verdict, inputs_asked}
 use Rattle.listing.specs.Fault.{unopened_text}
-use Rattle.sitting.specs.declared.Stage.TheVariants.{Waiting, Open, Ended}
+use Rattle.sitting.specs.declared.Sitting.{Sitting}
+use Rattle.sitting.specs.declared.Sitting.TheVariants.{Waiting, Open, Ended}
 use Rattle.sitting.specs.Sitting.{Hearing, hearing}
 use Rattle.auditing.specs.Gathered.{Told, waiting, sits, told_from}
 use Rattle.results.specs.Heard.{heard_from}
@@ -31,12 +28,17 @@ use Rattle.results.specs.Heard.{heard_from}
 -- ---- what is open to computation
 
 told : List (List ℕ) → Told
-unfolding told_from all_digits value_from before_point after_point is_unsigned unsigned_in number_in float_of same uncommented words_from name_from token_of slots_of first_tokens tokens_of token_at word_fit number_fit whole_fit end_fit decimal_at whole_at pair_fit route_fit route_at route_end head_fit factors_start pole_start model_start open_end factors_fit pole_fit models_fit open_fit opening_factors opening_pole opening_model opening_at deed_line word_line number_line line_in route_written factors_written pole_written inputs_written sunspot_check factor_check flag_check route_check factors_check pole_check inputs_check month_check hour_check latitude_check longitude_check model_check open_of decimal minus_decimal round le
+unfolding told_from all_digits value_from before_point after_point is_unsigned unsigned_in number_in float_of uncommented words_from word_named token_of first_tokens tokens_of token_at whole_at pair_fit route_fit route_at route_end head_fit factors_start pole_start model_start open_end factors_fit pole_fit models_fit open_fit opening_factors opening_pole opening_model opening_at deed_line word_line number_line line_in route_written factors_written pole_written inputs_written sunspot_check factor_check flag_check route_check factors_check pole_check inputs_check month_check hour_check latitude_check longitude_check model_check open_of decimal minus_decimal round le
 told ls = told_from 1 waiting ls
 
-heard : Source → Worksheet → List (List ℕ) → Hearing
-unfolding heard_from hearing all_digits value_from before_point after_point is_unsigned unsigned_in number_in float_of same uncommented words_from name_from token_of slots_of first_tokens tokens_of token_at word_fit number_fit whole_fit end_fit decimal_at whole_at pair_fit route_fit route_at route_end head_fit factors_start pole_start model_start open_end factors_fit pole_fit models_fit open_fit opening_factors opening_pole opening_model opening_at deed_line word_line number_line line_in route_written factors_written pole_written inputs_written call_written sunspot_check factor_check flag_check route_check factors_check pole_check inputs_check month_check hour_check latitude_check longitude_check model_check draft_at with_draft outcome desk_check closed_check fresh_sheet open_of begin_check begin_of step spoken_text spoken_verdict inputs_asked line_mark verdict_words refused_line refused_words digits_below digit_at has_digit digit_of decimal minus_decimal round le unopened_text
-heard source w ls = heard_from source 1 (record { stage = Waiting; sheet = w }) ls
+heard : Source → List (List ℕ) → Hearing
+unfolding heard_from hearing all_digits value_from before_point after_point is_unsigned unsigned_in number_in float_of uncommented words_from word_named token_of first_tokens tokens_of token_at whole_at pair_fit route_fit route_at route_end head_fit factors_start pole_start model_start open_end factors_fit pole_fit models_fit open_fit opening_factors opening_pole opening_model opening_at deed_line word_line number_line line_in route_written factors_written pole_written inputs_written call_written sunspot_check factor_check flag_check route_check factors_check pole_check inputs_check month_check hour_check latitude_check longitude_check model_check draft_at with_draft outcome desk_check closed_check fresh_sheet open_of begin_check begin_of step spoken_text spoken_verdict inputs_asked line_mark verdict_words refused_line refused_words digits_below digit_at has_digit digit_of decimal minus_decimal round le unopened_text
+heard source ls = heard_from source 1 Waiting ls
+
+abbrev is_open : Sitting → Bool
+is_open Waiting = false
+is_open (Open w) = true
+is_open Ended = false
 
 -- ---- an open, and two calls of which one is refused
 
@@ -76,10 +78,10 @@ monday_told :
 unfolding told
 monday_told = refl
 
-module _ (source : Source) (w : Worksheet) where
+module _ (source : Source) where
   monday_heard :
-      ((heard source w monday).sitting.stage ≡ Open)
-      × ((heard source w monday).text
+      (is_open (heard source monday).sitting ≡ true)
+      × ((heard source monday).text
       ≡ ascii "line 2: accepted\nline 3: accepted\nline 4: refused 15 0: the desk has a draft already\n")
   unfolding heard
   monday_heard = (refl, refl)
@@ -87,7 +89,7 @@ module _ (source : Source) (w : Worksheet) where
   -- ---- a call before the open
 
   early_heard :
-      ((heard source w (ascii "1 begin" ∷ [])).sitting.stage ≡ Ended)
-      × ((heard source w (ascii "1 begin" ∷ [])).text ≡ ascii "line 1: no call: a journal begins with open\n")
+      ((heard source (ascii "1 begin" ∷ [])).sitting ≡ Ended)
+      × ((heard source (ascii "1 begin" ∷ [])).text ≡ ascii "line 1: no call: a journal begins with open\n")
   unfolding heard
   early_heard = (refl, refl)

@@ -1,15 +1,11 @@
 -- What is heard of lines is what they told: with every line more, by what the line is and what was
 -- told before it. Assumes nothing.
-use Prim.Native.Nat.{ℕ, suc}
-use mathlib.Core.List.{List, [], ◌∷◌, ◌++◌, append-nil, append_assoc}
-use mathlib.Core.Path.{◌≡◌, refl, sym, ap, subst, ◌∙◌}
-use lib.ListN.{take}
-use Rattle.base.specs.declared.refusal.Verdict.{Verdict}
-use Rattle.base.specs.declared.refusal.Verdict.TheVariants.{Accepted, Refused}
+use Rattle.std.proofs.Common.{Err, Ok, ℕ, suc, List, [], ◌∷◌, ◌++◌, append-nil, append_assoc, ◌≡◌, refl, sym, ap, subst, ◌∙◌, take}
+use Rattle.base.specs.Refusal.{Verdict}
 use Rattle.worksheet.specs.declared.desks.Worksheet.{Worksheet}
 use Rattle.worksheet.specs.Desks.{open_of}
 use Rattle.worksheet.specs.Showing.{Source}
-use Rattle.worksheet.specs.Journal.{run, step}
+use Rattle.worksheet.specs.Journal.{run}
 use Rattle.wording.specs.declared.line.Fault.{Fault}
 use Rattle.wording.specs.declared.line.Line.{Line}
 use Rattle.wording.specs.declared.line.Line.TheVariants as line
@@ -19,30 +15,29 @@ use Rattle.wording.specs.Line.{line_in}
 use Rattle.wording.specs.Written.{inputs_written}
 use Rattle.listing.specs.Spoken.{spoken_verdict}
 use Rattle.sitting.specs.declared.Sitting.{Sitting}
-use Rattle.sitting.specs.declared.Stage.{Stage}
-use Rattle.sitting.specs.declared.Stage.TheVariants.{Waiting, Open, Ended}
-use Rattle.sitting.specs.Sitting.{Hearing, stage_after, opened_by, made_by, hear_open, hear_wrong, hear_call, hear_line, hearing}
+use Rattle.sitting.specs.declared.Sitting.TheVariants.{Waiting, Open, Ended}
+use Rattle.sitting.specs.Sitting.{Hearing, sitting_after, opened_by, made_by, hear_open, hear_wrong, hear_call, hear_line, hearing}
 use Rattle.auditing.specs.Gathered.{text_lines, Numbered, Told, waiting, sits, ended, opened_told, telling, told_from, told_by, calls_told, sheet_opened, run_told}
 use Rattle.auditing.proofs.journals.Runs.{sheet_more}
 use Rattle.results.specs.Heard.{heard_from, heard_by, said_of, HeardRun}
-use Rattle.results.proofs.hearings.Said.{call_of, answer_said, said_more}
+use Rattle.results.proofs.hearings.Said.{answer_said, said_more}
 use Rattle.results.proofs.hearings.Endings.{silent_line}
 
 -- two hearings, the second on the sitting that the first left
 abbrev after : Hearing → Hearing → Hearing
 after g h = record { sitting = h.sitting; text = g.text ++ h.text }
 
-wrong_ends : (n : ℕ) (f : Fault) (x : Stage) (s : Sitting) → (hear_wrong n f x s).sitting.stage ≡ Ended
-wrong_ends n f Waiting s = refl
-wrong_ends n f Open s = refl
-wrong_ends n f Ended s = refl
+wrong_ends : (n : ℕ) (f : Fault) (s : Sitting) → (hear_wrong n f s).sitting ≡ Ended
+wrong_ends n f Waiting = refl
+wrong_ends n f (Open w) = refl
+wrong_ends n f Ended = refl
 
-module _ (source : Source) (s : Sitting) (unopened : s.stage ≡ Waiting) where
+module _ (source : Source) (s : Sitting) (unopened : s ≡ Waiting) where
   -- of what was told, heard on the sitting s
   unfoldable pub HeardAs : Told → Hearing → Type 0
   HeardAs waiting h = (h.sitting ≡ s) × (h.text ≡ [])
   HeardAs (sits o at cs) h = HeardRun source o at cs h
-  HeardAs ended h = h.sitting.stage ≡ Ended
+  HeardAs ended h = h.sitting ≡ Ended
 
   -- ---- the first call
 
@@ -50,17 +45,17 @@ module _ (source : Source) (s : Sitting) (unopened : s.stage ≡ Waiting) where
       (n : ℕ) (o : WrittenInputs) (h : Hearing) → h.text ≡ [] → (v : Verdict) → (open_of (inputs_written o)).answer ≡ v →
       HeardAs (opened_told n o v) (after h (opened_by n o))
   unfolding HeardAs said_of run calls_told
-  opened_as_law n o h e Accepted a =
+  opened_as_law n o h e (Ok _) a =
       let w = open_of (inputs_written o) in
       record {
-        stage = ap stage_after a;
-        sheet = refl;
+        sitting = ap (λ (v : Verdict). sitting_after v w.sheet) a;
         text =
             ap (λ (l : List ℕ). l ++ spoken_verdict n w.answer) e
             ∙ ap (spoken_verdict n) a
-            ∙ sym (append-nil (spoken_verdict n Accepted));
+            ∙ sym (append-nil (spoken_verdict n (Ok tt)));
       }
-  opened_as_law n o h e (Refused why) a = ap stage_after a
+  opened_as_law n o h e (Err why) a =
+      ap (λ (v : Verdict). sitting_after v (open_of (inputs_written o)).sheet) a
 
   first_as :
       (n : ℕ) (h : Hearing) (l : Line) → h.sitting ≡ s → h.text ≡ [] →
@@ -69,13 +64,11 @@ module _ (source : Source) (s : Sitting) (unopened : s.stage ≡ Waiting) where
   first_as n h line.Blank p e = (p, append-nil h.text ∙ e)
   first_as n h (line.Open o) p e =
       let v = (open_of (inputs_written o)).answer in
-      let q = ap (λ (x : Sitting). x.stage) p ∙ unopened in
-      subst (λ (x : Stage). HeardAs (opened_told n o v) (after h (hear_open n o x h.sitting))) (sym q)
+      subst (λ (x : Sitting). HeardAs (opened_told n o v) (after h (hear_open n o x))) (sym (p ∙ unopened))
       (opened_as_law n o h e v refl)
   first_as n h (line.Call c) p e =
-      let q = ap (λ (x : Sitting). x.stage) p ∙ unopened in
-      subst (λ (x : Stage). (hear_call source n c x h.sitting).sitting.stage ≡ Ended) (sym q) refl
-  first_as n h (line.Wrong f) p e = wrong_ends n f h.sitting.stage h.sitting
+      subst (λ (x : Sitting). (hear_call source n c x).sitting ≡ Ended) (sym (p ∙ unopened)) refl
+  first_as n h (line.Wrong f) p e = wrong_ends n f h.sitting
 
   -- ---- a call after it
 
@@ -83,18 +76,16 @@ module _ (source : Source) (s : Sitting) (unopened : s.stage ≡ Waiting) where
       (n : ℕ) (o : WrittenInputs) (at : ℕ) (cs : List Numbered) (c : WrittenCall) (h : Hearing) →
       HeardRun source o at cs h →
       HeardRun source o at (cs ++ (record { call = c; line = n } ∷ []))
-      (after h (made_by source n c h.sitting.sheet))
+      (after h (made_by source n c (run_told source o cs).sheet))
   made_as n o at cs c h g =
       let x : Numbered = record { call = c; line = n } in
-      let opened = spoken_verdict at Accepted in
+      let opened = spoken_verdict at (Ok tt) in
       let said = said_of source (sheet_opened o) cs in
       let v = (run_told source o cs).sheet in
       record {
-        stage = refl;
-        sheet = ap (λ (w : Worksheet). (step source (call_of x) w).sheet) g.sheet ∙ sym (sheet_more source o cs x);
+        sitting = ap (λ (w : Worksheet). Open w) (sym (sheet_more source o cs x));
         text =
-            ap (λ (l : List ℕ). l ++ answer_said source x h.sitting.sheet) g.text
-            ∙ ap (λ (w : Worksheet). (opened ++ said) ++ answer_said source x w) g.sheet
+            ap (λ (l : List ℕ). l ++ answer_said source x v) g.text
             ∙ append_assoc opened said (answer_said source x v)
             ∙ sym (ap (λ (l : List ℕ). opened ++ l) (said_more source (sheet_opened o) cs x));
       }
@@ -104,14 +95,14 @@ module _ (source : Source) (s : Sitting) (unopened : s.stage ≡ Waiting) where
       HeardAs (telling n (sits o at cs) l) (after h (hear_line source n h.sitting l))
   unfolding HeardAs
   next_as n o at cs h line.Blank g =
-      record { stage = g.stage; sheet = g.sheet; text = append-nil h.text ∙ g.text }
+      record { sitting = g.sitting; text = append-nil h.text ∙ g.text }
   next_as n o at cs h (line.Open p) g =
-      subst (λ (x : Stage). (hear_open n p x h.sitting).sitting.stage ≡ Ended) (sym g.stage) refl
+      subst (λ (x : Sitting). (hear_open n p x).sitting ≡ Ended) (sym g.sitting) refl
   next_as n o at cs h (line.Call c) g =
       let more = cs ++ (record { call = c; line = n } ∷ []) in
-      subst (λ (x : Stage). HeardRun source o at more (after h (hear_call source n c x h.sitting)))
-      (sym g.stage) (made_as n o at cs c h g)
-  next_as n o at cs h (line.Wrong f) g = wrong_ends n f h.sitting.stage h.sitting
+      subst (λ (x : Sitting). HeardRun source o at more (after h (hear_call source n c x)))
+      (sym g.sitting) (made_as n o at cs c h g)
+  next_as n o at cs h (line.Wrong f) g = wrong_ends n f h.sitting
 
   -- ---- lines
 

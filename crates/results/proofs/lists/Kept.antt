@@ -1,12 +1,10 @@
 -- What the shorter list holds: every accepted commit and take-back and every showing of 0, in their
 -- order, each commit with its own calls just before it, and nothing else. By going through the full
 -- list. Assumes nothing.
-use Prim.Native.Nat.{ℕ}
-use mathlib.Core.Bool.{Bool, true, false, cond, not, ◌&&◌, false≢true}
+use Rattle.std.proofs.Common.{ℕ, Bool, true, false, cond, not, ◌&&◌, List, [], ◌∷◌, ◌++◌, reverse, append-nil, append_assoc, ◌⊎◌, inl, inr, ◌≡◌, refl, sym, ap, ap₂, subst, ◌∙◌}
+use mathlib.Core.Bool.{false≢true}
 use mathlib.Core.List.Memᴰ
-use mathlib.Core.List.{List, [], ◌∷◌, ◌++◌, reverse, reverse_aux, append-nil, append_assoc, reverse-cons, reverse-reverse, Memᴰ}
-use mathlib.Core.Logic.{◌⊎◌, inl, inr}
-use mathlib.Core.Path.{◌≡◌, refl, sym, ap, ap₂, subst, ◌∙◌}
+use mathlib.Core.List.{reverse_aux, reverse-cons, reverse-reverse, Memᴰ}
 use Rattle.worksheet.specs.declared.desks.Worksheet.{Worksheet}
 use Rattle.worksheet.specs.Showing.{Source}
 use Rattle.worksheet.specs.Journal.{Call, commit, Role, beginning, ending, settling, belonging, returning, showing, role_of, Entry, accepted, role_in, good, run, is_begin, is_own, begins, belongs, own, kept_for, shorter, kept_of, keep, none, is_kept_by_itself, kept_by_itself, OwnCall}

@@ -1,14 +1,8 @@
 -- Bounds of atan, acos, sin and cos as document 01 steps them, by interval arithmetic: three
 -- halvings take [0, 1] into [0, 1/8], the quarter turns off leave 7/4 at most, and there a series'
 -- ends are computed. Assumes nothing.
-use mathlib.Core.Path.{◌≡◌, refl, sym, ap, ◌∙◌, subst}
-use mathlib.Core.Logic.{inl, inr}
-use mathlib.Core.Bool.{Bool, true, false, not, cond}
-use mathlib.Core.List.{[], ◌∷◌}
-use Prim.Native.Nat.{ℕ, zero, suc}
-use lib.Dec.{T}
-use lib.IntN.{pos, negsuc}
-use lib.Ieee.{Float, fin, binary64, round, add, sub, mul, div, neg, lt, le, is_nan}
+use Rattle.std.proofs.Common.{◌≡◌, refl, sym, ap, ◌∙◌, subst, inl, inr, Bool, true, false, not, cond, [], ◌∷◌, ℕ, zero, suc, T, pos, negsuc, Float}
+use lib.Ieee.{fin, binary64, round, add, sub, mul, div, neg, lt, le, is_nan}
 use lib.Ieee.Bits.{is_true}
 use lib.Ieee.Scale.{finite}
 use lib.Ieee.Positive.{above_of_le}

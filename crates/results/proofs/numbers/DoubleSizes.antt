@@ -1,10 +1,7 @@
 -- `Sized` for what `Sizes` leaves out: sums and products in binary64, narrowing, and quotients.
 -- Assumes nothing.
-use mathlib.Core.Path.{sym, subst}
-use mathlib.Core.Bool.{Bool, true, false, cond}
-use mathlib.Core.List.{[], ◌∷◌}
-use lib.Dec.{T}
-use lib.Ieee.{Float, binary32, binary64, neg, add, mul, le}
+use Rattle.std.proofs.Common.{sym, subst, Bool, true, false, cond, [], ◌∷◌, T, Float}
+use lib.Ieee.{binary32, binary64, neg, add, mul, le}
 use lib.Ieee.Scale.{finite}
 use lib.Ieee.Positive.{positive}
 use Rattle.base.specs.Single.{◌⊘◌}

@@ -1,15 +1,7 @@
 -- The logarithm of an f32 above zero is at most 512 in size: its exponent is at most 256, and the
 -- rest of it, the digits from 1 to 2, gives at most 2. Assumes nothing.
-use mathlib.Core.Path.{◌≡◌, refl, sym, ap, subst, ◌∙◌}
-use mathlib.Core.Bool.{Bool, true, false, not, ◌&&◌, cond}
-use mathlib.Core.List.{[], ◌∷◌}
-use Prim.Native.Nat.{ℕ, zero, suc, ◌+◌, ◌-◌, ◌*◌, ◌%◌, ◌^◌, ◌≤◌, ◌<◌}
-use native.Mathlib.Nat.{le_trans, le_of_eq, lt_of_lt_of_le, lt_of_le_of_lt, lt_of_not-le, not-le_of_lt, mul-one, one-mul, mul-le-mul_right}
-use native.Mathlib.Omega.{arith}
-use lib.Dec.{T, ltb, leb, eqb, ltb→lt, nltb→le, leb→le, lit<}
-use lib.IntN.{ℤ, pos, negsuc, ◌+ℤ◌}
-use lib.Pow.{pow-add, pow_pos, pow_mono}
-use lib.Ieee.{Float, nan, inf, fin, binary32, binary64, up, down, size, round, neg, add, sub, mul, div, le, of_int, fits}
+use Rattle.std.proofs.Common.{◌≡◌, refl, sym, ap, subst, ◌∙◌, Bool, true, false, not, ◌&&◌, cond, [], ◌∷◌, ℕ, zero, suc, ◌+◌, ◌-◌, ◌*◌, ◌%◌, ◌^◌, ◌≤◌, ◌<◌, le_trans, le_of_eq, lt_of_lt_of_le, lt_of_le_of_lt, lt_of_not-le, not-le_of_lt, mul-one, one-mul, mul-le-mul_right, arith, T, ltb, leb, eqb, ltb→lt, nltb→le, leb→le, lit<, ℤ, pos, negsuc, ◌+ℤ◌, pow-add, pow_pos, pow_mono, Float}
+use lib.Ieee.{nan, inf, fin, binary32, binary64, up, down, size, round, neg, add, sub, mul, div, le, of_int, fits}
 use lib.Ieee.Digits.{size-lt, size_reaches}
 use lib.Ieee.Fits.{and_l, and_r}
 use lib.Ieee.Order.{round_mono}

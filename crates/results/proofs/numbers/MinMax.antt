@@ -1,16 +1,10 @@
 -- Document 01, Figures: 'Where `min` or `max` meets one NaN it gives the other operand; of equals,
 -- the left'; otherwise it gives the lesser or the greater. Two numbers are equal or one is less,
 -- and never two of these, so that these laws leave one `min` and one `max`. Assumes nothing.
-use mathlib.Core.Path.{◌≡◌, refl, sym, ap, ◌∙◌, subst}
-use mathlib.Core.Logic.{◌⊎◌, inl, inr}
-use mathlib.Core.Bool.{Bool, true, false, not, ◌||◌}
-use Prim.Native.Nat.{◌+◌, ◌*◌}
-use native.Mathlib.Omega.{arith}
-use lib.Dec.{T, eqb, ltb→lt, eqb→eq}
-use lib.Ieee.{Float, nan, inf, fin, up, down, lt, eq, le, is_nan}
+use Rattle.std.proofs.Common.{◌≡◌, refl, sym, ap, ◌∙◌, subst, ◌⊎◌, inl, inr, Bool, true, false, not, ◌||◌, ◌+◌, ◌*◌, arith, T, eqb, ltb→lt, eqb→eq, Float, le-ltb}
+use lib.Ieee.{nan, inf, fin, up, down, lt, eq, le, is_nan}
 use lib.Ieee.Fits.{and_l, and_r}
 use lib.Ieee.Bits.{is_true}
-use borrow.Author.Tests.{le-ltb}
 use Rattle.base.specs.Number.{min_of, max_of}
 use Rattle.results.specs.ElementarySteps.{Chooses}
 use Rattle.base.proofs.verdicts.Picks.{cond_true, cond_false}

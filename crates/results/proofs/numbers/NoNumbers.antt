@@ -1,8 +1,8 @@
 -- Document 01, Elementary steps: 'Any NaN gives NaN', of the root and the elementary functions in
 -- both formats, and of the four operations with a NaN on either side. Comparisons with a NaN fail,
 -- and what is then worked out is a NaN at its first step. Assumes nothing.
-use mathlib.Core.Path.{◌≡◌, refl, ap}
-use lib.Ieee.{Float, nan, inf, fin, Format, neg, add, sub, mul, div, lt, le, eq, round}
+use Rattle.std.proofs.Common.{◌≡◌, refl, ap, Float}
+use lib.Ieee.{nan, inf, fin, Format, neg, add, sub, mul, div, lt, le, eq, round}
 use Rattle.base.specs.Double.{fraction}
 use Rattle.base.specs.Number.{negative, abs_of, with_sign, narrow_of, sqrt_of}
 use Rattle.base.specs.Elementary.{horner, factorial, up_from, exp_terms, half_angle, atan_series, atan_within, atan_from, sin_of, cos_of, atan_of, acos_of, exp_within, exp_of, ln_of, sin32_of, cos32_of, atan32_of, acos32_of, exp32_of, ln32_of, elementary_functions}

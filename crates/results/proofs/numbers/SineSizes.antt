@@ -1,14 +1,8 @@
 -- The sine and the cosine of document 01's steps are at most 9/8 in size. What the quarter turns
 -- leave is at most 7/4. There the cosine's series is at most 1, and so is the sine's without its
 -- factor r; beyond 9/8 that factor is made good by r² itself, piece by piece. Assumes nothing.
-use mathlib.Core.Path.{◌≡◌, refl, sym, subst}
-use mathlib.Core.Logic.{inl, inr}
-use mathlib.Core.Bool.{Bool, true, false, not}
-use mathlib.Core.List.{List, [], ◌∷◌, map}
-use Prim.Native.Nat.{ℕ, zero, suc, ◌+◌, ◌*◌}
-use lib.Dec.{T}
-use lib.IntN.{pos, negsuc}
-use lib.Ieee.{Float, fin, binary64, round, add, mul, neg, le, is_nan}
+use Rattle.std.proofs.Common.{◌≡◌, refl, sym, subst, inl, inr, Bool, true, false, not, List, [], ◌∷◌, map, ℕ, zero, suc, ◌+◌, ◌*◌, T, pos, negsuc, Float}
+use lib.Ieee.{fin, binary64, round, add, mul, neg, le, is_nan}
 use lib.Ieee.Bits.{is_true}
 use lib.Ieee.Scale.{finite}
 use Rattle.base.specs.Double.{◌⊕◌, ◌⊗◌, fraction}

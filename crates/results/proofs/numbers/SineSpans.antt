@@ -1,9 +1,7 @@
 -- sin and cos of an interval whose numbers are n quarter turns from zero, by the steps of document
 -- 01 in `Spans`. Assumes nothing.
-use mathlib.Core.Path.{◌≡◌, sym, ap, ◌∙◌, subst}
-use Prim.Native.Nat.{ℕ, zero, suc, ◌^◌}
-use lib.Dec.{T}
-use lib.Ieee.{Float, binary64, le}
+use Rattle.std.proofs.Common.{◌≡◌, sym, ap, ◌∙◌, subst, ℕ, zero, suc, ◌^◌, T, Float}
+use lib.Ieee.{binary64, le}
 use lib.Ieee.Bits.{is_true}
 use Rattle.base.specs.Double.{◌⊗◌, fraction}
 use Rattle.base.specs.Number.{abs_of}

@@ -1,9 +1,7 @@
 -- Numbers of binary32 that are at most so large: one rule for each operation, whose test of the
 -- bounds a computation passes. Assumes nothing.
-use mathlib.Core.Bool.{not}
-use mathlib.Core.List.{[], ◌∷◌}
-use lib.Dec.{T}
-use lib.Ieee.{Float, binary32, neg, le, is_nan}
+use Rattle.std.proofs.Common.{not, [], ◌∷◌, T, Float}
+use lib.Ieee.{binary32, neg, le, is_nan}
 use lib.Ieee.Scale.{finite}
 use lib.Ieee.Fits.{and_i, and_l, and_r}
 use Rattle.base.specs.Single.{◌⊕◌, ◌⊖◌, ◌⊗◌}

@@ -1,16 +1,8 @@
 -- Intervals to compute with: [lo, hi] with finite ends, or nothing known. Each operation takes
 -- intervals that hold x and y to one that holds the result, since rounding keeps order. Assumes
 -- nothing.
-use mathlib.Core.Path.{◌≡◌, refl, sym, subst}
-use mathlib.Core.Logic.{inl, inr}
-use mathlib.Core.Bool.{Bool, true, false, not, ◌&&◌, cond}
-use mathlib.Core.List.{List, [], ◌∷◌}
-use Prim.Native.Nat.{ℕ, zero, suc, ◌<◌}
-use native.Mathlib.Nat.{mul-pos}
-use native.Mathlib.Omega.{arith}
-use lib.Dec.{T}
-use lib.ListN.{get_or, set}
-use lib.Ieee.{Float, nan, Format, binary64, add, sub, mul, neg, le, is_nan}
+use Rattle.std.proofs.Common.{◌≡◌, refl, sym, subst, inl, inr, Bool, true, false, not, ◌&&◌, cond, List, [], ◌∷◌, ℕ, zero, suc, ◌<◌, mul-pos, arith, T, get_or, set, Float}
+use lib.Ieee.{nan, Format, binary64, add, sub, mul, neg, le, is_nan}
 use lib.Ieee.Fits.{and_l, and_r}
 use lib.Ieee.Scale.{finite}
 use lib.Ieee.Positive.{den_pos}

@@ -1,16 +1,9 @@
 -- What is read off marks depends on the marks at the places that are looked at, and on no others: by
 -- going through those places. Assumes nothing.
-use Prim.Native.Nat.{ℕ, zero, suc, ◌+◌, ◌<◌, ◌≤◌}
-use mathlib.Core.Bool.{Bool, true, false, cond, ◌&&◌, ◌||◌}
-use mathlib.Core.List.{List, [], ◌∷◌, ◌++◌}
-use mathlib.Core.Path.{◌≡◌, refl, ap, ◌∙◌}
-use native.Mathlib.Omega.{arith}
-use lib.Dec.{eqb}
+use Rattle.std.proofs.Common.{Option, Some, ℕ, zero, suc, ◌+◌, ◌<◌, ◌≤◌, Bool, true, false, cond, ◌&&◌, ◌||◌, List, [], ◌∷◌, ◌++◌, ◌≡◌, refl, ap, ◌∙◌, arith, eqb}
 use Rattle.auditing.specs.declared.marks.Origin.{Origin}
 use Rattle.auditing.specs.declared.marks.Origin.TheVariants.{Set}
 use Rattle.auditing.specs.declared.marks.Fate.TheVariants.{Stands, TakenBack, Cancelled}
-use Rattle.auditing.specs.declared.marks.Refused.{Refused}
-use Rattle.auditing.specs.declared.marks.Refused.TheVariants.{At}
 use Rattle.auditing.specs.Marks.{mark_sort, mark_desk, is_done, is_done_by, is_own_mark, is_refused_commit, mark_at, change_before, origin_before, settled_from, fate_from, refused_from, own_places, kept_at, kept_places}
 
 -- the same marks at the places below n
@@ -80,7 +73,7 @@ module _ (ms ns : List ℕ) where
       cond (is_done_by 10 n m) (Cancelled at) (cond (is_done_by 9 n m) (settled t) (rest t))
 
   pub refused_alike :
-      (n : ℕ) (last : Refused) (at k : ℕ) → Alike ms ns (at + k) →
+      (n : ℕ) (last : Option ℕ) (at k : ℕ) → Alike ms ns (at + k) →
       refused_from ms n last at k ≡ refused_from ns n last at k
   unfolding refused_from
   refused_alike n last at zero same = refl
@@ -89,11 +82,11 @@ module _ (ms ns : List ℕ) where
       (λ t.
       let m = same at (omega arith) t in
       cond (is_done_by 10 n m || is_done_by 9 n m) last
-      (refused_from ms n (cond (is_refused_commit n m) (At at) last) (suc at) k))
+      (refused_from ms n (cond (is_refused_commit n m) (Some at) last) (suc at) k))
       ∙ (λ t.
       let m = mark_at ns at in
       cond (is_done_by 10 n m || is_done_by 9 n m) last
-      (refused_alike n (cond (is_refused_commit n m) (At at) last) (suc at) k less t))
+      (refused_alike n (cond (is_refused_commit n m) (Some at) last) (suc at) k less t))
 
   -- ---- the places kept
 

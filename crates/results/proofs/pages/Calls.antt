@@ -1,11 +1,6 @@
 -- The calls of the page's shorter journal, part after part, are its lines: the places in the buffer are
 -- those kept, and texts in turn are those of a list. Assumes nothing.
-use Prim.Native.Nat.{ℕ, zero, suc, ◌<◌, ◌≤◌, min}
-use mathlib.Core.List.{List, [], ◌∷◌, ◌++◌, append-nil, append_assoc}
-use mathlib.Core.Path.{◌≡◌, refl, sym, ap, ap₂, ◌∙◌}
-use native.Mathlib.Omega.{arith}
-use lib.ListN.{length, get_or, take}
-use lib.Seq.{get_or-take, take_all, take-suc}
+use Rattle.std.proofs.Common.{ℕ, zero, suc, ◌<◌, ◌≤◌, min, List, [], ◌∷◌, ◌++◌, append-nil, append_assoc, ◌≡◌, refl, sym, ap, ap₂, ◌∙◌, arith, length, get_or, take, get_or-take, take_all, take-suc}
 use Rattle.listing.specs.Fields.{in_turn}
 use Rattle.auditing.specs.Accounts.{number_at, line_account}
 use Rattle.results.specs.AuditPage.{Audited, lines_at, places_kept}

@@ -1,24 +1,14 @@
 -- The page's line of a draft: the fate and the last refused commit that the marks give are those of the
 -- entries, and their places are calls', so that the lines named are theirs. Assumes nothing.
-use Prim.Native.Nat.{ℕ, suc, ◌+◌, ◌-◌, ◌%◌, ◌^◌, ◌<◌, ◌≤◌}
-use mathlib.Core.Bool.{Bool, true, false, cond, ◌&&◌, and-true}
-use mathlib.Core.List.{List, [], ◌∷◌, ◌++◌}
-use mathlib.Core.Path.{◌≡◌, refl, sym, ap, ap₂, ◌∙◌}
-use native.Mathlib.Omega.{arith}
-use lib.Dec.{eqb}
-use lib.ListN.{length, length-append}
-use borrow.Author.Tests.{eqb-true, eq-eqb}
+use Rattle.std.proofs.Common.{None, Option, Some, ℕ, suc, ◌+◌, ◌-◌, ◌%◌, ◌^◌, ◌<◌, ◌≤◌, Bool, true, false, cond, ◌&&◌, List, [], ◌∷◌, ◌++◌, ◌≡◌, refl, sym, ap, ap₂, ◌∙◌, arith, eqb, length, length-append, eqb-true, eq-eqb}
+use mathlib.Core.Bool.{and-true}
 use Rattle.base.proofs.verdicts.Picks.{cond_true, cond_false}
 use Rattle.worksheet.specs.Journal.{Role, beginning, ending, settling, belonging, returning, showing, begin, Entry, role_in, good, begins}
 use Rattle.worksheet.proofs.drafts.Effects.{both_true, begun}
-use Rattle.listing.specs.declared.account.Balked.{Balked}
-use Rattle.listing.specs.declared.account.Balked.TheVariants as balked
 use Rattle.listing.specs.declared.account.Became.TheVariants as became
 use Rattle.listing.specs.Account.{draft_line}
 use Rattle.auditing.specs.declared.marks.Fate.{Fate}
 use Rattle.auditing.specs.declared.marks.Fate.TheVariants.{Stands, TakenBack, Cancelled, Never}
-use Rattle.auditing.specs.declared.marks.Refused.{Refused}
-use Rattle.auditing.specs.declared.marks.Refused.TheVariants as refused
 use Rattle.auditing.specs.Provenance.{settled_by, fate_settled, open_by, fate_of, ends_draft, is_refusing, refused_of}
 use Rattle.auditing.specs.Marks.{mark_of, marks_of, mark_desk, mark_at, is_done, fate_from, refused_from}
 use Rattle.auditing.specs.Gathered.{calls_told}
@@ -87,27 +77,27 @@ fate_below k n at (x ∷ later) h =
     (settled_below k at (suc at) later (omega arith) (omega arith))
     (fate_below k n (suc at) later (omega arith))
 
-abbrev RefusedBelow : ℕ → Refused → Type 0
-RefusedBelow k refused.Never = Unit
-RefusedBelow k (refused.At p) = p < k
+abbrev RefusedBelow : ℕ → Option ℕ → Type 0
+RefusedBelow k None = Unit
+RefusedBelow k (Some p) = p < k
 
 refused_below :
-    (k n : ℕ) (last : Refused) (at : ℕ) (later : List Entry) → at + length later ≤ k → RefusedBelow k last →
+    (k n : ℕ) (last : Option ℕ) (at : ℕ) (later : List Entry) → at + length later ≤ k → RefusedBelow k last →
     RefusedBelow k (refused_of n last at later)
 unfolding refused_of
 refused_below k n last at [] h g = g
 refused_below k n last at (x ∷ later) h g =
     either (ends_draft n x)
-    (refused_of n (cond (is_refusing n (role_in x) (good x)) (refused.At at) last) (suc at) later)
-    (refused_below k n (cond (is_refusing n (role_in x) (good x)) (refused.At at) last) (suc at) later (omega arith)
+    (refused_of n (cond (is_refusing n (role_in x) (good x)) (Some at) last) (suc at) later)
+    (refused_below k n (cond (is_refusing n (role_in x) (good x)) (Some at) last) (suc at) later (omega arith)
     (now (is_refusing n (role_in x) (good x))))
   where
-    now : (t : Bool) → RefusedBelow k (cond t (refused.At at) last)
+    now : (t : Bool) → RefusedBelow k (cond t (Some at) last)
     now true = omega arith
     now false = g
 
     either :
-        (t : Bool) (rest : Refused) → RefusedBelow k rest → RefusedBelow k (cond t last rest)
+        (t : Bool) (rest : Option ℕ) → RefusedBelow k rest → RefusedBelow k (cond t last rest)
     either true rest r = g
     either false rest r = r
 
@@ -115,7 +105,7 @@ refused_below k n last at (x ∷ later) h g =
 
 module _ (numbers lines : List ℕ) (k : ℕ) (same : (p : ℕ) → p < k → number_at numbers p ≡ number_at lines p) where
   fate_lines :
-      (n begun : ℕ) (b : Balked) (f : Fate) → FateBelow k f →
+      (n begun : ℕ) (b : Option ℕ) (f : Fate) → FateBelow k f →
       fate_line numbers n begun b f ≡ fate_line lines n begun b f
   fate_lines n begun b (Stands s) h = refl
   fate_lines n begun b (TakenBack s t) h =
@@ -123,9 +113,9 @@ module _ (numbers lines : List ℕ) (k : ℕ) (same : (p : ℕ) → p < k → nu
   fate_lines n begun b (Cancelled s) h = λ i. draft_line n begun b (became.Cancelled (same s h i))
   fate_lines n begun b Never h = refl
 
-  balked_lines : (r : Refused) → RefusedBelow k r → balked_by numbers r ≡ balked_by lines r
-  balked_lines refused.Never h = refl
-  balked_lines (refused.At p) h = ap balked.At (same p h)
+  balked_lines : (r : Option ℕ) → RefusedBelow k r → balked_by numbers r ≡ balked_by lines r
+  balked_lines None h = refl
+  balked_lines (Some p) h = ap Some (same p h)
 
 -- ---- THE LINE of a draft
 
@@ -159,37 +149,37 @@ module _ (a : Audited) (front later : List Entry) (b : Entry) (split : entries_i
         ∙ fate_by_marks n front later b
 
     refused_here :
-        refused_from a.marks n refused.Never (suc at) (a.kept.count - suc at)
-        ≡ refused_of n refused.Never (suc at) later
+        refused_from a.marks n None (suc at) (a.kept.count - suc at)
+        ≡ refused_of n None (suc at) later
     refused_here =
-        refused_alike a.marks (marks_of (entries_in a)) n refused.Never (suc at) (a.kept.count - suc at)
+        refused_alike a.marks (marks_of (entries_in a)) n None (suc at) (a.kept.count - suc at)
         (λ i h. marks_alike a i (omega (arith, place_below a front later b split)))
-        ∙ ap₂ (λ (l : List Entry) (k : ℕ). refused_from (marks_of l) n refused.Never (suc at) k) split after
-        ∙ refused_by_marks n refused.Never front later b
+        ∙ ap₂ (λ (l : List Entry) (k : ℕ). refused_from (marks_of l) n None (suc at) k) split after
+        ∙ refused_by_marks n None front later b
 
     begun_line_law :
         begun_line a.marks a.numbers a.kept.count n at
         ≡ fate_line (lines_in a) n (number_at (lines_in a) at)
-        (balked_by (lines_in a) (refused_of n refused.Never (suc at) later))
+        (balked_by (lines_in a) (refused_of n None (suc at) later))
         (fate_of n (suc at) later)
     unfolding begun_line
     begun_line_law =
         let count = a.kept.count in
         let low : suc at + length later ≤ count = omega (arith, after, place_below a front later b split) in
         let f = fate_of n (suc at) later in
-        let r = refused_of n refused.Never (suc at) later in
+        let r = refused_of n None (suc at) later in
         let line = lines_alike a at (place_below a front later b split) in
         let said = balked_lines a.numbers (lines_in a) count (lines_alike a) r
-        (refused_below count n refused.Never (suc at) later low tt) in
+        (refused_below count n None (suc at) later low tt) in
         (λ i. fate_line a.numbers n (line i) (balked_by a.numbers (refused_here i)) (fate_here i))
-        ∙ ap (λ (x : Balked). fate_line a.numbers n (number_at (lines_in a) at) x f) said
+        ∙ ap (λ (x : Option ℕ). fate_line a.numbers n (number_at (lines_in a) at) x f) said
         ∙ fate_lines a.numbers (lines_in a) count (lines_alike a) n (number_at (lines_in a) at)
         (balked_by (lines_in a) r) f (fate_below count n (suc at) later low)
 
     pub page_drafts :
         draft_account a.marks a.numbers a.kept.count at
         ≡ fate_line (lines_in a) n (number_at (lines_in a) at)
-        (balked_by (lines_in a) (refused_of n refused.Never (suc at) later))
+        (balked_by (lines_in a) (refused_of n None (suc at) later))
         (fate_of n (suc at) later)
     unfolding draft_account
     page_drafts =

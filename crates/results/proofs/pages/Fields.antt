@@ -1,15 +1,7 @@
 -- The page's line of a field: the origin that the marks give is that of the last standing change, whose
 -- entry has the mark of its desk. Assumes nothing.
-use Prim.Native.Nat.{ℕ, zero, suc, ◌%◌, ◌^◌, ◌<◌, ◌≤◌}
-use mathlib.Core.Bool.{true, false}
-use mathlib.Core.List.{List, [], ◌∷◌, ◌++◌, append_assoc}
-use mathlib.Core.Path.{◌≡◌, refl, sym, ap, subst, ◌∙◌}
-use native.Mathlib.Omega.{arith}
-use lib.Dec.{leb, lit<}
-use lib.ListN.{get_or}
-use borrow.Author.Tests.{leb-true}
+use Rattle.std.proofs.Common.{Ok, ℕ, zero, suc, ◌%◌, ◌^◌, ◌<◌, ◌≤◌, true, false, List, [], ◌∷◌, ◌++◌, append_assoc, ◌≡◌, refl, sym, ap, subst, ◌∙◌, arith, leb, lit<, get_or, leb-true}
 use Rattle.base.specs.declared.refusal.Refusal.TheVariants.{Desk}
-use Rattle.base.specs.declared.refusal.Verdict.TheVariants.{Accepted}
 use Rattle.base.proofs.verdicts.Refusals.{passed}
 use Rattle.worksheet.specs.declared.desks.Worksheet.{Worksheet}
 use Rattle.worksheet.specs.Desks.{is_desk, desk_check}
@@ -37,7 +29,7 @@ use Rattle.results.proofs.pages.Held.{sat, counted, marks_alike, lines_alike, pl
 -- ---- desks are small
 
 -- a desk is its own remainder
-pub desk_small : (n : ℕ) → desk_check n ≡ Accepted → n % 2 ^ 32 ≡ n
+pub desk_small : (n : ℕ) → desk_check n ≡ Ok tt → n % 2 ^ 32 ≡ n
 unfolding desk_check
 desk_small n h =
     let b = both_true (leb 1 n) (leb n 4) (passed (is_desk n) Desk h) in

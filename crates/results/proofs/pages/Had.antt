@@ -1,15 +1,10 @@
 -- An audited journal of two lines, an open and a showing: its lines are read by computation, and since
 -- its inputs are in range the showing is answered as the files are found to be. Assumes nothing.
-use Prim.Native.Nat.{ℕ, ◌≤◌}
-use mathlib.Core.List.{List, [], ◌∷◌}
-use mathlib.Core.Path.{◌≡◌, refl, sym, ap, subst, ◌∙◌}
-use native.Mathlib.Omega.{arith}
-use lib.Dec.{lit≤}
-use lib.ListN.{length, take, replicate, length-replicate, length-set}
+use Rattle.std.proofs.Common.{Err, Ok, ℕ, ◌≤◌, List, [], ◌∷◌, ◌≡◌, refl, sym, ap, subst, ◌∙◌, arith, lit≤, length, take, replicate, length-set}
+use lib.ListN.{length-replicate}
 use lib.Ieee.{le, round}
 use Rattle.base.specs.declared.refusal.Refusal.{Refusal}
-use Rattle.base.specs.declared.refusal.Verdict.{Verdict}
-use Rattle.base.specs.declared.refusal.Verdict.TheVariants.{Accepted, Refused}
+use Rattle.base.specs.Refusal.{Verdict}
 use Rattle.base.specs.Files.{files_check}
 use Rattle.base.specs.Single.{decimal, minus_decimal}
 use Rattle.base.specs.Ranges.{month_check, hour_check, latitude_check, longitude_check, model_check}
@@ -23,8 +18,8 @@ use Rattle.wording.specs.declared.line.Line.{Line}
 use Rattle.wording.specs.declared.line.Line.TheVariants.{Open, Call}
 use Rattle.wording.specs.declared.written.WrittenCall.TheVariants.{Show}
 use Rattle.wording.specs.Number.{all_digits, value_from, before_point, after_point, is_unsigned, unsigned_in, number_in, float_of}
-use Rattle.wording.specs.Token.{ascii, same, uncommented, words_from, name_from, token_of, slots_of, first_tokens, tokens_of, token_at}
-use Rattle.wording.specs.Line.{word_fit, number_fit, whole_fit, end_fit, decimal_at, whole_at, pair_fit, route_fit, route_at, route_end, head_fit, factors_start, pole_start, model_start, open_end, factors_fit, pole_fit, models_fit, open_fit, opening_factors, opening_pole, opening_model, opening_at, word_line, line_in}
+use Rattle.wording.specs.Token.{ascii, uncommented, words_from, word_named, token_of, first_tokens, tokens_of, token_at}
+use Rattle.wording.specs.Line.{whole_at, pair_fit, route_fit, route_at, route_end, head_fit, factors_start, pole_start, model_start, open_end, factors_fit, pole_fit, models_fit, open_fit, opening_factors, opening_pole, opening_model, opening_at, word_line, line_in}
 use Rattle.wording.specs.Written.{route_written, factors_written, pole_written, inputs_written, call_written}
 use Rattle.listing.specs.Turn.{blank}
 use Rattle.auditing.specs.declared.gathering.Stage.TheVariants.{Waiting}
@@ -51,15 +46,15 @@ unfolding lines_from
 two_lines = refl
 
 open_read : line_in open_line ≡ Open opening
-unfolding all_digits value_from before_point after_point is_unsigned unsigned_in number_in same uncommented words_from name_from token_of slots_of first_tokens tokens_of token_at word_fit number_fit whole_fit end_fit decimal_at whole_at pair_fit route_fit route_at route_end head_fit factors_start pole_start model_start open_end factors_fit pole_fit models_fit open_fit opening_factors opening_pole opening_model opening_at word_line line_in
+unfolding all_digits value_from before_point after_point is_unsigned unsigned_in number_in uncommented words_from word_named token_of first_tokens tokens_of token_at whole_at pair_fit route_fit route_at route_end head_fit factors_start pole_start model_start open_end factors_fit pole_fit models_fit open_fit opening_factors opening_pole opening_model opening_at word_line line_in
 open_read = refl
 
 show_read : line_in (ascii "show") ≡ Call (Show 0)
-unfolding same uncommented words_from name_from token_of slots_of first_tokens tokens_of token_at end_fit word_line line_in
+unfolding uncommented words_from word_named token_of first_tokens tokens_of token_at word_line line_in
 show_read = refl
 
 -- the open is accepted
-opens : (open_of (inputs_written opening)).answer ≡ Accepted
+opens : (open_of (inputs_written opening)).answer ≡ Ok tt
 unfolding float_of route_written factors_written pole_written inputs_written sunspot_check factor_check flag_check route_check factors_check pole_check inputs_check month_check hour_check latitude_check longitude_check model_check open_of decimal minus_decimal round le
 opens = refl
 
@@ -156,7 +151,7 @@ module _ (f2 file : List ℕ) (room : ℕ) (some : 1 ≤ room) where
   blank_fits : length blank ≡ 151
   blank_fits = length-replicate 151 (decimal 0 1)
 
-  pub page_had : files_check f2 file ≡ Accepted → (two : TwoLines (pair f2 file) room) × ShownLast two.audited 2
+  pub page_had : files_check f2 file ≡ Ok tt → (two : TwoLines (pair f2 file) room) × ShownLast two.audited 2
   unfolding run calls_told call_written
   page_had good =
       let shown_there : ShownLast audited 2 =
@@ -172,7 +167,7 @@ module _ (f2 file : List ℕ) (room : ℕ) (some : 1 ≤ room) where
       (two, shown_there)
 
   pub page_refused_had :
-      (why : Refusal) → files_check f2 file ≡ Refused why →
+      (why : Refusal) → files_check f2 file ≡ Err why →
       (two : TwoLines (pair f2 file) room) × ((showing : RefusedShowing two.audited 2) × (showing.why ≡ why))
   unfolding run calls_told call_written
   page_refused_had why bad =

@@ -1,11 +1,6 @@
 -- What the buffers of an audited journal hold, at the places of its calls, and the worksheet that was
 -- opened: by taking apart what was gathered. Assumes nothing.
-use Prim.Native.Nat.{ℕ, ◌<◌, ◌≤◌, min}
-use mathlib.Core.List.{List, ◌∷◌, ◌++◌}
-use mathlib.Core.Path.{◌≡◌, refl, sym, ap, subst, ◌∙◌}
-use native.Mathlib.Omega.{arith}
-use lib.ListN.{length, get_or, take, length-append}
-use lib.Seq.{get_or-take}
+use Rattle.std.proofs.Common.{ℕ, ◌<◌, ◌≤◌, min, List, ◌∷◌, ◌++◌, ◌≡◌, refl, sym, ap, subst, ◌∙◌, arith, length, get_or, take, length-append, get_or-take}
 use Rattle.worksheet.specs.Desks.{fresh_sheet, open_of}
 use Rattle.worksheet.specs.Journal.{Entry}
 use Rattle.worksheet.proofs.drafts.Drafts.{at_rest}

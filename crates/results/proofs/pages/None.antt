@@ -1,19 +1,11 @@
 -- `none` stands in the place of the drafts' lines exactly where every draft that was begun stands: no place has
 -- a line, each is an entry's, which begins a draft or begins none, and the line of a draft is empty only where
 -- it stands. Assumes nothing.
-use Prim.Native.Nat.{ℕ, zero, suc, ◌<◌, ◌≤◌}
-use mathlib.Core.Bool.{Bool, true, false, ◌&&◌, and-false, false≢true}
-use mathlib.Core.List.{List, [], ◌∷◌, ◌++◌, cons≢nil}
-use mathlib.Core.Logic.{◌↔◌, ◌⊎◌, inl, inr}
-use mathlib.Core.Path.{◌≡◌, refl, sym, ap, ◌∙◌}
-use native.Mathlib.Omega.{arith}
-use lib.Dec.{eqb}
-use lib.ListN.{length, get_or, take, drop}
-use lib.Seq.{split_at, length-take-le}
-use borrow.Author.Tests.{eq-eqb}
-use Rattle.base.specs.declared.refusal.Verdict.TheVariants.{Accepted}
+use Rattle.std.proofs.Common.{Ok, Option, ℕ, zero, suc, ◌<◌, ◌≤◌, Bool, true, false, ◌&&◌, List, [], ◌∷◌, ◌++◌, ◌↔◌, ◌⊎◌, inl, inr, ◌≡◌, refl, sym, ap, ◌∙◌, arith, eqb, length, get_or, take, drop, length-take-le, eq-eqb}
+use mathlib.Core.Bool.{and-false, false≢true}
+use mathlib.Core.List.{cons≢nil}
+use lib.Seq.{split_at}
 use Rattle.worksheet.specs.Journal.{Role, beginning, ending, settling, belonging, returning, showing, take_back, told, Entry, role_in, good, is_begin, begins}
-use Rattle.listing.specs.declared.account.Balked.{Balked}
 use Rattle.listing.specs.Account.{draft_line}
 use Rattle.auditing.specs.declared.marks.Fate.{Fate}
 use Rattle.auditing.specs.declared.marks.Fate.TheVariants.{Stands, TakenBack, Cancelled, Never}
@@ -47,7 +39,7 @@ module _ (marks numbers : List ℕ) (count : ℕ) where
 -- ---- a draft without a line stands
 
 no_line_stands :
-    (numbers : List ℕ) (n begun : ℕ) (b : Balked) (f : Fate) → fate_line numbers n begun b f ≡ [] →
+    (numbers : List ℕ) (n begun : ℕ) (b : Option ℕ) (f : Fate) → fate_line numbers n begun b f ≡ [] →
     (s : ℕ) × (f ≡ Stands s)
 unfolding draft_line
 no_line_stands numbers n begun b (Stands s) h = (s, refl)
@@ -93,7 +85,7 @@ module _ (a : Audited) where
   none_there stand p h =
       let entries = entries_in a in
       let below : p < length entries = omega (arith, counted a) in
-      let any : Entry = record { call = take_back; answer = told Accepted } in
+      let any : Entry = record { call = take_back; answer = told (Ok tt) } in
       ap line (sym (length-take-le p entries (omega (arith, below))))
       ∙ none_at stand (take p entries) (drop (suc p) entries) (get_or entries p any) (split_at entries p any below)
 

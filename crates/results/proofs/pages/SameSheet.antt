@@ -1,14 +1,6 @@
 -- What is said of the page's shorter journal ends with the same showing: the shorter list ends with it,
 -- and by demand 3 it is answered there as in the full list, of the same inputs. Assumes nothing.
-use Prim.Native.Nat.{ℕ, suc, ◌+◌}
-use mathlib.Core.List.{List, [], ◌∷◌, ◌++◌, append_assoc}
-use mathlib.Core.Logic.{◌⊎◌, inl, inr}
-use mathlib.Core.Path.{◌≡◌, refl, sym, ap, ◌∙◌}
-use native.Mathlib.Omega.{arith}
-use lib.ListN.{length, length-append}
-use lib.Ieee.{Float}
-use Rattle.base.specs.declared.refusal.Verdict.TheVariants.{Accepted}
-use Rattle.maps.specs.declared.figures.Shown.TheVariants.{Points}
+use Rattle.std.proofs.Common.{Ok, ℕ, suc, ◌+◌, List, [], ◌∷◌, ◌++◌, append_assoc, ◌⊎◌, inl, inr, ◌≡◌, refl, sym, ap, ◌∙◌, arith, length, length-append, Float}
 use Rattle.maps.specs.declared.inputs.Inputs.{Inputs}
 use Rattle.worksheet.specs.declared.desks.Worksheet.{Worksheet}
 use Rattle.worksheet.specs.declared.journal.Call.{Call as ProgramCall}
@@ -150,7 +142,7 @@ module _ (a : Audited) (line : ℕ) (s : ShownLast a line) where
         ∙ ap (λ (cs : List Numbered). (run_told a.source a.opening cs).sheet.inputs) (sym numbered)
         ∙ left
 
-    said_last : answer_said a.source x v ≡ spoken_text n i (shown (Points s.points) s.figures)
+    said_last : answer_said a.source x v ≡ spoken_text n i (shown (Ok s.points) s.figures)
     said_last =
         let asked = asks_worksheet (call_written e.last) v shows_so ∙ inputs_then in
         λ k. spoken_text n (asked k) (last_is k).answer
@@ -158,10 +150,10 @@ module _ (a : Audited) (line : ℕ) (s : ShownLast a line) where
     heard_last :
         (before : List ℕ)
         × ((heard_by a.source first_sitting (shorter_text a) n).text
-        ≡ before ++ spoken_text n i (shown (Points s.points) s.figures))
+        ≡ before ++ spoken_text n i (shown (Ok s.points) s.figures))
     unfolding HeardAs first_sitting
     heard_last =
-        let opened = spoken_verdict 1 Accepted in
+        let opened = spoken_verdict 1 (Ok tt) in
         let said = said_of a.source w ns in
         let told = sits a.opening 1 (numbered_from 2 (calls_kept a)) in (
           opened ++ said,
@@ -169,20 +161,20 @@ module _ (a : Audited) (line : ℕ) (s : ShownLast a line) where
               ∙ ap (λ (cs : List Numbered). opened ++ said_of a.source w cs) numbered
               ∙ ap (λ (l : List ℕ). opened ++ l)
               (said_more a.source w ns x ∙ ap (λ (l : List ℕ). said ++ l) said_last)
-              ∙ sym (append_assoc opened said (spoken_text n i (shown (Points s.points) s.figures))),
+              ∙ sym (append_assoc opened said (spoken_text n i (shown (Ok s.points) s.figures))),
         )
 
   -- THE SAME SHEET
   pub page_same_sheet :
       (before : List ℕ)
       × ((heard_by a.source first_sitting (shorter_text a) n).text
-      ≡ before ++ spoken_text n i (shown (Points s.points) s.figures))
+      ≡ before ++ spoken_text n i (shown (Ok s.points) s.figures))
   page_same_sheet = go (last_of_law (calls_kept a))
     where
       go :
           (calls_kept a ≡ []) ⊎ Ends (calls_kept a) →
           (before : List ℕ)
           × ((heard_by a.source first_sitting (shorter_text a) n).text
-          ≡ before ++ spoken_text n i (shown (Points s.points) s.figures))
+          ≡ before ++ spoken_text n i (shown (Ok s.points) s.figures))
       go (inl e) = absurd (some_call e)
       go (inr e) = heard_last e

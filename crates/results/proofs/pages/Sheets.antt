@@ -1,9 +1,6 @@
 -- The page's sheet: a showing leaves the worksheet as it is, so that showing it once more gives the same
 -- answer, and its inputs are those in force. Assumes nothing.
-use Prim.Native.Nat.{ℕ}
-use mathlib.Core.List.{List}
-use mathlib.Core.Path.{◌≡◌, sym, ap, subst, ◌∙◌}
-use Rattle.maps.specs.declared.figures.Shown.TheVariants.{Points}
+use Rattle.std.proofs.Common.{Ok, ℕ, List, ◌≡◌, sym, ap, subst, ◌∙◌}
 use Rattle.maps.specs.declared.inputs.Inputs.{Inputs}
 use Rattle.worksheet.specs.declared.desks.Worksheet.{Worksheet}
 use Rattle.worksheet.specs.Showing.{inputs_shown}
@@ -30,7 +27,7 @@ module _ (a : Audited) (line : ℕ) (s : ShownLast a line) where
   abbrev last : Numbered
   last = record { call = Show 0; line = line }
 
-  pub answered_there : (step a.source (show 0 blank) sheet_shown).answer ≡ shown (Points s.points) s.figures
+  pub answered_there : (step a.source (show 0 blank) sheet_shown).answer ≡ shown (Ok s.points) s.figures
   unfolding call_written
   answered_there =
       let front = (run_told a.source a.opening s.before).entries in

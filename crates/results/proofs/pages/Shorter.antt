@@ -1,14 +1,9 @@
 -- The text of the page's shorter journal: each line kept is a call's written anew, since its line reads as
 -- that call, and the places kept are those of the shorter list. Assumes nothing.
-use Prim.Native.Nat.{ℕ, zero, suc, ◌<◌}
+use Rattle.std.proofs.Common.{Err, Ok, ℕ, zero, suc, ◌<◌, List, [], ◌∷◌, ◌++◌, map, ◌⊎◌, inl, inr, ◌≡◌, refl, sym, ap, ap₂, subst, ◌∙◌, arith, length}
 use mathlib.Core.List.Memᴰ
-use mathlib.Core.List.{List, [], ◌∷◌, ◌++◌, map, Memᴰ}
-use mathlib.Core.Logic.{◌⊎◌, inl, inr}
-use mathlib.Core.Path.{◌≡◌, refl, sym, ap, ap₂, subst, ◌∙◌}
-use native.Mathlib.Omega.{arith}
-use lib.ListN.{length}
-use Rattle.base.specs.declared.refusal.Verdict.{Verdict}
-use Rattle.base.specs.declared.refusal.Verdict.TheVariants.{Accepted, Refused}
+use mathlib.Core.List.{Memᴰ}
+use Rattle.base.specs.Refusal.{Verdict}
 use Rattle.worksheet.specs.declared.desks.Worksheet.{Worksheet}
 use Rattle.worksheet.specs.Desks.{open_of}
 use Rattle.worksheet.specs.Showing.{Source}
@@ -39,13 +34,13 @@ use Rattle.results.proofs.pages.Held.{sat, counted, marks_alike}
 
 abbrev WellOpened : Told → Type 0
 WellOpened waiting = Unit
-WellOpened (sits o at cs) = (open_of (inputs_written o)).answer ≡ Accepted
+WellOpened (sits o at cs) = (open_of (inputs_written o)).answer ≡ Ok tt
 WellOpened ended = Unit
 
 opened_well :
     (n : ℕ) (o : WrittenInputs) (v : Verdict) → (open_of (inputs_written o)).answer ≡ v → WellOpened (opened_told n o v)
-opened_well n o Accepted e = e
-opened_well n o (Refused why) e = tt
+opened_well n o (Ok _) e = e
+opened_well n o (Err why) e = tt
 
 telling_well : (n : ℕ) (t : Told) (l : Line) → WellOpened t → WellOpened (telling n t l)
 telling_well n waiting line.Blank h = tt
@@ -121,7 +116,7 @@ module _
 -- ---- THE SHORTER JOURNAL
 
 module _ (a : Audited) where
-  accepted_open : (open_of (inputs_written a.opening)).answer ≡ Accepted
+  accepted_open : (open_of (inputs_written a.opening)).answer ≡ Ok tt
   unfolding told_by
   accepted_open = subst WellOpened a.told (told_well 1 waiting _ tt)
 

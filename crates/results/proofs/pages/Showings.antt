@@ -2,19 +2,10 @@
 -- call is such a showing: by its mark, which has the sort, the desk and the acceptance of its entry. Both are
 -- read from one law: such a showing is found or neither is told, and what is told of one is by its answer.
 -- Assumes nothing.
-use Prim.Native.Nat.{ℕ}
-use mathlib.Core.Bool.{Bool, true, false, cond}
-use mathlib.Core.List.{List, [], ◌∷◌, ◌++◌}
-use mathlib.Core.Logic.{◌⊎◌, inl, inr, ◌↔◌}
-use mathlib.Core.Path.{◌≡◌, refl, sym, ap, ◌∙◌}
-use native.Mathlib.Omega.{arith}
-use lib.Dec.{eqb, lit≤}
-use lib.ListN.{length}
-use lib.Ieee.{Float}
-use borrow.Author.Tests.{eqb-true, eqb-false, eq-eqb, ne_eqb}
+use Rattle.std.proofs.Common.{Err, Ok, Result, ℕ, Bool, true, false, cond, List, [], ◌∷◌, ◌++◌, ◌⊎◌, inl, inr, ◌↔◌, ◌≡◌, refl, sym, ap, ◌∙◌, arith, eqb, lit≤, length, Float, eqb-true, eq-eqb, ne_eqb}
+use Rattle.base.specs.declared.refusal.Refusal.{Refusal}
+use borrow.Author.Tests.{eqb-false}
 use Rattle.base.proofs.verdicts.Picks.{cond_true, cond_false}
-use Rattle.maps.specs.declared.figures.Shown.{Shown as Given}
-use Rattle.maps.specs.declared.figures.Shown.TheVariants.{Points, Refused as NotShown}
 use Rattle.worksheet.specs.Showing.{show_of, show_buffer}
 use Rattle.worksheet.specs.Journal.{shown, show, Entry, step, entry_of}
 use Rattle.worksheet.specs.Calls.{called}
@@ -50,17 +41,17 @@ shows_worksheet (Show n) s d = ap Show d
 
 -- ---- what is told of a showing of the worksheet, by its answer
 
-abbrev showing_entry : Given → List Float → Entry
+abbrev showing_entry : Result ℕ Refusal → List Float → Entry
 showing_entry s buffer = record { call = show 0 blank; answer = shown s buffer }
 
-abbrev told_of : Given → Showing
-told_of (Points n) = Shown
-told_of (NotShown why) = Refused
+abbrev told_of : Result ℕ Refusal → Showing
+told_of (Ok n) = Shown
+told_of (Err why) = Refused
 
-told_of_law : (s : Given) (buffer : List Float) → showing_by (mark_of (showing_entry s buffer)) ≡ told_of s
+told_of_law : (s : Result ℕ Refusal) (buffer : List Float) → showing_by (mark_of (showing_entry s buffer)) ≡ told_of s
 unfolding showing_by mark_of
-told_of_law (Points n) buffer = refl
-told_of_law (NotShown why) buffer = refl
+told_of_law (Ok n) buffer = refl
+told_of_law (Err why) buffer = refl
 
 -- a number for each that can be told, since these differ where numbers do
 abbrev number_of : Showing → ℕ
@@ -73,7 +64,7 @@ module _ (a : Audited) (line : ℕ) where
   answer = showing_at a.marks a.numbers a.kept.count line
 
   -- the last call shows the worksheet, stands on this line, and was answered so
-  record Showed (s : Given) : Type 0 where
+  record Showed (s : Result ℕ Refusal) : Type 0 where
     pub before : List Numbered
     pub split : a.calls ≡ before ++ (record { call = Show 0; line = line } ∷ [])
     pub buffer : List Float
@@ -81,7 +72,7 @@ module _ (a : Audited) (line : ℕ) where
 
   -- such a showing, or neither is told
   data Found : Type 0 where
-    showed : (s : Given) → Showed s → Found
+    showed : (s : Result ℕ Refusal) → Showed s → Found
     neither : answer ≡ Other → Found
 
   module _ (front : List Numbered) (x : Numbered) (split : a.calls ≡ front ++ (x ∷ [])) where
@@ -132,7 +123,7 @@ module _ (a : Audited) (line : ℕ) where
       go (inr e) = found_by e.front e.last e.split _ _ refl refl
 
   -- the other way: a run has one last entry, so that the mark is that of this answer
-  told_so : (s : Given) → Showed s → answer ≡ told_of s
+  told_so : (s : Result ℕ Refusal) → Showed s → answer ≡ told_of s
   told_so s h =
       let x : Numbered = record { call = Show 0; line = line } in
       let front = (run_told a.source a.opening h.before).entries in
@@ -148,14 +139,14 @@ module _ (a : Audited) (line : ℕ) where
   page_showing = (λ e. there e found, back)
     where
       there : answer ≡ Shown → Found → ShownLast a line
-      there e (showed (Points n) h) =
+      there e (showed (Ok n) h) =
           record { before = h.before; split = h.split; points = n; figures = h.buffer; answered = h.answered }
-      there e (showed (NotShown why) h) = absurd (omega (arith, ap number_of (sym (told_so _ h) ∙ e)))
+      there e (showed (Err why) h) = absurd (omega (arith, ap number_of (sym (told_so _ h) ∙ e)))
       there e (neither o) = absurd (omega (arith, ap number_of (sym o ∙ e)))
 
       back : ShownLast a line → answer ≡ Shown
       back s =
-          told_so (Points s.points)
+          told_so (Ok s.points)
           record { before = s.before; split = s.split; buffer = s.figures; answered = s.answered }
 
   -- THE SHOWING WAS REFUSED
@@ -163,12 +154,12 @@ module _ (a : Audited) (line : ℕ) where
   page_refused = (λ e. there e found, back)
     where
       there : answer ≡ Refused → Found → RefusedShowing a line
-      there e (showed (Points n) h) = absurd (omega (arith, ap number_of (sym (told_so _ h) ∙ e)))
-      there e (showed (NotShown why) h) =
+      there e (showed (Ok n) h) = absurd (omega (arith, ap number_of (sym (told_so _ h) ∙ e)))
+      there e (showed (Err why) h) =
           record { before = h.before; split = h.split; why = why; buffer = h.buffer; answered = h.answered }
       there e (neither o) = absurd (omega (arith, ap number_of (sym o ∙ e)))
 
       back : RefusedShowing a line → answer ≡ Refused
       back s =
-          told_so (NotShown s.why)
+          told_so (Err s.why)
           record { before = s.before; split = s.split; buffer = s.buffer; answered = s.answered }

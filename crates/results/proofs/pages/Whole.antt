@@ -1,12 +1,6 @@
 -- The parts of the page, one after the other, are its sections: texts in turn are cut where a section
 -- ends, and in each the part's number tells what it is. Assumes nothing.
-use Prim.Native.Nat.{ℕ, zero, suc, ◌+◌, ◌-◌, ◌<◌, ◌≤◌, min}
-use mathlib.Core.Bool.{cond}
-use mathlib.Core.List.{List, [], ◌++◌, append_assoc, append-nil}
-use mathlib.Core.Path.{◌≡◌, refl, sym, ap, ap₂, ◌∙◌}
-use native.Mathlib.Omega.{arith}
-use native.Mathlib.Nat.{add-zero}
-use lib.ListN.{length, take}
+use Rattle.std.proofs.Common.{ℕ, zero, suc, ◌+◌, ◌-◌, ◌<◌, ◌≤◌, min, cond, List, [], ◌++◌, append_assoc, append-nil, ◌≡◌, refl, sym, ap, ap₂, ◌∙◌, arith, add-zero, length, take}
 use Rattle.worksheet.specs.Showing.{Source}
 use Rattle.listing.specs.Account.{title_text, drafts_head, none_line, shorter_head, sheet_head}
 use Rattle.listing.specs.Fields.{in_turn}

@@ -3,20 +3,11 @@
 -- are computed with the engine's own `PI`, and rounding keeps order between them. Nothing on the
 -- way is a NaN: every number has a bound, and no divisor is zero, since a cosine is divided by away
 -- from the poles only, and the sine of the path's length is not zero (`Sines`). Assumes nothing.
-use mathlib.Core.Path.{◌≡◌, refl, sym, subst}
-use mathlib.Core.Logic.{inl, inr}
-use mathlib.Core.Bool.{Bool, true, false, not, ◌&&◌, cond}
-use mathlib.Core.List.{List, [], ◌∷◌}
-use Prim.Native.Nat.{ℕ, zero, suc, ◌*◌, ◌^◌, ◌<◌}
-use native.Mathlib.Nat.{le_of_suc-le-suc, not-suc-le-zero}
-use native.Mathlib.Omega.{arith}
-use lib.Dec.{T, eqb}
-use lib.IntN.{pos, negsuc}
-use lib.Ieee.{Float, nan, inf, fin, binary32, up, down, fits, round, neg, add, sub, mul, div, lt, le, is_nan}
+use Rattle.std.proofs.Common.{◌≡◌, refl, sym, subst, inl, inr, Bool, true, false, not, ◌&&◌, cond, List, [], ◌∷◌, ℕ, zero, suc, ◌*◌, ◌^◌, ◌<◌, le_of_suc-le-suc, not-suc-le-zero, arith, T, eqb, pos, negsuc, Float, length, get_or}
+use lib.Ieee.{nan, inf, fin, binary32, up, down, fits, round, neg, add, sub, mul, div, lt, le, is_nan}
 use lib.Ieee.Scale.{finite}
 use lib.Ieee.Fits.{round-fits, sub-fits}
 use lib.Ieee.Positive.{positive}
-use lib.ListN.{length, get_or}
 use Rattle.base.specs.declared.angle.Degrees.{Degrees}
 use Rattle.maps.specs.declared.inputs.MagneticPole.{MagneticPole}
 use Rattle.base.specs.Single.{◌⊕◌, ◌⊖◌, ◌⊗◌, ◌⊘◌, decimal, minus_decimal}

@@ -1,9 +1,8 @@
 -- How many points a path has: document 01's rule is read off `count_of`, and the long way round is
 -- 12,740 km at least, by interval arithmetic from the range of the arc cosine. Assumes nothing.
-use mathlib.Core.Path.{◌≡◌, refl, ap, ◌∙◌}
-use mathlib.Core.Bool.{Bool, true, false, not, cond}
-use lib.Dec.{T, T_not, not_T}
-use lib.Ieee.{Float, nan, inf, fin, binary32, round, add, neg, sub, mul, lt, le, is_nan}
+use Rattle.std.proofs.Common.{◌≡◌, refl, ap, ◌∙◌, Bool, true, false, not, cond, T, T_not, Float}
+use lib.Dec.{not_T}
+use lib.Ieee.{nan, inf, fin, binary32, round, add, neg, sub, mul, lt, le, is_nan}
 use lib.Ieee.Bits.{is_false}
 use Rattle.base.specs.declared.angle.Degrees.{Degrees}
 use Rattle.maps.specs.declared.inputs.MagneticPole.{MagneticPole}

@@ -1,14 +1,7 @@
 -- The rows of a path: five, +0.0 past the count, and the pole in no field but `gmlat`. Each is read
 -- off the row's definition by whether the row is there. Assumes nothing.
-use mathlib.Core.Path.{◌≡◌, refl, sym, ap, subst, ◌∙◌}
-use mathlib.Core.Bool.{Bool, true, false, cond}
-use mathlib.Core.List.{[], ◌∷◌}
-use Prim.Native.Nat.{ℕ, zero, suc, ◌≤◌, ◌<◌}
-use native.Mathlib.Nat.{lt_of_lt_of_le}
-use native.Mathlib.Omega.{arith}
-use borrow.Author.Tests.{lt-ltb, le-ltb}
-use lib.ListN.{get_or}
-use lib.Ieee.{Float, nan, lt}
+use Rattle.std.proofs.Common.{◌≡◌, refl, sym, ap, subst, ◌∙◌, Bool, true, false, cond, [], ◌∷◌, ℕ, zero, suc, ◌≤◌, ◌<◌, lt_of_lt_of_le, arith, lt-ltb, le-ltb, get_or, Float}
+use lib.Ieee.{nan, lt}
 use Rattle.base.specs.declared.angle.Degrees.{Degrees}
 use Rattle.base.specs.declared.angle.Radians.{Radians}
 use Rattle.maps.specs.declared.inputs.Inputs.{Inputs}

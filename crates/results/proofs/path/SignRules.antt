@@ -1,10 +1,7 @@
 -- `sign_of` where its second operand has no plain sign, by computing its test there, and the range
 -- of a clamped arc cosine, by the two outcomes of the clamp's test. Assumes nothing.
-use mathlib.Core.Path.{◌≡◌, refl, sym, subst, ◌∙◌}
-use mathlib.Core.Bool.{Bool, true, false, not, cond}
-use lib.Dec.{T}
-use lib.IntN.{pos}
-use lib.Ieee.{Float, nan, inf, fin, neg, lt, le, is_nan, round}
+use Rattle.std.proofs.Common.{◌≡◌, refl, sym, subst, ◌∙◌, Bool, true, false, not, cond, T, pos, Float}
+use lib.Ieee.{nan, inf, fin, neg, lt, le, is_nan, round}
 use Rattle.base.specs.Single.{decimal}
 use Rattle.base.specs.Double.{fraction}
 use Rattle.base.specs.Number.{negative, abs_of, narrow_of}

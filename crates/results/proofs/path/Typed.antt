@@ -1,9 +1,7 @@
 -- Degrees as typed enter what is worked only as radians, through D2R, and through the test at 89.9
 -- degrees: two routes whose radians and tests are equal have the same path, but for `rlatd`, which
 -- is typed. By the ends, which are all that the rest of a path is made of. Assumes nothing.
-use mathlib.Core.Path.{◌≡◌, ap, ◌∙◌}
-use mathlib.Core.Bool.{Bool, cond}
-use mathlib.Core.List.{List}
+use Rattle.std.proofs.Common.{◌≡◌, ap, ◌∙◌, Bool, cond, List}
 use Rattle.base.specs.declared.angle.Degrees.{Degrees}
 use Rattle.base.specs.declared.angle.Radians.{Radians}
 use Rattle.maps.specs.declared.inputs.MagneticPole.{MagneticPole}

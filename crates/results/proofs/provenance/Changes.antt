@@ -1,11 +1,7 @@
 -- The standing changes are those of the commits in force, and the last of each part make the inputs
 -- in force: own calls and own changes of a commit are looked for alike. Assumes nothing.
-use Prim.Native.Nat.{ℕ}
-use mathlib.Core.Bool.{Bool, true, false, cond, false≢true}
-use mathlib.Core.List.{List, [], ◌∷◌, ◌++◌, append_assoc, append-nil}
-use mathlib.Core.Path.{◌≡◌, refl, sym, ap, ap₂, ◌∙◌}
-use lib.ListN.{length}
-use Rattle.base.specs.declared.refusal.Verdict.TheVariants.{Accepted}
+use Rattle.std.proofs.Common.{Ok, ℕ, Bool, true, false, cond, List, [], ◌∷◌, ◌++◌, append_assoc, append-nil, ◌≡◌, refl, sym, ap, ap₂, ◌∙◌, length}
+use mathlib.Core.Bool.{false≢true}
 use Rattle.maps.specs.declared.inputs.Inputs.{Inputs}
 use Rattle.worksheet.specs.declared.inputs.Edit.{Edit}
 use Rattle.worksheet.specs.declared.desks.Worksheet.{Worksheet}
@@ -106,7 +102,7 @@ named_make_lent source w rest cs =
     let entries = (run source cs w).entries in
     standing_make_lent source w rest cs ∙ last_make (start_left w entries) (standing w entries)
 
-pub named_make : (source : Source) (opened : Inputs) → (open_of opened).answer ≡ Accepted → (cs : List Call)
+pub named_make : (source : Source) (opened : Inputs) → (open_of opened).answer ≡ Ok tt → (cs : List Call)
     → let w = (open_of opened).sheet in let entries = (run source cs w).entries in
     in_force w entries ≡ changed opened (named_changes w entries)
 unfolding named_changes

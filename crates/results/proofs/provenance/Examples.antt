@@ -1,25 +1,18 @@
 -- Origins, fates and the shorter list's places of one list of calls, over its entries and by marks: by
 -- computation. Assumes nothing.
-use Prim.Native.Nat.{ℕ}
-use mathlib.Core.Bool.{false}
-use mathlib.Core.List.{List, [], ◌∷◌}
-use mathlib.Core.Path.{◌≡◌, refl}
-use lib.Ieee.{Float}
+use Rattle.std.proofs.Common.{Err, None, Ok, Some, ℕ, false, List, [], ◌∷◌, ◌≡◌, refl, Float}
 use Rattle.base.specs.declared.refusal.Refusal.TheVariants.{Stale, Figures}
-use Rattle.base.specs.declared.refusal.Verdict.TheVariants.{Accepted, Refused}
-use Rattle.maps.specs.declared.figures.Shown.TheVariants.{Refused as NotShown}
 use Rattle.worksheet.specs.declared.inputs.Edit.TheVariants.{Sunspot, Hour}
 use Rattle.worksheet.specs.declared.desks.Worksheet.{Worksheet}
 use Rattle.worksheet.specs.Journal.{Call, begin, commit, cancel, change, take_back, show, told, shown, Entry}
 use Rattle.worksheet.specs.InForce.{force_after, commits_in_force}
 use Rattle.auditing.specs.declared.marks.Origin.TheVariants.{Opened, Set}
 use Rattle.auditing.specs.declared.marks.Fate.TheVariants.{Stands, TakenBack, Cancelled, Never}
-use Rattle.auditing.specs.declared.marks.Refused.TheVariants.{At, Never as NeverRefused}
 use Rattle.auditing.specs.Provenance.{standing_in, own_changes, standing_by, last_of, origin_of, edits_named, named_changes}
 use Rattle.auditing.specs.Marks.{mark_of, marks_of, change_before, origin_before, settled_from, fate_from, refused_from, own_places, kept_at, kept_places}
 
 abbrev done : Call → Entry
-done c = record { call = c; answer = told Accepted }
+done c = record { call = c; answer = told (Ok tt) }
 
 -- two desks draft, and one cannot commit; a third is taken back; a fourth is open at the end
 module _ (w : Worksheet) (h i : Float) (s : Float) where
@@ -30,14 +23,14 @@ module _ (w : Worksheet) (h i : Float) (s : Float) where
       ∷ done (change 1 (Hour h))
       ∷ done (change 2 (Sunspot s))
       ∷ done (commit 1)
-      ∷ record { call = commit 2; answer = told (Refused Stale) }
+      ∷ record { call = commit 2; answer = told (Err Stale) }
       ∷ done (cancel 2)
       ∷ done (begin 3)
       ∷ done (change 3 (Hour i))
-      ∷ record { call = show 3 []; answer = shown (NotShown Figures) [] }
+      ∷ record { call = show 3 []; answer = shown (Err Figures) [] }
       ∷ done (commit 3)
       ∷ done take_back
-      ∷ record { call = show 0 []; answer = shown (NotShown Figures) [] }
+      ∷ record { call = show 0 []; answer = shown (Err Figures) [] }
       ∷ done (begin 4)
       ∷ []
 
@@ -80,7 +73,7 @@ module _ (w : Worksheet) (h i : Float) (s : Float) where
   unfolding fate_from settled_from
   fourth_fate = refl
 
-  second_refused : refused_from marks 2 NeverRefused 2 12 ≡ At 5
+  second_refused : refused_from marks 2 None 2 12 ≡ Some 5
   unfolding refused_from
   second_refused = refl
 

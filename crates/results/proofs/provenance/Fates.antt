@@ -1,11 +1,9 @@
 -- The fate of a draft, looked for forwards through the marks, is that which the entries tell: by
 -- going through the entries after its begin. Assumes nothing.
-use Prim.Native.Nat.{ℕ, suc}
-use mathlib.Core.Bool.{Bool, true, false, cond, ◌&&◌, and_comm}
-use mathlib.Core.List.{List, [], ◌∷◌, ◌++◌, reverse, reverse-reverse}
-use mathlib.Core.Path.{◌≡◌, refl, sym, ap, ap₂, ◌∙◌}
-use lib.Dec.{eqb, lit≤}
-use lib.ListN.{length, length-reverse}
+use Rattle.std.proofs.Common.{ℕ, suc, Bool, true, false, cond, ◌&&◌, List, [], ◌∷◌, ◌++◌, reverse, ◌≡◌, refl, sym, ap, ap₂, ◌∙◌, eqb, lit≤, length}
+use mathlib.Core.Bool.{and_comm}
+use mathlib.Core.List.{reverse-reverse}
+use lib.ListN.{length-reverse}
 use Rattle.worksheet.specs.Journal.{Call, begin, commit, cancel, change, take_back, show, showing, belonging, role_of, Entry, role_in, good}
 use Rattle.auditing.specs.declared.marks.Fate.{Fate}
 use Rattle.auditing.specs.declared.marks.Fate.TheVariants.{Stands, TakenBack, Cancelled}

@@ -1,21 +1,11 @@
 -- What became of a draft, and where its commit was last refused, as a split of the entries after its
 -- begin tells it: by going through these entries, and back from the split. Assumes nothing.
-use Prim.Native.Nat.{ℕ, suc, ◌+◌}
-use mathlib.Core.Bool.{Bool, true, false, cond, not, ◌&&◌, false≢true}
-use mathlib.Core.List.{List, [], ◌∷◌, ◌++◌, append-nil}
-use mathlib.Core.Logic.{◌↔◌, ◌⊎◌, inl, inr}
-use mathlib.Core.Path.{◌≡◌, refl, sym, ap, ap₂, subst, ◌∙◌}
-use native.Mathlib.Nat.{add-zero}
-use native.Mathlib.Omega.{arith}
-use lib.Dec.{eqb}
-use lib.ListN.{length, length-append}
-use borrow.Author.Tests.{eqb-true, eq-eqb}
+use Rattle.std.proofs.Common.{None, Option, Some, ℕ, suc, ◌+◌, Bool, true, false, cond, not, ◌&&◌, List, [], ◌∷◌, ◌++◌, append-nil, ◌↔◌, ◌⊎◌, inl, inr, ◌≡◌, refl, sym, ap, ap₂, subst, ◌∙◌, add-zero, arith, eqb, length, length-append, eqb-true, eq-eqb}
+use mathlib.Core.Bool.{false≢true}
 use Rattle.worksheet.specs.Journal.{Call, commit, cancel, take_back, Role, beginning, ending, settling, belonging, returning, showing, role_of, Entry, role_in, good, none}
 use Rattle.worksheet.proofs.drafts.Effects.{both_true}
 use Rattle.auditing.specs.declared.marks.Fate.{Fate}
 use Rattle.auditing.specs.declared.marks.Fate.TheVariants.{Stands, TakenBack, Cancelled, Never}
-use Rattle.auditing.specs.declared.marks.Refused.{Refused}
-use Rattle.auditing.specs.declared.marks.Refused.TheVariants as refused
 use Rattle.auditing.specs.Provenance.{settled_by, fate_settled, open_by, fate_of, is_ending, ends_draft, is_refusing, refused_of}
 use Rattle.results.specs.Audit.{is_moving, moves, CancelledAt, TakenBackAt, EndsFirst, WhileOpen, refuses_commit, RefusedAt, NoneRefused}
 use Rattle.results.proofs.lists.Kept.{none_first}
@@ -308,10 +298,10 @@ fate_never n at later = (
 
 -- ---- the last refused commit
 
-never_at : {p : ℕ} → refused.Never ≡ refused.At p → ⊥
+never_at : {p : ℕ} → None ≡ Some p → ⊥
 never_at q = let z : ◌≡◌ {A = ℕ} 0 1 = cc in omega arith
 
-same_at : {p q : ℕ} → refused.At p ≡ refused.At q → p ≡ q
+same_at : {p q : ℕ} → Some p ≡ Some q → p ≡ q
 same_at e = cc
 
 refusing_is : (n : ℕ) (r : Role) (b : Bool) → is_refusing n r b ≡ true → (r ≡ settling n) × (b ≡ false)
@@ -354,11 +344,11 @@ module _ (n : ℕ) where
   }
 
   -- there is none, or the last one
-  abbrev Found : Refused → ℕ → List Entry → Refused → Type 0
+  abbrev Found : Option ℕ → ℕ → List Entry → Option ℕ → Type 0
   Found last at later r =
-      (NoneRefused n later × (r ≡ last)) ⊎ ((p : ℕ) × RefusedAt n at p later × (r ≡ refused.At p))
+      (NoneRefused n later × (r ≡ last)) ⊎ ((p : ℕ) × RefusedAt n at p later × (r ≡ Some p))
 
-  module _ (last : Refused) (at : ℕ) (x : Entry) (later : List Entry) where
+  module _ (last : Option ℕ) (at : ℕ) (x : Entry) (later : List Entry) where
     refused_here :
         ends_draft n x ≡ false → refuses_commit n x ≡ true → NoneRefused n later → RefusedAt n at at (x ∷ later)
     unfolding open_later
@@ -384,8 +374,8 @@ module _ (n : ℕ) where
     }
 
     goes_on_refused :
-        ends_draft n x ≡ false → (b : Bool) → refuses_commit n x ≡ b → (r : Refused) →
-        Found (cond b (refused.At at) last) (suc at) later r → Found last at (x ∷ later) r
+        ends_draft n x ≡ false → (b : Bool) → refuses_commit n x ≡ b → (r : Option ℕ) →
+        Found (cond b (Some at) last) (suc at) later r → Found last at (x ∷ later) r
     goes_on_refused e true h r (inl (s, q)) = inr (at, refused_here e h s, q)
     goes_on_refused e false h r (inl (s, q)) = inl (none_here e h s, q)
     goes_on_refused e b h r (inr (p, s, q)) = inr (p, refused_later at p x later e s, q)
@@ -398,13 +388,13 @@ module _ (n : ℕ) where
     }
 
     either :
-        (t : Bool) → ends_draft n x ≡ t → (r : Refused) →
-        Found (cond (refuses_commit n x) (refused.At at) last) (suc at) later r →
+        (t : Bool) → ends_draft n x ≡ t → (r : Option ℕ) →
+        Found (cond (refuses_commit n x) (Some at) last) (suc at) later r →
         Found last at (x ∷ later) (cond t last r)
     either true e r s = inl (ended_here e, refl)
     either false e r s = goes_on_refused e (refuses_commit n x) refl r s
 
-  found : (last : Refused) (at : ℕ) (later : List Entry) → Found last at later (refused_of n last at later)
+  found : (last : Option ℕ) (at : ℕ) (later : List Entry) → Found last at later (refused_of n last at later)
   unfolding refused_of none
   found last at [] = inl (
     record {
@@ -415,91 +405,91 @@ module _ (n : ℕ) where
   )
   found last at (x ∷ later) =
       either last at x later (ends_draft n x) refl _
-      (found (cond (refuses_commit n x) (refused.At at) last) (suc at) later)
+      (found (cond (refuses_commit n x) (Some at) last) (suc at) later)
 
   -- ---- back from the split
 
   unended :
-      (last : Refused) (at : ℕ) (x : Entry) (rest : List Entry) → ends_draft n x ≡ false →
-      refused_of n last at (x ∷ rest) ≡ refused_of n (cond (refuses_commit n x) (refused.At at) last) (suc at) rest
+      (last : Option ℕ) (at : ℕ) (x : Entry) (rest : List Entry) → ends_draft n x ≡ false →
+      refused_of n last at (x ∷ rest) ≡ refused_of n (cond (refuses_commit n x) (Some at) last) (suc at) rest
   unfolding refused_of
   unended last at x rest e =
-      ap (λ (z : Bool). cond z last (refused_of n (cond (refuses_commit n x) (refused.At at) last) (suc at) rest)) e
+      ap (λ (z : Bool). cond z last (refused_of n (cond (refuses_commit n x) (Some at) last) (suc at) rest)) e
 
-  ended_refused : (last : Refused) (at : ℕ) (rest : List Entry) → EndsFirst n rest → refused_of n last at rest ≡ last
+  ended_refused : (last : Option ℕ) (at : ℕ) (rest : List Entry) → EndsFirst n rest → refused_of n last at rest ≡ last
   unfolding refused_of
   ended_refused last at [] e = refl
   ended_refused last at (x ∷ rest) e =
-      ap (λ (z : Bool). cond z last (refused_of n (cond (refuses_commit n x) (refused.At at) last) (suc at) rest)) e
+      ap (λ (z : Bool). cond z last (refused_of n (cond (refuses_commit n x) (Some at) last) (suc at) rest)) e
 
   -- none since
   none_since :
-      (last : Refused) (at : ℕ) (since rest : List Entry) → none (ends_draft n) since ≡ true →
+      (last : Option ℕ) (at : ℕ) (since rest : List Entry) → none (ends_draft n) since ≡ true →
       none (refuses_commit n) since ≡ true → EndsFirst n rest → refused_of n last at (since ++ rest) ≡ last
   none_since last at [] rest h q e = ended_refused last at rest e
   none_since last at (x ∷ since) rest h q e =
       let f = none_first (ends_draft n) x since h in
       let g = none_first (refuses_commit n) x since q in
       unended last at x (since ++ rest) f.0
-      ∙ ap (λ (z : Bool). refused_of n (cond z (refused.At at) last) (suc at) (since ++ rest)) g.0
+      ∙ ap (λ (z : Bool). refused_of n (cond z (Some at) last) (suc at) (since ++ rest)) g.0
       ∙ none_since last (suc at) since rest f.1 g.1 e
 
   -- the last one
   last_refused :
-      (last : Refused) (at : ℕ) (before since rest : List Entry) (x : Entry) →
+      (last : Option ℕ) (at : ℕ) (before since rest : List Entry) (x : Entry) →
       none (ends_draft n) (before ++ (x ∷ since)) ≡ true → x.call ≡ commit n → good x ≡ false →
       none (refuses_commit n) since ≡ true → EndsFirst n rest →
-      refused_of n last at ((before ++ (x ∷ since)) ++ rest) ≡ refused.At (at + length before)
+      refused_of n last at ((before ++ (x ∷ since)) ++ rest) ≡ Some (at + length before)
   last_refused last at [] since rest x h is g q e =
       let f = none_first (ends_draft n) x since h in
       let refuses : refuses_commit n x ≡ true =
       ap₂ (λ (c : Call) (b : Bool). is_refusing n (role_of c) b) is g ∙ ap (λ (z : Bool). z && true) (eq-eqb n n refl) in
       unended last at x (since ++ rest) f.0
-      ∙ ap (λ (z : Bool). refused_of n (cond z (refused.At at) last) (suc at) (since ++ rest)) refuses
-      ∙ none_since (refused.At at) (suc at) since rest f.1 q e
-      ∙ ap refused.At (sym (add-zero at))
+      ∙ ap (λ (z : Bool). refused_of n (cond z (Some at) last) (suc at) (since ++ rest)) refuses
+      ∙ none_since (Some at) (suc at) since rest f.1 q e
+      ∙ ap Some (sym (add-zero at))
   last_refused last at (y ∷ before) since rest x h is g q e =
       let f = none_first (ends_draft n) y (before ++ (x ∷ since)) h in
       let place : suc at + length before ≡ at + length (y ∷ before) = omega arith in
       unended last at y ((before ++ (x ∷ since)) ++ rest) f.0
-      ∙ last_refused (cond (refuses_commit n y) (refused.At at) last) (suc at) before since rest x f.1 is g q e
-      ∙ ap refused.At place
+      ∙ last_refused (cond (refuses_commit n y) (Some at) last) (suc at) before since rest x f.1 is g q e
+      ∙ ap Some place
 
 -- ---- LAST REFUSED, NEVER REFUSED
 
 pub refused_last :
     (n at p : ℕ) (later : List Entry) →
-    (refused_of n refused.Never at later ≡ refused.At p) ↔ RefusedAt n at p later
-refused_last n at p later = (λ h. go (found n refused.Never at later) h, back)
+    (refused_of n None at later ≡ Some p) ↔ RefusedAt n at p later
+refused_last n at p later = (λ h. go (found n None at later) h, back)
   where
     go :
-        Found n refused.Never at later (refused_of n refused.Never at later) →
-        refused_of n refused.Never at later ≡ refused.At p → RefusedAt n at p later
+        Found n None at later (refused_of n None at later) →
+        refused_of n None at later ≡ Some p → RefusedAt n at p later
     go (inl (s, q)) h = absurd (never_at (sym q ∙ h))
     go (inr (k, s, q)) h = subst (λ (i : ℕ). RefusedAt n at i later) (same_at (sym q ∙ h)) s
 
-    back : RefusedAt n at p later → refused_of n refused.Never at later ≡ refused.At p
+    back : RefusedAt n at p later → refused_of n None at later ≡ Some p
     back s =
         let o = s.while_open in
         let open_too : none (ends_draft n) (s.before ++ (s.its_refusal ∷ s.since)) ≡ true =
         ap (none (ends_draft n)) (sym s.split) ∙ o.still_open in
-        ap (refused_of n refused.Never at) (o.split ∙ ap (λ (l : List Entry). l ++ o.after) s.split)
-        ∙ last_refused n refused.Never at s.before s.since o.after s.its_refusal open_too s.is_commit
+        ap (refused_of n None at) (o.split ∙ ap (λ (l : List Entry). l ++ o.after) s.split)
+        ∙ last_refused n None at s.before s.since o.after s.its_refusal open_too s.is_commit
         s.refused s.last o.then_ended
-        ∙ ap refused.At s.its_place
+        ∙ ap Some s.its_place
 
 pub refused_never :
-    (n at : ℕ) (later : List Entry) → (refused_of n refused.Never at later ≡ refused.Never) ↔ NoneRefused n later
-refused_never n at later = (λ h. go (found n refused.Never at later) h, back)
+    (n at : ℕ) (later : List Entry) → (refused_of n None at later ≡ None) ↔ NoneRefused n later
+refused_never n at later = (λ h. go (found n None at later) h, back)
   where
     go :
-        Found n refused.Never at later (refused_of n refused.Never at later) →
-        refused_of n refused.Never at later ≡ refused.Never → NoneRefused n later
+        Found n None at later (refused_of n None at later) →
+        refused_of n None at later ≡ None → NoneRefused n later
     go (inl (s, q)) h = s
     go (inr (k, s, q)) h = absurd (never_at (sym h ∙ q))
 
-    back : NoneRefused n later → refused_of n refused.Never at later ≡ refused.Never
+    back : NoneRefused n later → refused_of n None at later ≡ None
     back s =
         let o = s.while_open in
-        ap (refused_of n refused.Never at) o.split
-        ∙ none_since n refused.Never at o.during o.after o.still_open s.none_refused o.then_ended
+        ap (refused_of n None at) o.split
+        ∙ none_since n None at o.during o.after o.still_open s.none_refused o.then_ended

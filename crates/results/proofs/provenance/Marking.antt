@@ -1,14 +1,11 @@
 -- A mark gives back the sort, the acceptance and the desk of its call, so that tests of marks are
 -- tests of entries; and each entry's mark stands at its place. By arithmetic, and by going through
 -- the kinds of call. Assumes nothing.
-use Prim.Native.Nat.{ℕ, ◌+◌, ◌*◌, ◌/◌, ◌%◌, ◌≤◌, ◌<◌}
-use mathlib.Core.Bool.{Bool, true, false, cond, ◌&&◌, ◌||◌, and_comm, and-false}
-use mathlib.Core.List.{List, [], ◌∷◌, ◌++◌, reverse, append_assoc, append-nil, reverse-cons, reverse-reverse}
-use mathlib.Core.Path.{◌≡◌, refl, sym, ap, ap₂, ◌∙◌}
-use native.Mathlib.Omega.{arith}
-use lib.Dec.{eqb, ltb, lit<, lit≤}
-use lib.ListN.{length, length-reverse}
-use borrow.Author.Tests.{eqb-true, eqb-false, eq-eqb, ne_eqb, lt-ltb}
+use Rattle.std.proofs.Common.{ℕ, ◌+◌, ◌*◌, ◌/◌, ◌%◌, ◌≤◌, ◌<◌, Bool, true, false, cond, ◌&&◌, ◌||◌, List, [], ◌∷◌, ◌++◌, reverse, append_assoc, append-nil, ◌≡◌, refl, sym, ap, ap₂, ◌∙◌, arith, eqb, ltb, lit<, lit≤, length, eqb-true, eq-eqb, ne_eqb, lt-ltb}
+use mathlib.Core.Bool.{and_comm, and-false}
+use mathlib.Core.List.{reverse-cons, reverse-reverse}
+use lib.ListN.{length-reverse}
+use borrow.Author.Tests.{eqb-false}
 use Rattle.worksheet.specs.declared.inputs.Edit.{Edit}
 use Rattle.worksheet.specs.declared.inputs.Edit.TheVariants.{Sunspot, Hour, Path, Psc, Pole, Month, Model}
 use Rattle.worksheet.specs.Journal.{Call, begin, commit, cancel, change, take_back, show, Role, beginning, ending, settling, belonging, returning, showing, role_of, Entry, role_in, good, is_begin, is_own, begins, belongs}

@@ -1,15 +1,10 @@
 -- The change that is named for a part is the last standing one of it, and stands at its places: it is
 -- an own change of a commit in force, whose draft was undisturbed, so it is found between the
 -- draft's begin and the commit. Assumes nothing.
-use Prim.Native.Nat.{ℕ, ◌<◌}
-use mathlib.Core.Bool.{Bool, true, false, cond, not, ◌&&◌, false≢true}
-use mathlib.Core.List.{List, [], ◌∷◌, ◌++◌, reverse, reverse_aux, append_assoc, reverse_aux-append, reverse-reverse, nil≢cons, head-eq_of_cons-eq, tail-eq_of_cons-eq, Memᴰ}
-use mathlib.Core.Logic.{◌⊎◌, inl, inr}
-use mathlib.Core.Path.{◌≡◌, refl, sym, ap, ap₂, subst, ◌∙◌}
-use native.Mathlib.Omega.{arith}
-use lib.Dec.{eqb}
-use lib.ListN.{length, length-append, length-reverse}
-use borrow.Author.Tests.{eqb-true}
+use Rattle.std.proofs.Common.{ℕ, ◌<◌, Bool, true, false, cond, not, ◌&&◌, List, [], ◌∷◌, ◌++◌, reverse, append_assoc, ◌⊎◌, inl, inr, ◌≡◌, refl, sym, ap, ap₂, subst, ◌∙◌, arith, eqb, length, length-append, eqb-true}
+use mathlib.Core.Bool.{false≢true}
+use mathlib.Core.List.{reverse_aux, reverse_aux-append, reverse-reverse, nil≢cons, head-eq_of_cons-eq, tail-eq_of_cons-eq, Memᴰ}
+use lib.ListN.{length-reverse}
 use Rattle.worksheet.specs.declared.inputs.Edit.{Edit}
 use Rattle.worksheet.specs.declared.desks.Worksheet.{Worksheet}
 use Rattle.worksheet.specs.Showing.{Source}

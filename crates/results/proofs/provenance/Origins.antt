@@ -1,14 +1,10 @@
 -- The origin of each part, looked for backwards through the marks, is that of the last standing
 -- change: the commits in force and their own changes, read backwards too, go entry by entry like the
 -- marks. Assumes nothing.
-use Prim.Native.Nat.{ℕ, ◌≤◌}
-use mathlib.Core.Bool.{Bool, true, false, cond, not, ◌&&◌, and-false}
-use mathlib.Core.List.{List, [], ◌∷◌, ◌++◌, reverse, reverse_aux, append_assoc, append-nil}
-use mathlib.Core.Path.{◌≡◌, refl, sym, ap, ◌∙◌}
-use native.Mathlib.Omega.{arith}
-use lib.Dec.{eqb, lit≤}
-use lib.ListN.{length, length-reverse}
-use borrow.Author.Tests.{ne_eqb}
+use Rattle.std.proofs.Common.{ℕ, ◌≤◌, Bool, true, false, cond, not, ◌&&◌, List, [], ◌∷◌, ◌++◌, reverse, append_assoc, append-nil, ◌≡◌, refl, sym, ap, ◌∙◌, arith, eqb, lit≤, length, ne_eqb}
+use mathlib.Core.Bool.{and-false}
+use mathlib.Core.List.{reverse_aux}
+use lib.ListN.{length-reverse}
 use Rattle.worksheet.specs.declared.inputs.Edit.{Edit}
 use Rattle.worksheet.specs.declared.desks.Worksheet.{Worksheet}
 use Rattle.worksheet.specs.Showing.{Source}

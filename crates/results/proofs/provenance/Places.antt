@@ -1,14 +1,10 @@
 -- The shorter list by the places kept: what it has for each entry is at the places that the marks
 -- give, since an accepted commit of a run is of a desk; and all those places are below. Assumes
 -- nothing.
-use Prim.Native.Nat.{ℕ, zero, suc, ◌≤◌}
-use mathlib.Core.Bool.{Bool, true, false, cond, ◌&&◌, ◌||◌, or-false}
-use mathlib.Core.List.{List, [], ◌∷◌, ◌++◌, reverse, reverse_aux, append_assoc, append-nil}
-use mathlib.Core.Path.{◌≡◌, refl, sym, ap, ap₂, ◌∙◌}
-use native.Mathlib.Omega.{arith}
-use lib.Dec.{eqb, leb, lit≤}
-use lib.ListN.{length, length-reverse}
-use borrow.Author.Tests.{leb-true, ne_eqb}
+use Rattle.std.proofs.Common.{ℕ, zero, suc, ◌≤◌, Bool, true, false, cond, ◌&&◌, ◌||◌, List, [], ◌∷◌, ◌++◌, reverse, append_assoc, append-nil, ◌≡◌, refl, sym, ap, ap₂, ◌∙◌, arith, eqb, leb, lit≤, length, leb-true, ne_eqb}
+use mathlib.Core.Bool.{or-false}
+use mathlib.Core.List.{reverse_aux}
+use lib.ListN.{length-reverse}
 use Rattle.base.specs.declared.refusal.Refusal.TheVariants.{Desk}
 use Rattle.base.proofs.verdicts.Refusals.{passed}
 use Rattle.worksheet.specs.declared.desks.Worksheet.{Worksheet}

@@ -1,14 +1,10 @@
 -- The last refused commit of a draft, looked for forwards through the marks, is that which the entries
 -- tell: by going through the entries after its begin. Assumes nothing.
-use Prim.Native.Nat.{ℕ, suc}
-use mathlib.Core.Bool.{Bool, true, false, cond, not, ◌&&◌, ◌||◌, and_comm, or-false}
-use mathlib.Core.List.{List, [], ◌∷◌, ◌++◌, reverse, reverse-reverse}
-use mathlib.Core.Path.{◌≡◌, refl, sym, ap, ap₂, ◌∙◌}
-use lib.Dec.{eqb, lit≤}
-use lib.ListN.{length, length-reverse}
+use Rattle.std.proofs.Common.{Option, Some, ℕ, suc, Bool, true, false, cond, not, ◌&&◌, ◌||◌, List, [], ◌∷◌, ◌++◌, reverse, ◌≡◌, refl, sym, ap, ap₂, ◌∙◌, eqb, lit≤, length}
+use mathlib.Core.Bool.{and_comm, or-false}
+use mathlib.Core.List.{reverse-reverse}
+use lib.ListN.{length-reverse}
 use Rattle.worksheet.specs.Journal.{Call, begin, commit, cancel, change, take_back, show, showing, belonging, role_of, Entry, role_in, good}
-use Rattle.auditing.specs.declared.marks.Refused.{Refused}
-use Rattle.auditing.specs.declared.marks.Refused.TheVariants.{At}
 use Rattle.auditing.specs.Provenance.{is_ending, ends_draft, is_refusing, refused_of}
 use Rattle.auditing.specs.Marks.{sort_of, desk_of, marks_of, mark_of, is_done_by, is_refused_commit, refused_from}
 use Rattle.results.proofs.provenance.Marking.{no_part, sort_of_law, good_of, desk_of_law, done_by_of, turned, mark_after}
@@ -58,25 +54,25 @@ module _ (n : ℕ) where
 
 module _ (entries : List Entry) (n : ℕ) where
   refused_marks :
-      (last : Refused) (past later : List Entry) → entries ≡ reverse past ++ later →
+      (last : Option ℕ) (past later : List Entry) → entries ≡ reverse past ++ later →
       refused_from (marks_of entries) n last (length past) (length later) ≡ refused_of n last (length past) later
   unfolding refused_from refused_of
   refused_marks last past [] h = refl
   refused_marks last past (x ∷ later) h =
       let ms = marks_of entries in
       let at = length past in
-      let rest : Refused → Refused = λ r. refused_from ms n r (suc at) (length later) in
+      let rest : Option ℕ → Option ℕ = λ r. refused_from ms n r (suc at) (length later) in
       (λ i.
       let m = mark_after entries past later x h i in
-      cond (is_done_by 10 n m || is_done_by 9 n m) last (rest (cond (is_refused_commit n m) (At at) last)))
-      ∙ (λ i. cond (ends_mark n x i) last (rest (cond (refuses_mark n x i) (At at) last)))
+      cond (is_done_by 10 n m || is_done_by 9 n m) last (rest (cond (is_refused_commit n m) (Some at) last)))
+      ∙ (λ i. cond (ends_mark n x i) last (rest (cond (refuses_mark n x i) (Some at) last)))
       ∙ ap (cond (ends_draft n x) last)
-      (refused_marks (cond (is_refusing n (role_in x) (good x)) (At at) last) (x ∷ past) later
+      (refused_marks (cond (is_refusing n (role_in x) (good x)) (Some at) last) (x ∷ past) later
       (h ∙ sym (turned past later x)))
 
 -- THE LAST REFUSED COMMIT of a draft, by marks
 pub refused_by_marks :
-    (n : ℕ) (last : Refused) (front later : List Entry) (b : Entry) →
+    (n : ℕ) (last : Option ℕ) (front later : List Entry) (b : Entry) →
     refused_from (marks_of (front ++ (b ∷ later))) n last (suc (length front)) (length later)
     ≡ refused_of n last (suc (length front)) later
 refused_by_marks n last front later b =

@@ -1,15 +1,10 @@
 -- A draft's fate is that it stands exactly where it is the draft of a commit in force: its first
 -- accepted cancel or commit decides, no draft is begun before that, and a commit's own draft was not
 -- disturbed. Assumes nothing.
-use Prim.Native.Nat.{ℕ, suc}
-use mathlib.Core.Bool.{Bool, true, false, cond, not, ◌&&◌, and-false, false≢true}
-use mathlib.Core.List.{List, [], ◌∷◌, ◌++◌, reverse, reverse_aux, append_assoc, reverse-reverse, append_cancel_left, tail-eq_of_cons-eq, Memᴰ}
-use mathlib.Core.Logic.{◌↔◌}
-use mathlib.Core.Path.{◌≡◌, refl, sym, ap, ap₂, subst, ◌∙◌}
-use native.Mathlib.Omega.{arith}
-use lib.Dec.{eqb}
-use lib.ListN.{length, length-reverse}
-use borrow.Author.Tests.{eqb-true, eq-eqb}
+use Rattle.std.proofs.Common.{ℕ, suc, Bool, true, false, cond, not, ◌&&◌, List, [], ◌∷◌, ◌++◌, reverse, append_assoc, ◌↔◌, ◌≡◌, refl, sym, ap, ap₂, subst, ◌∙◌, arith, eqb, length, eqb-true, eq-eqb}
+use mathlib.Core.Bool.{and-false, false≢true}
+use mathlib.Core.List.{reverse_aux, reverse-reverse, append_cancel_left, tail-eq_of_cons-eq, Memᴰ}
+use lib.ListN.{length-reverse}
 use Rattle.worksheet.specs.declared.desks.Worksheet.{Worksheet}
 use Rattle.worksheet.specs.Showing.{Source}
 use Rattle.worksheet.specs.Journal.{Call, Role, beginning, ending, settling, belonging, returning, showing, Entry, role_in, good, run, begins, none}

@@ -1,16 +1,12 @@
 -- A draft stays open until its desk cancels or commits it, so a desk does not begin anew before: by
 -- what each accepted call leaves at the desks. Assumes nothing.
-use Prim.Native.Nat.{ℕ}
-use mathlib.Core.Bool.{Bool, true, false, cond, not, ◌&&◌, and-true, false≢true}
-use mathlib.Core.List.{List, [], ◌∷◌, ◌++◌, nil≢cons, head-eq_of_cons-eq, tail-eq_of_cons-eq}
-use mathlib.Core.Path.{◌≡◌, refl, sym, ap, subst, ◌∙◌}
-use lib.Dec.{eqb}
-use borrow.Author.Tests.{eqb-true}
+use Rattle.std.proofs.Common.{Option, ℕ, Bool, true, false, cond, not, ◌&&◌, List, [], ◌∷◌, ◌++◌, ◌≡◌, refl, sym, ap, subst, ◌∙◌, eqb, eqb-true}
+use mathlib.Core.Bool.{and-true, false≢true}
+use mathlib.Core.List.{nil≢cons, head-eq_of_cons-eq, tail-eq_of_cons-eq}
 use Rattle.maps.specs.declared.inputs.Inputs.{Inputs}
 use Rattle.worksheet.specs.declared.inputs.Edit.{Edit}
 use Rattle.worksheet.specs.declared.desks.Draft.{Draft}
 use Rattle.worksheet.specs.declared.desks.Draft.TheVariants.{Closed, Fresh, Stale}
-use Rattle.worksheet.specs.declared.desks.Earlier.{Earlier}
 use Rattle.worksheet.specs.declared.desks.Worksheet.{Worksheet}
 use Rattle.worksheet.specs.Desks.{draft_at, with_draft, stale_of, moved_to, edited_draft}
 use Rattle.worksheet.specs.Showing.{Source}
@@ -40,7 +36,7 @@ edited_open e Closed = refl
 edited_open e (Fresh x) = refl
 edited_open e (Stale x) = refl
 
-moved_open : (n : ℕ) (i : Inputs) (e : Earlier) (w : Worksheet) → is_open (draft_at n (moved_to i e w)) ≡ is_open (draft_at n w)
+moved_open : (n : ℕ) (i : Inputs) (e : Option Inputs) (w : Worksheet) → is_open (draft_at n (moved_to i e w)) ≡ is_open (draft_at n w)
 unfolding draft_at moved_to
 moved_open n i e w = go (eqb n 1) (eqb n 2) (eqb n 3) (eqb n 4)
   where

@@ -1,16 +1,11 @@
 -- A journal written anew is told as it was: each call is one line, since no word has a newline, and
 -- that line reads as the call. By the calls in their order. Assumes nothing.
-use Prim.Native.Nat.{ℕ, suc, ◌≤◌}
-use mathlib.Core.Bool.{true}
-use mathlib.Core.List.{List, [], ◌∷◌, ◌++◌, map, append-nil, Memᴰ}
-use mathlib.Core.Path.{◌≡◌, refl, sym, ap, ◌∙◌}
-use native.Mathlib.Omega.{arith}
-use lib.Dec.{eqb}
-use lib.ListN.{length, take, length-map}
-use lib.Seq.{append_snoc, take_all}
+use Rattle.std.proofs.Common.{Ok, ℕ, suc, ◌≤◌, true, List, [], ◌∷◌, ◌++◌, map, append-nil, ◌≡◌, refl, sym, ap, ◌∙◌, arith, eqb, length, take, take_all}
+use mathlib.Core.List.{Memᴰ}
+use lib.ListN.{length-map}
+use lib.Seq.{append_snoc}
 use borrow.Author.Tests.{not-true}
-use Rattle.base.specs.declared.refusal.Verdict.{Verdict}
-use Rattle.base.specs.declared.refusal.Verdict.TheVariants.{Accepted}
+use Rattle.base.specs.Refusal.{Verdict}
 use Rattle.base.proofs.ladder.Ladders.{and_left, and_right}
 use Rattle.base.proofs.verdicts.Picks.{cond_false}
 use Rattle.worksheet.specs.Desks.{open_of}
@@ -91,7 +86,7 @@ module _ (o : WrittenInputs) (cs : List WrittenCall) (first : GoodInputs o) (oth
       ∙ ap (λ (ls : List (List ℕ)). open_text o ∷ ls) (each_line cs others)
 
   pub journal_rewritten :
-      (open_of (inputs_written o)).answer ≡ Accepted →
+      (open_of (inputs_written o)).answer ≡ Ok tt →
       told_by (line_text (Open o) ++ call_lines cs) (suc (length cs)) ≡ sits o 1 (numbered_from 2 cs)
   unfolding told_by told_from
   journal_rewritten e =

@@ -1,29 +1,22 @@
 -- Every call and every open that a line reads as can be written: its decimals have few digits, its
 -- whole numbers fit a `u32`, its flags are 0 or 1. By the cases of the grammar. Assumes nothing.
-use Prim.Native.Nat.{ℕ, ◌+◌}
-use mathlib.Core.Bool.{Bool, true, false, cond}
-use mathlib.Core.List.{List}
-use mathlib.Core.Path.{◌≡◌, refl, sym, subst}
-use native.Mathlib.Omega.{arith}
-use lib.Dec.{eqb}
-use Rattle.base.proofs.verdicts.Picks.{cond_true}
+use Rattle.std.proofs.Common.{ℕ, ◌+◌, Bool, true, false, cond, List, ◌≡◌, refl, subst, arith, Ok, Err}
 use Rattle.wording.specs.declared.number.Decimal.{Decimal}
 use Rattle.wording.specs.declared.token.Token.{Token}
 use Rattle.wording.specs.declared.token.Token.TheVariants as token
 use Rattle.wording.specs.declared.token.Tokens.{Tokens}
 use Rattle.wording.specs.declared.line.Fault.{Fault}
-use Rattle.wording.specs.declared.line.Fit.{Fit}
-use Rattle.wording.specs.declared.line.Fit.TheVariants.{Good, Wrong as NoFit}
+use Rattle.wording.specs.Line.{Fit}
 use Rattle.wording.specs.declared.line.Wanted.TheVariants.{Start}
 use Rattle.wording.specs.declared.line.Line.{Line}
 use Rattle.wording.specs.declared.line.Line.TheVariants.{Blank, Open, Call, Wrong}
 use Rattle.wording.specs.declared.written.WrittenInputs.{WrittenInputs}
-use Rattle.wording.specs.declared.written.WrittenEdit.{WrittenEdit}
 use Rattle.wording.specs.declared.written.WrittenCall.{WrittenCall}
 use Rattle.wording.specs.Token.{tokens_of, token_at}
-use Rattle.wording.specs.Line.{is_named, is_whole, is_whole_decimal, usual_factors, usual_pole, line_if, call_if, decimal_at, whole_at, model_at, is_long_at, route_at, factors_at, pole_at, brings, factors_start, pole_start, model_start, opening_factors, opening_pole, opening_model, opening_at, open_fit, deed_line, desk_line, word_line, number_line, start_line, line_in, change_edit, deed_fit, deed_call, bare_fit, bare_call}
-use Rattle.wording.specs.Line.{OPEN, SUNSPOT, HOUR, PATH, FACTORS, POLE, MONTH, MODEL, URSI, BEGIN, COMMIT, CANCEL, SHOW}
-use Rattle.wording.proofs.words.Fits.{whole_fits, word_fits, deed_parts, bare_parts}
+use Rattle.wording.specs.Line.{is_named, is_whole, is_whole_decimal, usual_factors, usual_pole, line_if, call_if, decimal_at, whole_at, model_at, is_long_at, route_at, factors_at, pole_at, brings, factors_start, pole_start, model_start, opening_factors, opening_pole, opening_model, opening_at, open_fit, deed_line, desk_line, word_line, number_line, start_line, line_in, change_edit, deed_fit, deed_call}
+use Rattle.wording.specs.declared.token.Word.{Word as AWord}
+use Rattle.wording.specs.declared.token.Word.TheVariants as word
+use Rattle.wording.proofs.words.Fits.{whole_fits, word_fits, deed_parts}
 use Rattle.results.specs.ReadBack.{Few, Fits, Flag, off, on, GoodRoute, GoodFactors, GoodPole, GoodInputs, GoodEdit, sunspot, hour, path, psc, pole, month, model, GoodCall, begin, change, commit, cancel, take_back, show}
 use Rattle.results.proofs.reading.Numbers.{token_sound}
 
@@ -45,11 +38,10 @@ module _ (l : List ℕ) where
   t = tokens_of l
 
   few : (k : ℕ) → Few (decimal_at t k)
-  unfolding decimal_at
   few k = token_sound l k
 
   fits : (k : ℕ) → Fits (whole_at t k)
-  unfolding whole_at decimal_at
+  unfolding whole_at
   fits k = by (is_whole (token_at t k)) refl
     where
       by : (b : Bool) → is_whole (token_at t k) ≡ b → Fits (cond b (decimal_at t k).digits 0)
@@ -58,7 +50,7 @@ module _ (l : List ℕ) where
 
   one_of_two : (k : ℕ) → Flag (model_at t k)
   unfolding model_at
-  one_of_two k = flag (is_named URSI (token_at t k))
+  one_of_two k = flag (is_named word.Ursi (token_at t k))
 
   route : (k : ℕ) → GoodRoute (route_at t k)
   unfolding route_at
@@ -83,7 +75,7 @@ module _ (l : List ℕ) where
 
   opening_factors_law : GoodFactors (opening_factors t)
   unfolding opening_factors
-  opening_factors_law = by (brings t FACTORS (factors_start t))
+  opening_factors_law = by (brings t word.Factors (factors_start t))
     where
       by : (b : Bool) → GoodFactors (cond b (factors_at t (factors_start t + 1)) usual_factors)
       by true = factors (factors_start t + 1)
@@ -91,7 +83,7 @@ module _ (l : List ℕ) where
 
   opening_pole_law : GoodPole (opening_pole t)
   unfolding opening_pole
-  opening_pole_law = by (brings t POLE (pole_start t))
+  opening_pole_law = by (brings t word.Pole (pole_start t))
     where
       by : (b : Bool) → GoodPole (cond b (pole_at t (pole_start t + 1)) usual_pole)
       by true = a_pole (pole_start t + 1)
@@ -99,7 +91,7 @@ module _ (l : List ℕ) where
 
   opening_model_law : Flag (opening_model t)
   unfolding opening_model
-  opening_model_law = by (brings t MODEL (model_start t))
+  opening_model_law = by (brings t word.Model (model_start t))
     where
       by : (b : Bool) → Flag (cond b (model_at t (model_start t + 1)) 0)
       by true = one_of_two (model_start t + 1)
@@ -121,53 +113,84 @@ module _ (l : List ℕ) where
 -- ---- a line, whether its words fit or not
 
 if_fits : (f : Fit) {x : Line} → GoodLine x → GoodLine (line_if f x)
-if_fits Good h = h
-if_fits (NoFit f) h = wrong
+if_fits (Ok u) h = h
+if_fits (Err f) h = wrong
 
 call_if_fits : (f : Fit) {c : WrittenCall} → GoodCall c → GoodLine (call_if f c)
 call_if_fits f h = if_fits f (called h)
 
-either_edit : (b : Bool) {x y : WrittenEdit} → GoodEdit x → GoodEdit y → GoodEdit (cond b x y)
-either_edit true p q = p
-either_edit false p q = q
-
-either_call : (b : Bool) {x y : WrittenCall} → GoodCall x → GoodCall y → GoodCall (cond b x y)
-either_call true p q = p
-either_call false p q = q
-
 module _ (l : List ℕ) where
-  an_edit : (w : ℕ) → GoodEdit (change_edit (t l) w)
+  an_edit : (w : AWord) → GoodEdit (change_edit (t l) w)
   unfolding change_edit
-  an_edit w =
-      let d = decimal_at (t l) 2 in
-      either_edit (eqb w SUNSPOT) (sunspot {d = d} (few l 2))
-      (either_edit (eqb w HOUR) (hour {d = d} (few l 2))
-      (either_edit (eqb w PATH) (path (route l 2))
-      (either_edit (eqb w FACTORS) (psc (factors l 2))
-      (either_edit (eqb w POLE) (pole (a_pole l 2))
-      (either_edit (eqb w MONTH) (month (fits l 2)) (model (one_of_two l 2)))))))
+  an_edit word.Open = model (one_of_two l 2)
+  an_edit word.Month = month (fits l 2)
+  an_edit word.Sunspot = sunspot {d = decimal_at (t l) 2} (few l 2)
+  an_edit word.Hour = hour {d = decimal_at (t l) 2} (few l 2)
+  an_edit word.From = model (one_of_two l 2)
+  an_edit word.To = model (one_of_two l 2)
+  an_edit word.Long = model (one_of_two l 2)
+  an_edit word.Factors = psc (factors l 2)
+  an_edit word.Pole = pole (a_pole l 2)
+  an_edit word.Model = model (one_of_two l 2)
+  an_edit word.Ccir = model (one_of_two l 2)
+  an_edit word.Ursi = model (one_of_two l 2)
+  an_edit word.Begin = model (one_of_two l 2)
+  an_edit word.Path = path (route l 2)
+  an_edit word.Commit = model (one_of_two l 2)
+  an_edit word.Cancel = model (one_of_two l 2)
+  an_edit word.Show = model (one_of_two l 2)
+  an_edit word.Take = model (one_of_two l 2)
+  an_edit word.Back = model (one_of_two l 2)
+  an_edit word.Another = model (one_of_two l 2)
 
-  a_deed : (n w : ℕ) → Fits n → GoodCall (deed_call (t l) n w)
+  a_deed : (n : ℕ) (w : AWord) → Fits n → GoodCall (deed_call (t l) n w)
   unfolding deed_call
-  a_deed n w h =
-      either_call (eqb w BEGIN) (begin h)
-      (either_call (eqb w COMMIT) (commit h)
-      (either_call (eqb w CANCEL) (cancel h) (either_call (eqb w SHOW) (show h) (change h (an_edit w)))))
+  a_deed n word.Open h = change h (an_edit word.Open)
+  a_deed n word.Month h = change h (an_edit word.Month)
+  a_deed n word.Sunspot h = change h (an_edit word.Sunspot)
+  a_deed n word.Hour h = change h (an_edit word.Hour)
+  a_deed n word.From h = change h (an_edit word.From)
+  a_deed n word.To h = change h (an_edit word.To)
+  a_deed n word.Long h = change h (an_edit word.Long)
+  a_deed n word.Factors h = change h (an_edit word.Factors)
+  a_deed n word.Pole h = change h (an_edit word.Pole)
+  a_deed n word.Model h = change h (an_edit word.Model)
+  a_deed n word.Ccir h = change h (an_edit word.Ccir)
+  a_deed n word.Ursi h = change h (an_edit word.Ursi)
+  a_deed n word.Begin h = begin h
+  a_deed n word.Path h = change h (an_edit word.Path)
+  a_deed n word.Commit h = commit h
+  a_deed n word.Cancel h = cancel h
+  a_deed n word.Show h = show h
+  a_deed n word.Take h = change h (an_edit word.Take)
+  a_deed n word.Back h = change h (an_edit word.Back)
+  a_deed n word.Another h = change h (an_edit word.Another)
 
-  deed : (n w : ℕ) → Fits n → GoodLine (deed_line (t l) n w)
+  deed : (n : ℕ) (w : AWord) → Fits n → GoodLine (deed_line (t l) n w)
   deed n w h = subst GoodLine (deed_parts (t l) n w) (call_if_fits (deed_fit (t l) w) (a_deed n w h))
 
-  bare : (w : ℕ) → GoodCall (bare_call w)
-  unfolding bare_call
-  bare w = either_call (eqb w SHOW) (show {n = 0} (omega arith)) take_back
-
-  by_word : (w : ℕ) → GoodLine (word_line (t l) w)
+  by_word : (w : AWord) → GoodLine (word_line (t l) w)
   unfolding word_line
-  by_word w = by (eqb w OPEN) refl
-    where
-      by : (b : Bool) → eqb w OPEN ≡ b → GoodLine (word_line (t l) w)
-      by true e = subst GoodLine (sym (cond_true _ _ e)) (if_fits (open_fit (t l)) (opened (opening l)))
-      by false e = subst GoodLine (bare_parts (t l) w e) (call_if_fits (bare_fit (t l) w) (bare w))
+  by_word word.Open = if_fits (open_fit (t l)) (opened (opening l))
+  by_word word.Month = wrong
+  by_word word.Sunspot = wrong
+  by_word word.Hour = wrong
+  by_word word.From = wrong
+  by_word word.To = wrong
+  by_word word.Long = wrong
+  by_word word.Factors = wrong
+  by_word word.Pole = wrong
+  by_word word.Model = wrong
+  by_word word.Ccir = wrong
+  by_word word.Ursi = wrong
+  by_word word.Begin = wrong
+  by_word word.Path = wrong
+  by_word word.Commit = wrong
+  by_word word.Cancel = wrong
+  by_word word.Show = call_if_fits _ (show {n = 0} (omega arith))
+  by_word word.Take = call_if_fits _ take_back
+  by_word word.Back = wrong
+  by_word word.Another = wrong
 
   desk : (n : ℕ) (k : Token) → Fits n → GoodLine (desk_line (t l) n k)
   desk n (token.Word w) h = deed n w h

@@ -1,17 +1,12 @@
 -- The text of a call reads as that call, and so of an open: the words of the text are known, and the
 -- grammar computes on them. Assumes nothing.
-use Prim.Native.Nat.{ℕ, ◌^◌}
-use mathlib.Core.Bool.{Bool, true, false, cond}
-use mathlib.Core.List.{List, [], ◌∷◌}
-use mathlib.Core.Path.{◌≡◌, refl, sym, ap, ◌∙◌}
-use lib.Dec.{eqb, ltb}
-use borrow.Author.Tests.{lt-ltb, eqb-true}
+use Rattle.std.proofs.Common.{ℕ, ◌^◌, Bool, true, false, cond, List, [], ◌∷◌, ◌≡◌, refl, sym, ap, ◌∙◌, eqb, ltb, lt-ltb, eqb-true}
 use Rattle.base.proofs.verdicts.Picks.{cond_true}
 use Rattle.wording.specs.declared.token.Token.{Token}
 use Rattle.wording.specs.declared.token.Token.TheVariants.{Word, Number}
 use Rattle.wording.specs.declared.token.Tokens.{Tokens}
 use Rattle.wording.specs.declared.line.Wanted.TheVariants.{Whole}
-use Rattle.wording.specs.declared.line.Fit.TheVariants.{Good}
+use Rattle.wording.specs.Line.{Good}
 use Rattle.wording.specs.declared.line.Line.{Line}
 use Rattle.wording.specs.declared.line.Line.TheVariants.{Open, Call}
 use Rattle.wording.specs.declared.written.WrittenRoute.{WrittenRoute}
@@ -21,8 +16,8 @@ use Rattle.wording.specs.declared.written.WrittenEdit.TheVariants.{Path, Month, 
 use Rattle.wording.specs.declared.written.WrittenCall.{WrittenCall}
 use Rattle.wording.specs.declared.written.WrittenCall.TheVariants.{Change, Show}
 use Rattle.wording.specs.Token.{tokens_of, token_at}
-use Rattle.wording.specs.Line.{fit_unless, ◌and_then◌, call_if, line_if, word_fit, number_fit, whole_fit, model_fit, end_fit, decimal_at, whole_at, model_at, pair_fit, four_fit, route_fit, route_at, route_end, factors_at, pole_at, head_fit, factors_start, pole_start, model_start, open_end, factors_fit, pole_fit, models_fit, open_fit, opening_factors, opening_pole, opening_model, opening_at, change_line, deed_line, desk_line, word_line, number_line, start_line, line_in}
-use Rattle.wording.specs.Line.{SUNSPOT, HOUR, PATH, MONTH, BEGIN, COMMIT, CANCEL, SHOW}
+use Rattle.wording.specs.Line.{fit_unless, ◌and_then◌, call_if, line_if, model_fit, whole_at, model_at, pair_fit, four_fit, route_fit, route_at, route_end, factors_at, pole_at, head_fit, factors_start, pole_start, model_start, open_end, factors_fit, pole_fit, models_fit, open_fit, opening_factors, opening_pole, opening_model, opening_at, change_line, deed_line, desk_line, word_line, number_line, start_line, line_in}
+use Rattle.wording.specs.declared.token.Word.TheVariants as word
 use Rattle.listing.specs.Written.{call_text, open_text}
 use Rattle.results.specs.ReadBack.{Fits, Flag, off, on, GoodEdit, sunspot, hour, path, psc, pole, month, model, GoodInputs, GoodCall, begin, change, commit, cancel, take_back, show}
 use Rattle.results.proofs.reading.Words.{AllRead, trailing, held, tokens_read, blank_first}
@@ -47,7 +42,7 @@ flagged o a b =
 
 -- the line that words are, by computation
 as_line : List Token → Line
-unfolding token_at word_fit number_fit whole_fit model_fit end_fit decimal_at whole_at model_at pair_fit four_fit route_fit route_at route_end factors_at pole_at head_fit factors_start pole_start model_start open_end factors_fit pole_fit models_fit open_fit opening_factors opening_pole opening_model opening_at change_line deed_line word_line number_line
+unfolding token_at model_fit whole_at model_at pair_fit four_fit route_fit route_at route_end factors_at pole_at head_fit factors_start pole_start model_start open_end factors_fit pole_fit models_fit open_fit opening_factors opening_pole opening_model opening_at change_line deed_line word_line number_line
 as_line l = start_line (held l) (token_at (held l) 0)
 
 reads_as : (text : List ℕ) (l : List Token) → 32 ∷ text ≡ trailing l → AllRead l → line_in text ≡ as_line l
@@ -68,47 +63,47 @@ module _ (n : ℕ) (h : Fits n) where
 
   path_line :
       (p : WrittenRoute) {m : ℕ} → Flag m →
-      as_line (whole n ∷ Word PATH ∷ route_tokens (turned p m)) ≡ Call (Change n (Path (turned p m)))
+      as_line (whole n ∷ Word word.Path ∷ route_tokens (turned p m)) ≡ Call (Change n (Path (turned p m)))
   unfolding as_line
-  path_line p off = desk_line_law (Word PATH ∷ route_tokens (turned p 0))
-  path_line p on = desk_line_law (Word PATH ∷ route_tokens (turned p 1))
+  path_line p off = desk_line_law (Word word.Path ∷ route_tokens (turned p 0))
+  path_line p on = desk_line_law (Word word.Path ∷ route_tokens (turned p 1))
 
   model_line : {m : ℕ} → Flag m → as_line (whole n ∷ model_tokens m) ≡ Call (Change n (Model m))
   unfolding as_line
   model_line off = desk_line_law (model_tokens 0)
   model_line on = desk_line_law (model_tokens 1)
 
-  month_line : (m : ℕ) → Fits m → as_line (whole n ∷ Word MONTH ∷ whole m ∷ []) ≡ Call (Change n (Month m))
+  month_line : (m : ℕ) → Fits m → as_line (whole n ∷ Word word.Month ∷ whole m ∷ []) ≡ Call (Change n (Month m))
   unfolding as_line
   month_line m g =
       let e = lt-ltb m (2 ^ 32) g in
-      desk_line_law (Word MONTH ∷ whole m ∷ [])
+      desk_line_law (Word word.Month ∷ whole m ∷ [])
       ∙ λ i. call_if (fit_unless (e i) 2 Whole and_then Good) (Change n (Month (cond (e i) m 0)))
 
   change_line_law : {e : WrittenEdit} → GoodEdit e → as_line (whole n ∷ edit_tokens e) ≡ Call (Change n e)
   unfolding as_line
-  change_line_law (sunspot {d} g) = desk_line_law (Word SUNSPOT ∷ Number d ∷ [])
-  change_line_law (hour {d} g) = desk_line_law (Word HOUR ∷ Number d ∷ [])
+  change_line_law (sunspot {d} g) = desk_line_law (Word word.Sunspot ∷ Number d ∷ [])
+  change_line_law (hour {d} g) = desk_line_law (Word word.Hour ∷ Number d ∷ [])
   change_line_law (path {p} g) = path_line p g.long
   change_line_law (psc {p} g) = desk_line_law (factors_tokens p)
   change_line_law (pole {p} g) = desk_line_law (pole_tokens p)
   change_line_law (month {m} g) = month_line m g
   change_line_law (model g) = model_line g
 
-  show_line : as_line (cond (eqb n 0) (Word SHOW ∷ []) (whole n ∷ Word SHOW ∷ [])) ≡ Call (Show n)
+  show_line : as_line (cond (eqb n 0) (Word word.Show ∷ []) (whole n ∷ Word word.Show ∷ [])) ≡ Call (Show n)
   unfolding as_line
   show_line = by (eqb n 0) refl
     where
-      by : (b : Bool) → eqb n 0 ≡ b → as_line (cond b (Word SHOW ∷ []) (whole n ∷ Word SHOW ∷ [])) ≡ Call (Show n)
+      by : (b : Bool) → eqb n 0 ≡ b → as_line (cond b (Word word.Show ∷ []) (whole n ∷ Word word.Show ∷ [])) ≡ Call (Show n)
       by true e = ap (λ (k : ℕ). Call (Show k)) (sym (eqb-true n 0 e))
-      by false e = desk_line_law (Word SHOW ∷ [])
+      by false e = desk_line_law (Word word.Show ∷ [])
 
 call_line : {c : WrittenCall} → GoodCall c → as_line (call_tokens c) ≡ Call c
 unfolding as_line
-call_line (begin {n} h) = desk_line_law n h (Word BEGIN ∷ [])
+call_line (begin {n} h) = desk_line_law n h (Word word.Begin ∷ [])
 call_line (change {n} h g) = change_line_law n h g
-call_line (commit {n} h) = desk_line_law n h (Word COMMIT ∷ [])
-call_line (cancel {n} h) = desk_line_law n h (Word CANCEL ∷ [])
+call_line (commit {n} h) = desk_line_law n h (Word word.Commit ∷ [])
+call_line (cancel {n} h) = desk_line_law n h (Word word.Cancel ∷ [])
 call_line take_back = refl
 call_line (show {n} h) = show_line n h
 

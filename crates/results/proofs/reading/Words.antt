@@ -1,33 +1,28 @@
 -- Words written with a blank before each read as just those words, and make one line: no word has a
 -- blank, a '#' or a newline in it. By the words in their order. Assumes nothing.
-use Prim.Native.Nat.{ℕ, suc, ◌≤◌}
-use Prim.Native.String.{String}
-use mathlib.Core.Bool.{Bool, true, false, not, ◌&&◌, ◌||◌}
-use mathlib.Core.List.{List, [], ◌∷◌, ◌++◌, map, append-nil, append_assoc}
-use mathlib.Core.Path.{◌≡◌, refl, sym, ap, ◌∙◌}
-use native.Mathlib.Omega.{arith}
-use lib.Dec.{eqb, leb, ltb}
-use lib.ListN.{get_or, take, replicate}
+use Rattle.std.proofs.Common.{ℕ, ◌≤◌, Bool, true, false, not, ◌&&◌, ◌||◌, List, [], ◌∷◌, ◌++◌, map, append-nil, append_assoc, ◌≡◌, refl, sym, ap, ◌∙◌, arith, eqb, leb, ltb, take, replicate, ne_eqb, leb-true, ltb-true, eqb-true, Option, None}
 use lib.Seq.{append_snoc}
-use borrow.Author.Tests.{not-true, ne_eqb, leb-true, ltb-true, eqb-true}
+use borrow.Author.Tests.{not-true}
 use Rattle.base.proofs.ladder.Ladders.{and_true, and_left, and_right, not_left}
 use Rattle.base.proofs.verdicts.Picks.{cond_false, never}
 use Rattle.wording.specs.declared.number.Decimal.{Decimal}
+use Rattle.std.specs.List.{find}
+use Rattle.std.specs.Str.{bytes_eq}
+use Rattle.wording.specs.declared.token.Word.{Word as AWord}
 use Rattle.wording.specs.declared.token.Token.{Token}
 use Rattle.wording.specs.declared.token.Token.TheVariants.{End, Word, Number, Other}
-use Rattle.wording.specs.declared.token.Slot.{Slot}
 use Rattle.wording.specs.declared.token.Tokens.{Tokens}
 use Rattle.wording.specs.Number.{is_digit, is_written}
-use Rattle.wording.specs.Token.{names, ascii, uncommented, closed, words_from, line_words, same, name_from, number_or, name_or, token_of, slots_of, first_tokens, tokens_of}
+use Rattle.wording.specs.Token.{name_of, words, ascii, uncommented, closed, words_from, line_words, word_named, number_or, name_or, token_of, first_tokens, tokens_of}
 use Rattle.listing.specs.Written.{number_text}
 use Rattle.listing.proofs.reread.Bytes.{in_word, all, begins_number, number_in_word, number_begins}
 use Rattle.listing.proofs.reread.Reading.{read_number}
 
 -- ---- words and their text
 
--- as it is written: a name by its number, or a number; no other word is
+-- as it is written: a name, or a number; no other word is
 abbrev pub token_text : Token → List ℕ
-token_text (Word k) = get_or (map ascii names) k []
+token_text (Word x) = ascii (name_of x)
 token_text (Number d) = number_text d
 token_text Other = []
 token_text End = []
@@ -131,24 +126,20 @@ trailing_on_line (more {x} {l} r h) = word_on_line (token_text x) (trailing l) r
 
 -- ---- as tokens
 
-abbrev slot : Token → Slot
-slot x = record { token = x }
-
-slots_read : {l : List Token} → AllRead l → slots_of (map token_text l) ≡ map slot l
-unfolding slots_of
-slots_read none = refl
-slots_read (more r h) = λ i. record { token = r.reads i } ∷ slots_read h i
+texts_read : {l : List Token} → AllRead l → map token_of (map token_text l) ≡ l
+texts_read none = refl
+texts_read (more r h) = λ i. r.reads i ∷ texts_read h i
 
 -- the places of a line whose words are these
 abbrev pub held : List Token → Tokens
-held l = record { slots = take 25 (map slot l ++ replicate 25 (slot End)) }
+held l = record { 0 = take 25 (l ++ replicate 25 End) }
 
 pub tokens_read : {l : List Token} → AllRead l → tokens_of (trailing l) ≡ held l
 unfolding tokens_of first_tokens
 tokens_read {l} h =
     let words : line_words (trailing l) ≡ map token_text l = ap (words_from []) (no_comments h) ∙ words_after_law [] h in
-    let slots : slots_of (line_words (trailing l)) ≡ map slot l = ap slots_of words ∙ slots_read h in
-    λ i. record { slots = take 25 (slots i ++ replicate 25 (slot End)) }
+    let tokens : map token_of (line_words (trailing l)) ≡ l = ap (map token_of) words ∙ texts_read h in
+    λ i. record { 0 = take 25 (tokens i ++ replicate 25 End) }
 
 -- a blank in front changes nothing
 pub blank_first : (l : List ℕ) → tokens_of (32 ∷ l) ≡ tokens_of l
@@ -162,9 +153,9 @@ abbrev starts_late : List ℕ → Bool
 starts_late [] = false
 starts_late (c ∷ l) = ltb 57 c
 
-abbrev all_late : List String → Bool
+abbrev all_late : List AWord → Bool
 all_late [] = true
-all_late (s ∷ l) = starts_late (ascii s) && all_late l
+all_late (x ∷ l) = starts_late (ascii (name_of x)) && all_late l
 
 byte_early : (c : ℕ) → (is_digit c || eqb c 45 || eqb c 46) ≡ true → c ≤ 57
 byte_early c h = by (is_digit c) (eqb c 45) refl refl h
@@ -174,21 +165,24 @@ byte_early c h = by (is_digit c) (eqb c 45) refl refl h
     by false true p q e = omega (arith, eqb-true c 45 q)
     by false false p q e = omega (arith, eqb-true c 46 e)
 
-differ : (l w : List ℕ) → starts_late l ≡ true → begins_number w ≡ true → same l w ≡ false
-unfolding same
+differ : (l w : List ℕ) → starts_late l ≡ true → begins_number w ≡ true → bytes_eq l w ≡ false
 differ [] w p q = never p
 differ (c ∷ l) [] p q = refl
 differ (c ∷ l) (d ∷ w) p q =
     let late = ltb-true 57 c p in
     let early = byte_early d q in
-    not_left (same l w) (ne_eqb c d (λ e. omega arith))
+    not_left (bytes_eq l w) (ne_eqb c d (λ e. omega arith))
 
-no_name : (k : ℕ) (l : List String) (w : List ℕ) → all_late l ≡ true → begins_number w ≡ true → name_from k l w ≡ Other
-unfolding name_from
-no_name k [] w p q = refl
-no_name k (s ∷ l) w p q =
-    cond_false _ _ (differ (ascii s) w (and_left (starts_late (ascii s)) (all_late l) p) q)
-    ∙ no_name (suc k) l w (and_right (starts_late (ascii s)) (all_late l) p) q
+none_of : (l : List AWord) (w : List ℕ) → all_late l ≡ true → begins_number w ≡ true → find (λ x. bytes_eq (ascii (name_of x)) w) l ≡ None
+none_of [] w p q = refl
+none_of (x ∷ l) w p q =
+    let name = ascii (name_of x) in
+    cond_false _ _ (differ name w (and_left (starts_late name) (all_late l) p) q)
+    ∙ none_of l w (and_right (starts_late name) (all_late l) p) q
+
+no_name : (w : List ℕ) → begins_number w ≡ true → word_named w ≡ None
+unfolding word_named
+no_name w q = none_of words w refl q
 
 begun_closed : (w : List ℕ) → begins_number w ≡ true → closed w ≡ w ∷ []
 begun_closed [] h = never h
@@ -202,6 +196,6 @@ number_read d h =
       in_word_law = number_in_word d h;
       some = begun_closed w (number_begins d h);
       reads =
-          ap (λ (x : Token). name_or x w) (no_name 0 names w refl (number_begins d h))
+          ap (λ (o : Option AWord). name_or o w) (no_name w (number_begins d h))
           ∙ ap number_or (read_number d h);
     }

@@ -1,17 +1,10 @@
 -- What AB holds at each of its 318 places: at the rows of each map up to word 8 the daily series of
 -- the row, elsewhere 0. By induction over the six maps, whose parts of AB follow one another.
 -- Assumes nothing.
-use mathlib.Core.Path.{◌≡◌, refl, sym, ap, ◌∙◌, subst}
-use mathlib.Core.Logic.{inl, inr}
-use mathlib.Core.List.{List, [], ◌∷◌}
-use Prim.Native.Nat.{ℕ, zero, suc, ◌+◌, ◌-◌, ◌*◌, ◌≤◌, ◌<◌}
-use native.Mathlib.Nat.{add-zero, zero-add, add_assoc}
-use native.Mathlib.Numerals.{add-one}
-use native.Mathlib.Omega.{arith}
+use Rattle.std.proofs.Common.{◌≡◌, refl, sym, ap, ◌∙◌, subst, inl, inr, List, [], ◌∷◌, ℕ, zero, suc, ◌+◌, ◌-◌, ◌*◌, ◌≤◌, ◌<◌, add-zero, zero-add, add_assoc, add-one, arith, lit≤, lit<, length, get_or, replicate, length-append, Float}
 use native.Mathlib.Decide.{dec_lt}
-use lib.Dec.{lit≤, lit<}
-use lib.ListN.{length, get_or, replicate, length-append, length-replicate, get_or-replicate}
-use lib.Ieee.{Float, nan}
+use lib.ListN.{length-replicate, get_or-replicate}
+use lib.Ieee.{nan}
 use Rattle.base.specs.Single.{◌⊕◌, ◌⊗◌, decimal}
 use Rattle.base.specs.Fill.{fill}
 use Rattle.base.specs.Index.{map_word, rows}

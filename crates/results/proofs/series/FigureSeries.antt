@@ -1,14 +1,8 @@
 -- The series of CCIR Report 340 among a sheet's figures: the six map values of each point are Omega
 -- at the point, and foE, foF2, the M3000 factor and the Es frequencies stand among its 29 numbers
 -- as they come of them. By the places of the figures. Assumes nothing.
-use mathlib.Core.Bool.{cond}
-use mathlib.Core.Path.{◌≡◌, refl, ap, ◌∙◌}
-use mathlib.Core.List.{List}
-use Prim.Native.Nat.{ℕ, ◌+◌, ◌-◌, ◌*◌, ◌≤◌}
-use lib.Dec.{lit<}
-use lib.ListN.{get_or}
-use lib.Ieee.{Float, nan, binary32, lt}
-use Rattle.base.specs.declared.refusal.Verdict.TheVariants.{Accepted}
+use Rattle.std.proofs.Common.{Ok, cond, ◌≡◌, refl, ap, ◌∙◌, List, ℕ, ◌+◌, ◌-◌, ◌*◌, ◌≤◌, lit<, get_or, Float}
+use lib.Ieee.{nan, binary32, lt}
 use Rattle.base.specs.Single.{◌⊗◌, ◌⊕◌, ◌⊖◌, decimal}
 use Rattle.base.specs.Number.{sqrt_of}
 use Rattle.base.specs.Elementary.{cos32_of}
@@ -25,7 +19,7 @@ use Rattle.results.specs.AsInTheRust.{omega_from}
 use Rattle.results.proofs.series.Report340.{six_series}
 use Rattle.results.proofs.sheet.FigurePlaces.{present_at}
 
-module _ (f2 file : List ℕ) (i : Inputs) (passed : index_check file ≡ Accepted) where
+module _ (f2 file : List ℕ) (i : Inputs) (passed : index_check file ≡ Ok tt) where
   -- Omega at a point, at its dip or its latitude
   abbrev Omega : ControlPoint → ℕ → Float → Float
   Omega pt = omega_from f2 file i.ssn i.gmt (east_of pt.lon).0 (cos32_of pt.lat.0)

@@ -1,15 +1,8 @@
 -- The map series of CCIR Report 340: the sum along AB reads the daily series themselves
 -- (`map_series`), and of files that were checked each coefficient is the blend of two words
 -- (`report_340`). Assumes nothing.
-use mathlib.Core.Path.{◌≡◌, sym, ap, ◌∙◌}
-use mathlib.Core.List.{List}
-use Prim.Native.Nat.{ℕ, zero, suc, ◌+◌, ◌-◌, ◌≤◌, ◌<◌}
-use native.Mathlib.Nat.{add-zero}
-use native.Mathlib.Omega.{arith}
-use lib.Dec.{lit<}
-use lib.ListN.{get_or}
-use lib.Ieee.{Float, nan}
-use Rattle.base.specs.declared.refusal.Verdict.TheVariants.{Accepted}
+use Rattle.std.proofs.Common.{Ok, ◌≡◌, sym, ap, ◌∙◌, List, ℕ, zero, suc, ◌+◌, ◌-◌, ◌≤◌, ◌<◌, add-zero, arith, lit<, get_or, Float}
+use lib.Ieee.{nan}
 use Rattle.base.specs.Double.{◌⊕◌, ◌⊗◌}
 use Rattle.base.specs.Number.{narrow_of}
 use Rattle.base.specs.Elementary.{sin_of}
@@ -76,7 +69,7 @@ omega_same u w v gmt x clg gob e =
     (λ k. geographic_same w v (λ i l. e i (omega arith)) (sin_of x) gob clg k t)
     (last t)
 
-module _ (f2 month : List ℕ) (ssn gmt x clg gob : Float) (passed : index_check month ≡ Accepted) (k : ℕ) (h : k < 6) where
+module _ (f2 month : List ℕ) (ssn gmt x clg gob : Float) (passed : index_check month ≡ Ok tt) (k : ℕ) (h : k < 6) where
   blended_series :
       omega_of (coefficient_in (cofion_of f2 month ssn) k) (map_word (index_of month) k) gmt x clg gob
       ≡
@@ -104,7 +97,7 @@ module _ (f2 month : List ℕ) (ssn gmt x clg gob : Float) (passed : index_check
       ∙ omega_same (coefficient_of f2 month ssn k) _ _ gmt x clg gob (λ i l. index_entry month k i h l)
 
 -- the six maps of a place, as `versy` gives them
-module _ (f2 month : List ℕ) (ssn gmt dip lat clg gob : Float) (passed : index_check month ≡ Accepted) where
+module _ (f2 month : List ℕ) (ssn gmt dip lat clg gob : Float) (passed : index_check month ≡ Ok tt) where
   abbrev Omega : ℕ → Float → Float
   Omega k x = omega_of (coefficient_of f2 month ssn k) (λ i. word_at month (entry_place ikim i k 0)) gmt x clg gob
 

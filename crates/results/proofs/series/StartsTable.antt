@@ -1,15 +1,9 @@
 -- The table of series starts: one list of 318 meets its rule, by computation over its entries, and no
 -- other of that length, since every place of AB is a row of some map; and what AB holds by it. Assumes
 -- nothing.
-use mathlib.Core.Path.{◌≡◌, refl, sym, ap, ◌∙◌}
-use mathlib.Core.List.{List, ◌++◌}
-use Prim.Native.Nat.{ℕ, ◌+◌, ◌-◌, ◌*◌, ◌≤◌, ◌<◌}
-use native.Mathlib.Omega.{arith}
+use Rattle.std.proofs.Common.{◌≡◌, refl, sym, ap, ◌∙◌, List, ◌++◌, ℕ, ◌+◌, ◌-◌, ◌*◌, ◌≤◌, ◌<◌, arith, lit<, ext_get_or, length, get_or, Float}
 use native.Mathlib.Decide.{dec_lt}
-use lib.Dec.{lit<}
-use lib.Seq.{ext_get_or}
-use lib.ListN.{length, get_or}
-use lib.Ieee.{Float, nan}
+use lib.Ieee.{nan}
 use Rattle.base.specs.Fill.{tabulate}
 use Rattle.base.specs.Index.{map_word, rows}
 use Rattle.base.specs.Blend.{IA, IB, IC}

@@ -1,5 +1,5 @@
 -- Closed desks, said desk by desk, are those that the laws about lists take. Assumes nothing.
-use mathlib.Core.Path.{◌≡◌, sym}
+use Rattle.std.proofs.Common.{◌≡◌, sym}
 use Rattle.worksheet.specs.declared.desks.Worksheet.{Worksheet}
 use Rattle.worksheet.proofs.drafts.Drafts.{at_rest}
 use Rattle.results.specs.Insurer.{DesksClosed}

@@ -1,15 +1,9 @@
 -- A list with a change of month and of model, worked out: its calls by computation, for any source of
 -- files, and its showing since after every list of calls a worksheet that opens is shown. Assumes
 -- nothing.
-use mathlib.Core.List.{List, [], ◌∷◌, map}
-use mathlib.Core.Path.{◌≡◌, refl, ap, ◌∙◌}
-use Prim.Native.Nat.{ℕ}
-use lib.ListN.{length}
-use lib.Ieee.{Float}
-use Rattle.base.specs.declared.refusal.Verdict.TheVariants.{Accepted}
+use Rattle.std.proofs.Common.{Ok, List, [], ◌∷◌, map, ◌≡◌, refl, ap, ◌∙◌, ℕ, length, Float}
 use Rattle.base.specs.Ranges.{month_check, model_check}
 use Rattle.maps.specs.declared.inputs.Inputs.{Inputs}
-use Rattle.maps.specs.declared.figures.Shown.TheVariants.{Points}
 use Rattle.maps.specs.Figures.{sheet_path, figures_of}
 use Rattle.worksheet.specs.declared.inputs.Edit.TheVariants.{Month, Model}
 use Rattle.worksheet.specs.Inputs.{edit_check, edited}
@@ -29,7 +23,7 @@ abbrev answers_of : List Entry → List Answer
 answers_of = map (λ (e : Entry). e.answer)
 
 abbrev four_and : Answer → List Answer
-four_and r = told Accepted ∷ told Accepted ∷ told Accepted ∷ told Accepted ∷ r ∷ []
+four_and r = told (Ok tt) ∷ told (Ok tt) ∷ told (Ok tt) ∷ told (Ok tt) ∷ r ∷ []
 
 module _ (source : Source) (i : Inputs) (lent : List Float) where
   answered :
@@ -39,12 +33,12 @@ module _ (source : Source) (i : Inputs) (lent : List Float) where
   answered = refl
 
 -- over any year file that refuses nothing of month 12 and URSI
-pub december : (s : List ℕ) → year_files_check s 12 1 ≡ Accepted → (i : Inputs) → (open_of i).answer ≡ Accepted →
+pub december : (s : List ℕ) → year_files_check s 12 1 ≡ Ok tt → (i : Inputs) → (open_of i).answer ≡ Ok tt →
     (lent : List Float) → length lent ≡ 151 →
     answers_of (run (yearly s) (to_december lent) (open_of i).sheet).entries
     ≡
     four_and
-    (shown (Points (sheet_path (in_december i)).count) (figures_of (record_at s 12 1) (part_at s 11) (in_december i)))
+    (shown (Ok (sheet_path (in_december i)).count) (figures_of (record_at s 12 1) (part_at s 11) (in_december i)))
 unfolding answered
 december s good i h lent l =
     answered (yearly s) i lent ∙ ap four_and (year_always_shown s i h changes lent l good)

@@ -1,16 +1,10 @@
 -- Where each figure stands among the 151: the path's six first, and number k of point p, counted
 -- from 1, at 6 + 29 * (p - 1) + k. By the rows' lengths, one after the other. With it the clock and
 -- the absent rows as printed. Assumes nothing.
-use mathlib.Core.Path.{◌≡◌, refl, sym, ap, subst, ◌∙◌}
-use mathlib.Core.List.{List, ◌++◌}
-use Prim.Native.Nat.{ℕ, zero, suc, ◌+◌, ◌*◌, ◌-◌, ◌≤◌, ◌<◌}
-use native.Mathlib.Omega.{arith}
+use Rattle.std.proofs.Common.{◌≡◌, refl, sym, ap, subst, ◌∙◌, List, ◌++◌, ℕ, zero, suc, ◌+◌, ◌*◌, ◌-◌, ◌≤◌, ◌<◌, arith, lt-ltb, le-ltb, lit<, get_or, replicate, get_or-append-add, Float}
 use native.Mathlib.Decide.{dec_lt}
-use borrow.Author.Tests.{lt-ltb, le-ltb}
-use lib.Dec.{lit<}
-use lib.ListN.{get_or, replicate, get_or-replicate, get_or-append}
-use lib.Seq.{get_or-append-add}
-use lib.Ieee.{Float, nan}
+use lib.ListN.{get_or-replicate, get_or-append}
+use lib.Ieee.{nan}
 use Rattle.base.specs.Single.{decimal}
 use Rattle.base.proofs.verdicts.Picks.{cond_true, cond_false}
 use Rattle.maps.specs.declared.inputs.Inputs.{Inputs}

@@ -1,19 +1,16 @@
 -- Sheets that are shown: with the record and the month file that base exhibits every inputs are
 -- answered with their points, and the buffer is the figures, so that no law about a sheet that is
 -- shown is empty. Assumes nothing.
-use mathlib.Core.Path.{◌≡◌, ap}
-use mathlib.Core.List.{List}
-use lib.Ieee.{Float}
-use Rattle.base.specs.declared.refusal.Verdict.{Verdict}
+use Rattle.std.proofs.Common.{Ok, ◌≡◌, ap, List, Float}
+use Rattle.base.specs.Refusal.{Verdict}
 use Rattle.results.specs.ExhibitedFiles.{good_record, good_month_file}
 use Rattle.results.proofs.files.GoodFiles.{files_accepted}
 use Rattle.maps.specs.declared.inputs.Inputs.{Inputs}
-use Rattle.maps.specs.declared.figures.Shown.TheVariants.{Points}
 use Rattle.maps.specs.Figures.{sheet_path, figures_of, points_or, shown_of, figures_buffer}
 use Rattle.maps.proofs.sheet.Alone.{all_written}
 
 module _ (x : Inputs) where
-  pub sheet_shown_law : shown_of good_record good_month_file x ≡ Points (sheet_path x).count
+  pub sheet_shown_law : shown_of good_record good_month_file x ≡ Ok (sheet_path x).count
   unfolding shown_of
   sheet_shown_law = ap (λ (v : Verdict). points_or v (sheet_path x).count) files_accepted
 

@@ -1,15 +1,9 @@
 -- A year file that is written out, of which all months and models can be shown, since each file in it
 -- passes its check; it is of bytes, since it is short. Assumes nothing.
-use mathlib.Core.List.{List, [], ◌∷◌, ◌++◌, map}
-use mathlib.Core.Path.{◌≡◌, refl, ap, ◌∙◌}
-use Prim.Native.Nat.{ℕ, zero, suc, ◌+◌, ◌*◌, ◌^◌, ◌≤◌, ◌<◌}
-use native.Mathlib.Omega.{arith}
+use Rattle.std.proofs.Common.{Ok, List, [], ◌∷◌, ◌++◌, map, ◌≡◌, refl, ap, ◌∙◌, ℕ, zero, suc, ◌+◌, ◌*◌, ◌^◌, ◌≤◌, ◌<◌, arith, lit≤, length, get_or, drop, replicate, length-append, le-ltb, lt-ltb}
 use native.Mathlib.Decide.{dec_lt}
-use lib.Dec.{lit≤}
-use lib.ListN.{length, get_or, drop, replicate, length-append, length-map, length-replicate}
-use borrow.Author.Tests.{le-ltb, lt-ltb}
+use lib.ListN.{length-map, length-replicate}
 use Rattle.base.specs.declared.refusal.Refusal.TheVariants.{RecordWord}
-use Rattle.base.specs.declared.refusal.Verdict.TheVariants.{Accepted}
 use Rattle.base.specs.Refusal.{◌then◌}
 use Rattle.base.specs.Words.{four_bytes}
 use Rattle.base.specs.MonthFile.{record_size, sizes, month_record_check}
@@ -59,22 +53,22 @@ of_each P p q k h = elim (dec_lt k 12) [
 
 -- ---- they pass their checks
 
-month_good : file_check good_month_file ≡ Accepted
+month_good : file_check good_month_file ≡ Ok tt
 unfolding file_check
 month_good = λ i. month_file_accepted i then tables_accepted i then index_accepted i
 
-daws_there : month_record_check daws 12 ≡ Accepted
+daws_there : month_record_check daws 12 ≡ Ok tt
 daws_there =
     month_there daws 12
     (record { low = lit≤ tt; high = lit≤ tt; room = omega (arith, length-replicate {A = ℕ} (12 * record_size) 0) })
 
-daws_good : daw_check daws ≡ Accepted
+daws_good : daw_check daws ≡ Ok tt
 unfolding daw_check record_words_check
 daws_good =
     let words = finite_run daws RecordWord 0 23712 (zeros_finite (12 * record_size) 23712 (lit≤ tt)) in
     λ i. daws_there i then words i
 
-each_good : (k : ℕ) → k < 14 → part_check k (get_or parts k []) ≡ Accepted
+each_good : (k : ℕ) → k < 14 → part_check k (get_or parts k []) ≡ Ok tt
 unfolding part_check
 each_good k h = elim (dec_lt k 12) [
   | yes l ↦ cond_true _ _ (lt-ltb k 12 l) ∙ ap file_check (month_at k l) ∙ month_good

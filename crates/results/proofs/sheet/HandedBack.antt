@@ -1,15 +1,9 @@
 -- What the library hands back: the number 0 exactly where a call was accepted; and the insurer's
 -- sentence of a showing that hands back 0, as the last call of a list. Assumes nothing.
-use mathlib.Core.List.{List, [], ◌∷◌, ◌++◌}
-use mathlib.Core.Path.{◌≡◌, refl, sym, ap, ◌∙◌}
-use Prim.Native.Nat.{ℕ}
-use native.Mathlib.Omega.{arith}
-use lib.Ieee.{Float}
-use Rattle.base.specs.declared.refusal.Verdict.{Verdict}
-use Rattle.base.specs.declared.refusal.Verdict.TheVariants.{Accepted, Refused}
+use Rattle.std.proofs.Common.{Err, Ok, Result, List, [], ◌∷◌, ◌++◌, ◌≡◌, refl, sym, ap, ◌∙◌, ℕ, arith, Float}
+use Rattle.base.specs.declared.refusal.Refusal.{Refusal}
+use Rattle.base.specs.Refusal.{Verdict}
 use Rattle.base.proofs.verdicts.Refusals.{accepted_by_number}
-use Rattle.maps.specs.declared.figures.Shown.{Shown}
-use Rattle.maps.specs.declared.figures.Shown.TheVariants.{Points, Refused as NotShown}
 use Rattle.worksheet.specs.Desks.{opened_of}
 use Rattle.worksheet.specs.Showing.{Source, show_of, show_buffer}
 use Rattle.worksheet.specs.Journal.{Call, show, shown, Entry, step, entry_of}
@@ -20,15 +14,15 @@ use Rattle.jutetrowel.specs.Words.{worksheet_of, words_after}
 use Rattle.jutetrowel.specs.Calls.{CallSingles, CallsSingles, Shows, words_left, entries_over, words_over}
 use Rattle.results.proofs.force.InsuredOver.{insurers_sentence_opened}
 
-pub accepted_number : (v : Verdict) → (answer_of v).number ≡ 0 → v ≡ Accepted
+pub accepted_number : (v : Verdict) → (answer_of v).number ≡ 0 → v ≡ Ok tt
 unfolding answer_of
 accepted_number v e = accepted_by_number v e
 
-pub shown_number : (x : Shown) → (showing_of x).number ≡ 0 → x ≡ Points (showing_of x).points
+pub shown_number : (x : Result ℕ Refusal) → (showing_of x).number ≡ 0 → x ≡ Ok (showing_of x).points
 unfolding showing_of
-shown_number (Points count) e = refl
-shown_number (NotShown why) e =
-    let p : Refused why ≡ Accepted = accepted_by_number (Refused why) e in
+shown_number (Ok count) e = refl
+shown_number (Err why) e =
+    let p : Err why ≡ Ok tt = accepted_by_number (Err why) e in
     let z : ◌≡◌ {A = ℕ} 0 1 = cc in
     absurd (omega arith)
 
@@ -49,7 +43,7 @@ singles_after (d ∷ cs) c h k = (h.0, singles_after cs c h.1 k)
 -- ---- the insurer's sentence
 
 pub insurers_sentence_handed :
-    (source : Source) (s words : List ℕ) → (opened_of s).answer ≡ Accepted → (cs : List Call) → CallsSingles cs →
+    (source : Source) (s words : List ℕ) → (opened_of s).answer ≡ Ok tt → (cs : List Call) → CallsSingles cs →
     (lent figures : List Float) (r : Showing) → let l = words_after (opened_of s) words in
     Shows (step source (show 0 lent) (worksheet_of (words_over source cs l))).answer r figures →
     r.number ≡ 0 →
@@ -60,10 +54,10 @@ insurers_sentence_handed source s words h cs k lent figures r given zero =
     let w = worksheet_of (words_over source cs l) in
     let number : (showing_of (show_of source 0 lent w)).number ≡ 0 =
     ap (λ (x : Showing). x.number) (sym given.0) ∙ zero in
-    let points : show_of source 0 lent w ≡ Points r.points =
-    shown_number (show_of source 0 lent w) number ∙ ap (λ (x : Showing). Points x.points) (sym given.0) in
+    let points : show_of source 0 lent w ≡ Ok r.points =
+    shown_number (show_of source 0 lent w) number ∙ ap (λ (x : Showing). Ok x.points) (sym given.0) in
     let whole : show_buffer source 0 lent w ≡ figures = sym given.1 in
-    let x : Entry = record { call = show 0 lent; answer = shown (Points r.points) figures } in
+    let x : Entry = record { call = show 0 lent; answer = shown (Ok r.points) figures } in
     let last : entry_of source (show 0 lent) w ≡ x =
     λ t. record { call = show 0 lent; answer = shown (points t) (whole t) } in
     insurers_sentence_opened source s words h (cs ++ (show 0 lent ∷ [])) (singles_after cs (show 0 lent) k tt)

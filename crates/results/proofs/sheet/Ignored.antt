@@ -2,17 +2,9 @@
 -- their first 7,904 and 38,552 bytes have the same check, the same answer and the same figures,
 -- also where only one of the two files is changed and the other is any list at all. Everything that
 -- a sheet reads lies among those bytes. Assumes nothing.
-use mathlib.Core.Path.{◌≡◌, sym, ap, ◌∙◌}
-use mathlib.Core.Bool.{cond}
-use mathlib.Core.List.{List}
-use Prim.Native.Nat.{ℕ, ◌+◌, ◌*◌, ◌≤◌}
-use lib.Dec.{leb, lit≤}
-use lib.ListN.{length}
-use lib.Ieee.{Float}
-use borrow.Author.Tests.{le-leb}
+use Rattle.std.proofs.Common.{Err, ◌≡◌, sym, ap, ◌∙◌, cond, List, ℕ, ◌+◌, ◌*◌, ◌≤◌, leb, lit≤, length, Float, le-leb}
 use Rattle.base.specs.declared.refusal.Refusal.TheVariants.{Record}
-use Rattle.base.specs.declared.refusal.Verdict.{Verdict}
-use Rattle.base.specs.declared.refusal.Verdict.TheVariants.{Refused}
+use Rattle.base.specs.Refusal.{Verdict}
 use Rattle.base.specs.Single.{◌⊕◌, ◌⊗◌}
 use Rattle.base.specs.Refusal.{◌then◌, written_over}
 use Rattle.base.specs.MonthFile.{month_file_check}
@@ -74,7 +66,7 @@ module _ (s t : List ℕ) (a : Alike 38552 s t) where
       let walked = file_alike s t a in
       let words = tables_alike s t a in
       let index = check_alike 38552 s t a (lit≤ tt) in
-      λ i. cond (leb 7904 (length f)) (walked i then record_words_check f 1 then words i then index i) (Refused Record)
+      λ i. cond (leb 7904 (length f)) (walked i then record_words_check f 1 then words i then index i) (Err Record)
 
   module _ (f : List ℕ) (x : Inputs) where
     month_hour : hour_of f s x ≡ hour_of f t x
@@ -109,7 +101,7 @@ module _ (f g : List ℕ) (b : Alike 7904 f g) (s : List ℕ) where
       let q = b.there in
       let l : leb 7904 (length f) ≡ leb 7904 (length g) = le-leb 7904 (length f) p ∙ sym (le-leb 7904 (length g) q) in
       let words = records_alike f g b in
-      λ i. cond (l i) (month_file_check s then words i then table_words_check s then index_check s) (Refused Record)
+      λ i. cond (l i) (month_file_check s then words i then table_words_check s then index_check s) (Err Record)
 
   module _ (x : Inputs) where
     record_hour : hour_of f s x ≡ hour_of g s x

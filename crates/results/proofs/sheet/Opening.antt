@@ -1,9 +1,6 @@
 -- Words that open: 14 of them, written out byte by byte. By computation. Assumes nothing.
-use mathlib.Core.List.{List, [], ◌∷◌}
-use mathlib.Core.Path.{◌≡◌, refl}
-use Prim.Native.Nat.{ℕ}
+use Rattle.std.proofs.Common.{Ok, List, [], ◌∷◌, ◌≡◌, refl, ℕ}
 use lib.Ieee.{round, le, of_bits}
-use Rattle.base.specs.declared.refusal.Verdict.TheVariants.{Accepted}
 use Rattle.base.specs.Single.{decimal, minus_decimal}
 use Rattle.base.specs.Words.{word_at}
 use Rattle.base.specs.Ranges.{month_check, hour_check, latitude_check, longitude_check, model_check}
@@ -37,6 +34,6 @@ pub of_bytes : Below 256 opening_bytes
 unfolding all_below
 of_bytes = below_all 256 opening_bytes tt
 
-pub opens : (opened_of opening_bytes).answer ≡ Accepted
+pub opens : (opened_of opening_bytes).answer ≡ Ok tt
 unfolding opened_of open_of inputs_from route_from factors_from pole_from word_at of_bits inputs_check month_check sunspot_check hour_check route_check latitude_check longitude_check flag_check factors_check factor_check pole_check model_check decimal minus_decimal round le
 opens = refl

@@ -2,17 +2,8 @@
 -- parts: the source's verdict is accepted, so that the directory is good, the month is one, and the
 -- model's part reaches to the end of its record; no other word than 0 and 1 has a part. Assumes
 -- nothing.
-use mathlib.Core.Path.{◌≡◌, refl, sym, ap, subst, ◌∙◌}
-use mathlib.Core.Bool.{Bool, true, false}
-use mathlib.Core.List.{List}
-use mathlib.Core.Logic.{◌⊎◌, inl, inr}
-use Prim.Native.Nat.{ℕ, ◌+◌, ◌-◌, ◌*◌, ◌≤◌, ◌<◌}
+use Rattle.std.proofs.Common.{Ok, ◌≡◌, refl, sym, ap, subst, ◌∙◌, Bool, true, false, List, ◌⊎◌, inl, inr, ℕ, ◌+◌, ◌-◌, ◌*◌, ◌≤◌, ◌<◌, arith, length, take, drop, Float, le-leb}
 use native.Mathlib.Decide.{dec_lt}
-use native.Mathlib.Omega.{arith}
-use lib.ListN.{length, take, drop}
-use lib.Ieee.{Float}
-use borrow.Author.Tests.{le-leb}
-use Rattle.base.specs.declared.refusal.Verdict.TheVariants.{Accepted}
 use Rattle.base.specs.Ranges.{is_month, is_bit}
 use Rattle.base.specs.MonthFile.{Part, record_size, month_start, month_record_check}
 use Rattle.base.specs.Finite.{FiniteRecord}
@@ -24,7 +15,6 @@ use Rattle.base.proofs.verdicts.Refusals.{then_both}
 use Rattle.base.proofs.layout.Records.{month_known as record-known, month_part_law}
 use Rattle.base.proofs.layout.Directories.{month_known, bit_known, month_part_is, model_part_is, no_model}
 use Rattle.maps.specs.declared.inputs.Inputs.{Inputs}
-use Rattle.maps.specs.declared.figures.Shown.TheVariants.{Points}
 use Rattle.maps.specs.Figures.{sheet_path, figures_of}
 use Rattle.worksheet.specs.declared.desks.Worksheet.{Worksheet}
 use Rattle.worksheet.specs.Desks.{open_of}
@@ -36,7 +26,7 @@ use Rattle.results.proofs.files.YearDirectory.{year_good, parts_inside}
 use Rattle.results.proofs.force.Insured.{shown_figures}
 use Rattle.results.proofs.sheet.AlwaysShown.{year_shown}
 
-module _ (s : List ℕ) (good : year_check s ≡ Accepted) where
+module _ (s : List ℕ) (good : year_check s ≡ Ok tt) where
   -- the bytes of a pair's part
   pub part_bytes_law : (k : ℕ) → k < 14 → part_bytes s (pair_part s k) ≡ part_at s k
   part_bytes_law k h = ap (part_bytes s) (parts_inside s good k h).0
@@ -106,22 +96,22 @@ module _ (s : List ℕ) (i : Inputs) (count : ℕ) (figures : List Float) where
 
 pub one_month_one_model :
     (s : List ℕ) (w : Worksheet) (n : ℕ) (lent figures : List Float) (count : ℕ) →
-    (step (yearly s) (show n lent) w).answer ≡ shown (Points count) figures → OwnParts s (inputs_shown n w) count figures
+    (step (yearly s) (show n lent) w).answer ≡ shown (Ok count) figures → OwnParts s (inputs_shown n w) count figures
 one_month_one_model s w n lent figures count h =
     figures_own_parts s (inputs_shown n w) count figures (shown_figures (yearly s) n w lent figures count (sym h))
 
 -- ---- and after every list of calls there is such a showing, where the year file refuses nothing
 
-pub year_always_shown : (s : List ℕ) (opened : Inputs) → (open_of opened).answer ≡ Accepted →
+pub year_always_shown : (s : List ℕ) (opened : Inputs) → (open_of opened).answer ≡ Ok tt →
     (cs : List Call) (lent : List Float) → length lent ≡ 151 →
     let w = (run (yearly s) cs (open_of opened).sheet).sheet in
     let i = w.inputs in
-    year_files_check s i.month i.model ≡ Accepted →
+    year_files_check s i.month i.model ≡ Ok tt →
     (step (yearly s) (show 0 lent) w).answer
-    ≡ shown (Points (sheet_path i).count) (figures_of (record_at s i.month i.model) (part_at s (i.month - 1)) i)
+    ≡ shown (Ok (sheet_path i).count) (figures_of (record_at s i.month i.model) (part_at s (i.month - 1)) i)
 unfolding inputs_shown
 year_always_shown s opened h cs lent l good =
     let w = (run (yearly s) cs (open_of opened).sheet).sheet in
     let e = year_shown s opened h cs lent l good in
     let own = one_month_one_model s w 0 lent _ _ e in
-    e ∙ ap (shown (Points (sheet_path w.inputs).count)) own.whole
+    e ∙ ap (shown (Ok (sheet_path w.inputs).count)) own.whole

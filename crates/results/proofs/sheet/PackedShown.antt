@@ -1,17 +1,9 @@
 -- Of files that are packed all months and models can be shown exactly where each passes its check: a
 -- part is handed back as it was put in, and nothing else is looked at. Assumes nothing.
-use mathlib.Core.Bool.{true}
-use mathlib.Core.List.{List, []}
-use mathlib.Core.Path.{◌≡◌, refl, sym, ap, subst, ◌∙◌}
-use Prim.Native.Nat.{ℕ, zero, suc, ◌+◌, ◌-◌, ◌*◌, ◌≤◌, ◌<◌}
-use native.Mathlib.Omega.{arith}
+use Rattle.std.proofs.Common.{Ok, true, List, [], ◌≡◌, refl, sym, ap, subst, ◌∙◌, ℕ, zero, suc, ◌+◌, ◌-◌, ◌*◌, ◌≤◌, ◌<◌, arith, T, leb, lit≤, length, get_or, le-leb, le-ltb, lt-ltb, leb-true}
 use native.Mathlib.Decide.{dec_lt}
-use lib.Dec.{T, leb, lit≤}
-use lib.ListN.{length, get_or}
-use borrow.Author.Tests.{le-leb, le-ltb, lt-ltb, leb-true}
 use Rattle.base.specs.declared.refusal.Refusal.TheVariants.{Record}
-use Rattle.base.specs.declared.refusal.Verdict.{Verdict}
-use Rattle.base.specs.declared.refusal.Verdict.TheVariants.{Accepted}
+use Rattle.base.specs.Refusal.{Verdict}
 use Rattle.base.specs.Refusal.{refuse_unless, ◌then◌}
 use Rattle.base.specs.Ranges.{is_month, is_bit}
 use Rattle.base.specs.MonthFile.{record_size, month_record_check, month_file_check}
@@ -65,7 +57,7 @@ module _ (ps : List (List ℕ)) (n : length ps ≡ 14) where
       in_range_exactly (packed ps) month model m b
       ∙ (λ i. packed_accepted ps n i then room_check month (daw i) then rest_check month (daw i) (file i))
 
-  pub all_shown : ((k : ℕ) → k < 14 → part_check k (get_or ps k []) ≡ Accepted) → AllShown (packed ps)
+  pub all_shown : ((k : ℕ) → k < 14 → part_check k (get_or ps k []) ≡ Ok tt) → AllShown (packed ps)
   unfolding part_check daw_check index_file_check
   all_shown good month model t u =
       let m = is_true (is_month month) t in
@@ -84,14 +76,14 @@ module _ (ps : List (List ℕ)) (n : length ps ≡ 14) where
       let words = record_in daw d.1 month low high in
       let tables = finite_tables part (file_finite part file) in
       let index = file_index part file in
-      let has : room_check month daw ≡ Accepted = cond_true _ _ (le-leb (month * record_size) (length daw) (omega arith)) in
+      let has : room_check month daw ≡ Ok tt = cond_true _ _ (le-leb (month * record_size) (length daw) (omega arith)) in
       by_files month model m b ∙ (λ i. has i then walk i then words i then tables i then index i)
 
   -- what is accepted of a month and a model that can be shown
   record Seen (month model : ℕ) : Type 0 where
     room : month * record_size ≤ length (get_or ps (12 + model) [])
-    words : record_words_check (record_of (get_or ps (12 + model) []) month) 1 ≡ Accepted
-    file : file_check (get_or ps (month - 1) []) ≡ Accepted
+    words : record_words_check (record_of (get_or ps (12 + model) []) month) 1 ≡ Ok tt
+    file : file_check (get_or ps (month - 1) []) ≡ Ok tt
 
   seen : AllShown (packed ps) → (month model : ℕ) → is_month month ≡ true → is_bit model ≡ true → Seen month model
   unfolding file_check
@@ -110,7 +102,7 @@ module _ (ps : List (List ℕ)) (n : length ps ≡ 14) where
         file = λ i. w.0 i then r.1 i;
       }
 
-  pub each_good : AllShown (packed ps) → (k : ℕ) → k < 14 → part_check k (get_or ps k []) ≡ Accepted
+  pub each_good : AllShown (packed ps) → (k : ℕ) → k < 14 → part_check k (get_or ps k []) ≡ Ok tt
   unfolding part_check daw_check
   each_good all k h = elim (dec_lt k 12) [
     | yes l ↦

@@ -1,13 +1,7 @@
 -- A sheet's 14 words are the first 56 bytes: in a list that is cut every byte behind the cut counts as
 -- 0. Assumes nothing.
-use mathlib.Core.List.{List, [], ◌∷◌}
-use mathlib.Core.Path.{◌≡◌, refl, sym, ◌∙◌}
-use Prim.Native.Nat.{ℕ, zero, suc, ◌+◌, ◌*◌, ◌≤◌}
-use native.Mathlib.Omega.{arith}
+use Rattle.std.proofs.Common.{List, [], ◌∷◌, ◌≡◌, refl, sym, ◌∙◌, ℕ, zero, suc, ◌+◌, ◌*◌, ◌≤◌, arith, get_or, take, get_or-take, le-ltb, lt-ltb}
 use native.Mathlib.Decide.{dec_lt}
-use lib.ListN.{get_or, take}
-use lib.Seq.{get_or-take}
-use borrow.Author.Tests.{le-ltb, lt-ltb}
 use Rattle.base.specs.Words.{word_of, word_at}
 use Rattle.base.proofs.verdicts.Picks.{cond_true, cond_false}
 use Rattle.maps.specs.Inputs.{inputs_from, word_of_sheet}

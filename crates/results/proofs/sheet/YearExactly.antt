@@ -1,17 +1,8 @@
 -- What a year file refuses, exactly: the month's record is as long as a record, so that 8 is by the
 -- model's part alone; and a check that is refused hides whatever comes after it. Assumes nothing.
-use mathlib.Core.Bool.{Bool, true, false}
-use mathlib.Core.List.{List}
-use mathlib.Core.Path.{◌≡◌, refl, ap, ◌∙◌}
-use Prim.Native.Nat.{ℕ, ◌-◌, ◌*◌, ◌≤◌}
-use native.Mathlib.Omega.{arith}
-use lib.Dec.{T, leb}
-use lib.ListN.{length, take, drop, length-drop}
-use lib.Seq.{length-take-le}
-use borrow.Author.Tests.{le-leb}
+use Rattle.std.proofs.Common.{Err, Ok, Bool, true, false, List, ◌≡◌, refl, ap, ◌∙◌, ℕ, ◌-◌, ◌*◌, ◌≤◌, arith, T, leb, length, take, drop, length-drop, length-take-le, le-leb}
 use Rattle.base.specs.declared.refusal.Refusal.TheVariants.{Month, Record, Model}
-use Rattle.base.specs.declared.refusal.Verdict.{Verdict}
-use Rattle.base.specs.declared.refusal.Verdict.TheVariants.{Accepted, Refused}
+use Rattle.base.specs.Refusal.{Verdict}
 use Rattle.base.specs.Refusal.{refuse_unless, ◌then◌}
 use Rattle.base.specs.Ranges.{is_month, is_bit, month_check, model_check}
 use Rattle.base.specs.MonthFile.{Part, record_size, month_start, month_record_check, month_part, month_file_check}
@@ -30,17 +21,17 @@ use Rattle.results.proofs.sheet.OwnParts.{month_bytes, model_bytes}
 -- ---- two checks
 
 then_assoc : (a b c : Verdict) → ((a then b) then c) ≡ (a then b then c)
-then_assoc Accepted b c = refl
-then_assoc (Refused why) b c = refl
+then_assoc (Ok _) b c = refl
+then_assoc (Err why) b c = refl
 
 -- what comes after a check counts only where it accepts
-then_where : (a : Verdict) {x y : Verdict} → (a ≡ Accepted → x ≡ y) → (a then x) ≡ (a then y)
-then_where Accepted f = f refl
-then_where (Refused why) f = refl
+then_where : (a : Verdict) {x y : Verdict} → (a ≡ Ok tt → x ≡ y) → (a then x) ≡ (a then y)
+then_where (Ok _) f = f refl
+then_where (Err why) f = refl
 
 -- ---- the month's record
 
-record_length : (daw : List ℕ) (m : ℕ) → month_record_check daw m ≡ Accepted → record_size ≤ length (part_bytes daw (month_part daw m))
+record_length : (daw : List ℕ) (m : ℕ) → month_record_check daw m ≡ Ok tt → record_size ≤ length (part_bytes daw (month_part daw m))
 record_length daw m e =
     let t = month_known daw m e in
     let low = t.low in
@@ -55,7 +46,7 @@ abbrev rest_check : List ℕ → List ℕ → Verdict
 rest_check f2 file = month_file_check file then record_words_check f2 1 then table_words_check file then index_check file
 
 -- a record that is there is long enough
-record_there : (daw file : List ℕ) (m : ℕ) → month_record_check daw m ≡ Accepted →
+record_there : (daw file : List ℕ) (m : ℕ) → month_record_check daw m ≡ Ok tt →
     files_check (part_bytes daw (month_part daw m)) file ≡ rest_check (part_bytes daw (month_part daw m)) file
 unfolding files_check
 record_there daw file m e =
@@ -68,17 +59,17 @@ module _ (s : List ℕ) (month model : ℕ) (m : is_month month ≡ true) (b : i
   daw = part_bytes s (year_model s model)
 
   -- the model's part decides, where the directory is good
-  record_is : year_check s ≡ Accepted → month_record_check daw month ≡ record_check s month model
+  record_is : year_check s ≡ Ok tt → month_record_check daw month ≡ record_check s month model
   unfolding month_record_check month_check
   record_is good =
       let whole = model_bytes s good model b in
       let room : List ℕ → Verdict = λ d. refuse_unless (leb (month * record_size) (length d)) Record in
       ap (λ (t : Bool). refuse_unless t Month then room daw) m ∙ ap room whole
 
-  file_is : year_check s ≡ Accepted → part_bytes s (year_month s month) ≡ part_at s (month - 1)
+  file_is : year_check s ≡ Ok tt → part_bytes s (year_month s month) ≡ part_at s (month - 1)
   file_is good = month_bytes s good month m
 
-  record_bytes : year_check s ≡ Accepted → month_record_check daw month ≡ Accepted →
+  record_bytes : year_check s ≡ Ok tt → month_record_check daw month ≡ Ok tt →
       part_bytes daw (month_part daw month) ≡ record_at s month model
   record_bytes good e =
       ap (part_bytes daw) (month_part_law daw month refl e)

@@ -1,6 +1,5 @@
 -- `hear` is `hearing`, by what the line reads as.
-use native.Mathlib.Omega.{arith}
-use mathlib.Core.Path.{refl, sym, ap, ◌∙◌}
+use Rattle.std.proofs.Common.{arith, refl, sym, ap, ◌∙◌}
 use Rattle.worksheet.specs.Showing.{lent_as}
 use Rattle.wording.specs.declared.line.Line.{Line}
 use Rattle.sitting.specs.Sitting.{hear_line, hearing}
@@ -11,7 +10,7 @@ unfolding hearing
 returns-in-Blank c =
     let a = c.args in
     let source = lent_as a.lent a.a.now a.b.now in
-    let read = sym c.in-Blank.is ∙ c.line_in-read.ensures in
+    let read = sym c.in-Blank.is ∙ c.line_in.ensures in
     let told = ap (λ (x : Line). hear_line source a.number a.s x) read in
     record { sitting = ap (λ x. x.sitting) told; text = ap (λ x. x.text) told; count = (omega arith, refl) }
 
@@ -20,7 +19,7 @@ unfolding hearing
 returns-in-Open c =
     let a = c.args in
     let source = lent_as a.lent a.a.now a.b.now in
-    let read = sym c.in-Open.is ∙ c.line_in-read.ensures in
+    let read = sym c.in-Open.is ∙ c.line_in.ensures in
     let told = ap (λ (x : Line). hear_line source a.number a.s x) read in
     let h = c.hear_open.ensures in
     record { sitting = h.sitting ∙ ap (λ x. x.sitting) told; text = h.text ∙ ap (λ x. x.text) told; count = h.count }
@@ -30,7 +29,7 @@ unfolding hearing
 returns-in-Call c =
     let a = c.args in
     let source = lent_as a.lent a.a.now a.b.now in
-    let read = sym c.in-Call.is ∙ c.line_in-read.ensures in
+    let read = sym c.in-Call.is ∙ c.line_in.ensures in
     let told = ap (λ (x : Line). hear_line source a.number a.s x) read in
     let h = c.hear_call.ensures in
     record { sitting = h.sitting ∙ ap (λ x. x.sitting) told; text = h.text ∙ ap (λ x. x.text) told; count = h.count }
@@ -40,7 +39,7 @@ unfolding hearing
 returns-in-Wrong c =
     let a = c.args in
     let source = lent_as a.lent a.a.now a.b.now in
-    let read = sym c.in-Wrong.is ∙ c.line_in-read.ensures in
+    let read = sym c.in-Wrong.is ∙ c.line_in.ensures in
     let told = ap (λ (x : Line). hear_line source a.number a.s x) read in
     let h = c.hear_wrong.ensures in
     record { sitting = h.sitting ∙ ap (λ x. x.sitting) told; text = h.text ∙ ap (λ x. x.text) told; count = h.count }

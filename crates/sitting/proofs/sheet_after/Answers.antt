@@ -1,6 +1,6 @@
 -- `sheet_after` is the step's worksheet over every source: what `make` leaves over empty files, which
 -- is the same over all.
-use mathlib.Core.Path.{ap, ◌∙◌}
+use Rattle.std.proofs.Common.{ap, ◌∙◌}
 use lib.Ieee.{of_bits, round}
 use Rattle.base.specs.Single.{decimal}
 use Rattle.worksheet.specs.declared.journal.Call.{Call}
@@ -15,7 +15,7 @@ pub returns : goal.returns
 unfolding next_of decimal of_bits round
 returns c = λ source.
     let w = c.args.w in
-    let left = ap (λ (n : Next). n.sheet) c.make-next.ensures.answer in
+    let left = ap (λ (n : Next). n.sheet) c.make.ensures.answer in
     let written = c.call_written in
     left
     ∙ step_sheet _ source blank written.result w

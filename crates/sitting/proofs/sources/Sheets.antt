@@ -1,7 +1,5 @@
 -- The worksheet that a call leaves does not depend on the files lent, by the call's case. Assumes nothing.
-use mathlib.Core.List.{List}
-use mathlib.Core.Path.{◌≡◌, refl}
-use lib.Ieee.{Float}
+use Rattle.std.proofs.Common.{List, ◌≡◌, refl, Float}
 use Rattle.worksheet.specs.declared.desks.Worksheet.{Worksheet}
 use Rattle.worksheet.specs.declared.journal.Call.{Call}
 use Rattle.worksheet.specs.declared.journal.Call.TheVariants.{Begin, Change, Commit, Cancel, TakeBack, Show}

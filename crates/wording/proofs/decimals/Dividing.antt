@@ -2,15 +2,10 @@
 -- smallest values all along (`Same`): doubling b moves k up, doubling v moves it down, and once
 -- v / b has the 24 digits that are kept its nearest whole number and k are the pattern
 -- (`pattern`). Assumes nothing.
-use mathlib.Core.Path.{◌≡◌, refl, sym, ap, ◌∙◌, subst}
-use mathlib.Core.Logic.{inl, inr}
-use mathlib.Core.Bool.{Bool, true, false, cond}
-use Prim.Native.Nat.{ℕ, suc, ◌+◌, ◌-◌, ◌*◌, ◌/◌, ◌%◌, ◌^◌, ◌≤◌, ◌<◌, zero-le, compare}
-use native.Mathlib.Nat.{one-le-pow, pow-le-pow_right, add-zero, le-add_right, suc-mul, mod-lt, div-add-mod', le_trans, le_of_eq, lt_of_lt_of_le, lt_of_le_of_lt, lt_of_not-le, lt_irrefl, one-mul, zero-mul, mul_comm, mul_assoc, mul_right_comm, mul-le-mul, mul-le-mul_left, mul-le-mul_right, mul-lt-mul_of_pos_right, le_of_mul-le-mul_right, lt_of_mul-lt-mul_right, le-mul_of_pos_right, mul-pos, add-mul, le-div_iff_mul-le, div-lt_iff_lt-mul, pow-suc}
-use native.Mathlib.Numerals.{add-one}
-use native.Mathlib.Omega.{arith}
-use lib.Dec.{lit≤}
-use lib.Pow.{pow-add, pow_pos, pow_mono, pow-lt}
+use Rattle.std.proofs.Common.{◌≡◌, refl, sym, ap, ◌∙◌, subst, inl, inr, Bool, cond, ℕ, suc, ◌+◌, ◌-◌, ◌*◌, ◌/◌, ◌%◌, ◌^◌, ◌≤◌, ◌<◌, zero-le, add-zero, le-add_right, suc-mul, mod-lt, div-add-mod', le_trans, le_of_eq, lt_of_lt_of_le, lt_of_le_of_lt, lt_of_not-le, lt_irrefl, one-mul, zero-mul, mul_comm, mul_assoc, mul_right_comm, mul-le-mul, mul-le-mul_left, mul-le-mul_right, mul-lt-mul_of_pos_right, le_of_mul-le-mul_right, lt_of_mul-lt-mul_right, le-mul_of_pos_right, mul-pos, add-mul, le-div_iff_mul-le, div-lt_iff_lt-mul, pow-suc, add-one, arith, lit≤, pow-add, pow_pos, pow_mono}
+use Prim.Native.Nat.{compare}
+use native.Mathlib.Nat.{one-le-pow, pow-le-pow_right}
+use lib.Pow.{pow-lt}
 use lib.Arith.{digits_div, digits_mod}
 use lib.Ieee.{binary32, size, nearest, units, round, of_bits}
 use lib.Ieee.Digits.{size-le}
@@ -193,10 +188,6 @@ zero_pattern s d D =
     ∙ sym (round_bits binary32 s 0 d 0 0 0 D (sym (zero-mul d)) (lit≤ tt, inl refl) (lit≤ tt))
 
 -- ---- the sign's bit and the power of ten
-pub sign_le : (s : Bool) → cond s (2 ^ 31) 0 ≤ 2 ^ 31
-sign_le true = lit≤ tt
-sign_le false = lit≤ tt
-
 pub ten_pos : (k : ℕ) → 0 < 10 ^ k
 ten_pos k = one-le-pow k 10 (lit≤ tt)
 

@@ -1,16 +1,12 @@
 -- Numbers that are read and words that are none, and floats, worked out by computation; and that a
 -- decimal's float is `decimal` or `minus_decimal` of base. Assumes nothing.
-use Prim.Native.Nat.{ℕ, ◌^◌}
+use Rattle.std.proofs.Common.{ℕ, ◌^◌, ◌≡◌, refl, ap, ◌∙◌, true, false, List, [], ◌∷◌, Some, None}
 use Prim.Native.Char.{code}
 use Prim.Native.String.{String, [] as []ˢ, ◌∷◌ as ◌∷ˢ◌}
-use mathlib.Core.Path.{◌≡◌, refl, ap, ◌∙◌}
-use mathlib.Core.Bool.{true, false}
-use mathlib.Core.List.{List, [], ◌∷◌}
 use lib.Ieee.{nan, binary32, round, to_bits}
 use Rattle.base.specs.Single.{decimal, minus_decimal}
 use Rattle.base.proofs.verdicts.Picks.{cond_true}
 use Rattle.wording.specs.declared.number.Decimal.{Decimal}
-use Rattle.wording.specs.declared.number.Number.TheVariants.{Is, Not}
 use Rattle.wording.specs.Number.{all_digits, value_from, before_point, after_point, is_unsigned, unsigned_in, number_in, is_written, float_of}
 
 abbrev bytes : String → List ℕ
@@ -25,36 +21,36 @@ minus n k = record { negative = true; digits = n; places = k }
 
 -- with and without a sign and a point, a point at either end, zeros in front and behind
 numbers :
-    (number_in (bytes "62.47") ≡ Is (plus 6247 2))
-    × (number_in (bytes "-69") ≡ Is (minus 69 0))
-    × (number_in (bytes "+3") ≡ Is (plus 3 0))
-    × (number_in (bytes ".5") ≡ Is (plus 5 1))
-    × (number_in (bytes "5.") ≡ Is (plus 5 0))
-    × (number_in (bytes "-0") ≡ Is (minus 0 0))
-    × (number_in (bytes "007.50") ≡ Is (plus 750 2))
+    (number_in (bytes "62.47") ≡ Some (plus 6247 2))
+    × (number_in (bytes "-69") ≡ Some (minus 69 0))
+    × (number_in (bytes "+3") ≡ Some (plus 3 0))
+    × (number_in (bytes ".5") ≡ Some (plus 5 1))
+    × (number_in (bytes "5.") ≡ Some (plus 5 0))
+    × (number_in (bytes "-0") ≡ Some (minus 0 0))
+    × (number_in (bytes "007.50") ≡ Some (plus 750 2))
 unfolding number_in unsigned_in is_unsigned all_digits value_from before_point after_point
 numbers = (refl, refl, refl, refl, refl, refl, refl)
 
 -- 18 digits, zeros in front not counted, and 18 places
 longest :
-    (number_in (bytes "123456789012345678") ≡ Is (plus 123456789012345678 0))
-    × (number_in (bytes "00999999999999999.999") ≡ Is (plus 999999999999999999 3))
-    × (number_in (bytes "-0.000000000000000001") ≡ Is (minus 1 18))
+    (number_in (bytes "123456789012345678") ≡ Some (plus 123456789012345678 0))
+    × (number_in (bytes "00999999999999999.999") ≡ Some (plus 999999999999999999 3))
+    × (number_in (bytes "-0.000000000000000001") ≡ Some (minus 1 18))
 unfolding number_in unsigned_in is_unsigned all_digits value_from before_point after_point
 longest = (refl, refl, refl)
 
 -- no digit, other signs than a number's, a second point, too many digits or places
 no_numbers :
-    (number_in (bytes "") ≡ Not)
-    × (number_in (bytes "-") ≡ Not)
-    × (number_in (bytes ".") ≡ Not)
-    × (number_in (bytes "--5") ≡ Not)
-    × (number_in (bytes "1e5") ≡ Not)
-    × (number_in (bytes "0x10") ≡ Not)
-    × (number_in (bytes "1.2.3") ≡ Not)
-    × (number_in (bytes "1234567890123456789") ≡ Not)
-    × (number_in (bytes "12345678901234567890") ≡ Not)
-    × (number_in (bytes "0.0000000000000000001") ≡ Not)
+    (number_in (bytes "") ≡ None)
+    × (number_in (bytes "-") ≡ None)
+    × (number_in (bytes ".") ≡ None)
+    × (number_in (bytes "--5") ≡ None)
+    × (number_in (bytes "1e5") ≡ None)
+    × (number_in (bytes "0x10") ≡ None)
+    × (number_in (bytes "1.2.3") ≡ None)
+    × (number_in (bytes "1234567890123456789") ≡ None)
+    × (number_in (bytes "12345678901234567890") ≡ None)
+    × (number_in (bytes "0.0000000000000000001") ≡ None)
 unfolding number_in unsigned_in is_unsigned all_digits value_from before_point after_point
 no_numbers = (refl, refl, refl, refl, refl, refl, refl, refl, refl, refl)
 

@@ -1,36 +1,29 @@
 -- Lines of a journal worked out by computation: the line that is meant, or what is wrong with it.
 -- Assumes nothing.
-use mathlib.Core.Path.{◌≡◌, refl}
-use mathlib.Core.Bool.{true, false}
-use mathlib.Core.List.{[], ◌∷◌, map}
-use Prim.Native.Nat.{ℕ}
+use Rattle.std.proofs.Common.{◌≡◌, refl, true, false, [], ◌∷◌, map, ℕ}
 use Prim.Native.String.{String}
-use lib.ListN.{get_or}
 use Rattle.wording.specs.declared.number.Decimal.{Decimal}
+use Rattle.wording.specs.declared.token.Word.TheVariants as word
 use Rattle.wording.specs.declared.line.Line.{Line}
 use Rattle.wording.specs.declared.line.Line.TheVariants as line
 use Rattle.wording.specs.declared.line.Wanted.{Wanted}
-use Rattle.wording.specs.declared.line.Wanted.TheVariants.{Start, Deed, Word, Number, Whole, Model as AModel, Nothing}
+use Rattle.wording.specs.declared.line.Wanted.TheVariants.{Start, Deed, Word as AWord, Number, Whole, Model as AModel, Nothing}
 use Rattle.wording.specs.declared.written.WrittenRoute.{WrittenRoute}
 use Rattle.wording.specs.declared.written.WrittenEdit.TheVariants.{Sunspot, Hour, Path, Psc, Pole, Month, Model}
 use Rattle.wording.specs.declared.written.WrittenCall.TheVariants.{Begin, Change, Commit, Cancel, TakeBack, Show}
 use Rattle.wording.specs.Number.{all_digits, value_from, before_point, after_point, is_unsigned, unsigned_in, number_in}
-use Rattle.wording.specs.Token.{names, ascii, same, uncommented, words_from, name_from, token_of, slots_of, first_tokens, tokens_of, token_at}
-use Rattle.wording.specs.Line.{OPEN, MONTH, SUNSPOT, HOUR, FROM, TO, LONG, FACTORS, POLE, MODEL, CCIR, URSI, BEGIN, PATH, COMMIT, CANCEL, SHOW, TAKE, BACK}
-use Rattle.wording.specs.Line.{usual_factors, usual_pole, word_fit, number_fit, whole_fit, model_fit, end_fit, decimal_at, whole_at, model_at, pair_fit, four_fit, route_fit, route_at, route_end, factors_at, pole_at, head_fit, factors_start, pole_start, model_start, open_end, factors_fit, pole_fit, models_fit, open_fit, opening_factors, opening_pole, opening_model, opening_at, change_line, deed_line, word_line, number_line, line_in}
+use Rattle.wording.specs.Token.{word_place, words, ascii, uncommented, words_from, word_named, token_of, first_tokens, tokens_of, token_at}
+use Rattle.wording.specs.Line.{usual_factors, usual_pole, model_fit, whole_at, model_at, pair_fit, four_fit, route_fit, route_at, route_end, factors_at, pole_at, head_fit, factors_start, pole_start, model_start, open_end, factors_fit, pole_fit, models_fit, open_fit, opening_factors, opening_pole, opening_model, opening_at, change_line, deed_line, word_line, number_line, line_in}
 
--- ---- the words have the numbers by which the grammar names them
+-- ---- the words stand in the order of their places
 
-numbered :
-    map (λ (k : ℕ). get_or names k "")
-    (OPEN ∷ MONTH ∷ SUNSPOT ∷ HOUR ∷ FROM ∷ TO ∷ LONG ∷ FACTORS ∷ POLE ∷ MODEL ∷ CCIR ∷ URSI ∷ BEGIN ∷ PATH ∷ COMMIT ∷ CANCEL ∷ SHOW ∷ TAKE ∷ BACK ∷ [])
-    ≡ names
-numbered = refl
+placed : map word_place words ≡ 0 ∷ 1 ∷ 2 ∷ 3 ∷ 4 ∷ 5 ∷ 6 ∷ 7 ∷ 8 ∷ 9 ∷ 10 ∷ 11 ∷ 12 ∷ 13 ∷ 14 ∷ 15 ∷ 16 ∷ 17 ∷ 18 ∷ []
+placed = refl
 
 -- ---- what an example opens, and its parts in short
 
 read : String → Line
-unfolding all_digits value_from before_point after_point is_unsigned unsigned_in number_in same uncommented words_from name_from token_of slots_of first_tokens tokens_of token_at word_fit number_fit whole_fit model_fit end_fit decimal_at whole_at model_at pair_fit four_fit route_fit route_at route_end factors_at pole_at head_fit factors_start pole_start model_start open_end factors_fit pole_fit models_fit open_fit opening_factors opening_pole opening_model opening_at change_line deed_line word_line number_line line_in
+unfolding all_digits value_from before_point after_point is_unsigned unsigned_in number_in uncommented words_from word_named token_of first_tokens tokens_of token_at model_fit whole_at model_at pair_fit four_fit route_fit route_at route_end factors_at pole_at head_fit factors_start pole_start model_start open_end factors_fit pole_fit models_fit open_fit opening_factors opening_pole opening_model opening_at change_line deed_line word_line number_line line_in
 read text = line_in (ascii text)
 
 -- the digits n, k of them after the point, above and below zero
@@ -154,7 +147,7 @@ no_desk : read "begin" ≡ wrong 1 Start
 unfolding read
 no_desk = refl
 
-take_alone : read "take" ≡ wrong 2 (Word BACK)
+take_alone : read "take" ≡ wrong 2 (AWord word.Back)
 unfolding read
 take_alone = refl
 

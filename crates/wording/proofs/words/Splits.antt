@@ -1,224 +1,152 @@
--- The words of a line: one byte more, and the slots into which the words are put one after another.
--- Assumes nothing.
-use mathlib.Core.Path.{◌≡◌, refl, sym, ap, ◌∙◌}
-use mathlib.Core.Bool.{true, false}
-use mathlib.Core.List.{List, [], ◌∷◌, ◌++◌, append-nil}
-use Prim.Native.Nat.{ℕ, zero, suc, ◌+◌, ◌-◌, ◌≤◌, ◌<◌}
-use native.Mathlib.Numerals.{add-one}
-use native.Mathlib.Omega.{arith}
-use borrow.Author.Tests.{eq-eqb, ne_eqb}
-use lib.ListN.{length, get_or, set, take, drop, replicate, length-append, length-set, length-take, length-drop, drop_of_length-le}
-use lib.Seq.{drop-cons, take-suc, get_or-drop, set-append_seam, set_out, append_snoc}
-use Rattle.base.proofs.verdicts.Picks.{cond_true, cond_false}
+-- The words of a line: they are the parts between its blanks that are not empty, and they are put
+-- into the first places one after another. Assumes nothing.
+use Rattle.std.proofs.Common.{◌≡◌, refl, sym, ap, ◌∙◌, Bool, true, false, not, cond, eqb, nat_lt, Option, Some, None, List, [], ◌∷◌, ◌++◌, ℕ, zero, suc, ◌+◌, ◌-◌, ◌<◌, ◌≤◌, length, get_or, take, replicate, filter, map, arith, length-take, add-one, zero-add, ◌==◌, ne_eqb, ltb-false, append-nil}
+use Rattle.std.specs.List.{enumerate_from, slice_split, onto_first, position, position_or_len}
+use Rattle.std.specs.Option.{unwrap_or}
+use Rattle.std.proofs.Math.Seq.{take-suc, set-append_seam, append_snoc, take-length}
+use Rattle.std.proofs.Math.ListN.{set}
+use Rattle.std.proofs.lemmas.List.FromFn.{get_or-enumerate_from, length-enumerate_from}
+use Rattle.std.proofs.lemmas.List.{take_all, length-map, map-append}
+use Rattle.wording.specs.declared.token.Token.{Token}
 use Rattle.wording.specs.declared.token.Token.TheVariants.{End}
-use Rattle.wording.specs.declared.token.Slot.{Slot}
-use Rattle.wording.specs.Token.{is_blank, uncommented, closed, words_from, token_of, slots_of, first_tokens}
+use Rattle.wording.specs.Token.{is_blank, uncommented, closed, words_from, token_of, first_tokens}
 
 -- ---- up to a comment
 
-module _ (line : List ℕ) where
-  -- what stands before a comment, i bytes being read
-  abbrev pub read_to : ℕ → List ℕ
-  read_to i = take i line ++ uncommented (drop i line)
+abbrev pub is_mark : ℕ → Bool
+is_mark c = eqb c 35
 
-  module _ (i : ℕ) where
-    pub comment_starts : i < length line → get_or line i 0 ≡ 35 → read_to i ≡ take i line
-    unfolding uncommented
-    comment_starts h e =
-        ap (λ (l : List ℕ). take i line ++ l) (ap uncommented (drop-cons line i 0 h) ∙ cond_true _ _ (eq-eqb (get_or line i 0) 35 e))
-        ∙ append-nil (take i line)
+marked : (line : List ℕ) → take (position_or_len is_mark line) line ≡ uncommented line
+unfolding uncommented
+marked [] = refl
+marked (c ∷ line) = by (is_mark c) (marked line)
+  where
+    by :
+        (b : Bool) → take (position_or_len is_mark line) line ≡ uncommented line
+        → take (cond (not b) (1 + position_or_len is_mark line) 0) (c ∷ line) ≡ cond b [] (c ∷ uncommented line)
+    by true e = refl
+    by false e = ap (λ (n : ℕ). take n (c ∷ line)) one-add ∙ ap (λ (l : List ℕ). c ∷ l) e
+      where
+        one-add : 1 + position_or_len is_mark line ≡ suc (position_or_len is_mark line)
+        one-add = omega arith
 
-    pub comment_later : i < length line → (get_or line i 0 ≡ 35 → ⊥) → read_to i ≡ read_to (i + 1)
-    unfolding uncommented
-    comment_later h n =
-        ap (λ (l : List ℕ). take i line ++ l) (ap uncommented (drop-cons line i 0 h) ∙ cond_false _ _ (ne_eqb (get_or line i 0) 35 n))
-        ∙ sym (append_snoc (take i line) (get_or line i 0) (uncommented (drop (suc i) line)))
-        ∙ ap (λ (l : List ℕ). l ++ uncommented (drop (suc i) line)) (sym (take-suc line i 0 h))
-        ∙ ap read_to (sym (add-one i))
+pub comment_begins : (line : List ℕ) (o : Option ℕ) → o ≡ position is_mark line → take (unwrap_or o (length line)) line ≡ uncommented line
+comment_begins line o e =
+    by (nat_lt (position_or_len is_mark line) (length line)) refl ∙ marked line
+  where
+    place : ℕ
+    place = position_or_len is_mark line
 
-    pub no_comment : length line ≤ i → read_to i ≡ take i line
-    unfolding uncommented
-    no_comment h =
-        ap (λ (l : List ℕ). take i line ++ uncommented l) (drop_of_length-le line {i = i} h) ∙ append-nil (take i line)
+    by : (b : Bool) → nat_lt place (length line) ≡ b → take (unwrap_or o (length line)) line ≡ take place line
+    by b t = ap (λ x. take (unwrap_or x (length line)) line) (e ∙ ap (λ x. cond x (Some place) None) t) ∙ at b t
+      where
+        at : (b : Bool) → nat_lt place (length line) ≡ b → take (unwrap_or (cond b (Some place) None) (length line)) line ≡ take place line
+        at true t = refl
+        at false t = take_all _ line (omega arith) ∙ sym (take_all _ line (ltb-false place (length line) t))
 
--- ---- a word: the bytes from `from` on, read up to i
+-- ---- the parts between blanks
 
-module _ (line : List ℕ) (from i : ℕ) where
-  -- its letters so far
-  abbrev pub begun : List ℕ
-  begun = take (i - from) (drop from line)
+abbrev pub is_word : List ℕ → Bool
+is_word w = not (length w == 0)
 
-  pub record Letters : Type 0 where
-    pub begins : from ≤ i
-    pub within : i ≤ length line
-    pub rest : words_from [] (drop from line) ≡ words_from begun (drop i line)
+-- w before the first of them
+abbrev first_with : List ℕ → List (List ℕ) → List (List ℕ)
+first_with w [] = w ∷ []
+first_with w (p ∷ ps) = (w ++ p) ∷ ps
 
-  -- the word ends at i
-  abbrev pub Ends : Type 0
-  Ends = words_from [] (drop from line) ≡ closed begun ++ words_from [] (drop (i + 1) line)
+one_word : (w : List ℕ) (ps : List (List ℕ)) → closed w ++ filter is_word ps ≡ filter is_word (w ∷ ps)
+one_word [] ps = refl
+one_word (c ∷ w) ps = ap (λ (b : Bool). cond (not b) ((c ∷ w) ∷ filter is_word ps) (filter is_word ps)) (sym (ne_eqb (suc (length w)) 0 (λ e. omega arith)))
 
-module _ {line : List ℕ} {from : ℕ} where
-  pub word_begins : from ≤ length line → Letters line from from
-  word_begins h =
-      let none : from - from ≡ 0 = omega arith in
-      record {
-        begins = omega arith;
-        within = h;
-        rest = ap (λ (n : ℕ). words_from (take n (drop from line)) (drop from line)) (sym none);
-      }
+nothing_first : (ps : List (List ℕ)) → filter is_word (first_with [] ps) ≡ filter is_word ps
+nothing_first [] = refl
+nothing_first (p ∷ ps) = refl
 
-  module _ {i : ℕ} (r : Letters line from i) where
-    pub goes_on : i < length line → is_blank (get_or line i 0) ≡ false → Letters line from (i + 1)
-    unfolding words_from
-    goes_on h e =
-        let w = begun line from i in
-        let place : from + (i - from) ≡ i = omega (arith, r.begins) in
-        let more : suc (i - from) ≡ i + 1 - from = omega (arith, r.begins) in
-        let last : get_or (drop from line) (i - from) 0 ≡ get_or line i 0 =
-        get_or-drop from line (i - from) 0 ∙ ap (λ (j : ℕ). get_or line j 0) place in
-        let longer : w ++ (get_or line i 0 ∷ []) ≡ begun line from (i + 1) =
-        ap (λ (x : ℕ). w ++ (x ∷ [])) (sym last)
-        ∙ sym (take-suc (drop from line) (i - from) 0 (omega (arith, r.begins, length-drop from line)))
-        ∙ ap (λ (j : ℕ). take j (drop from line)) more in
-        record {
-          begins = omega (arith, r.begins);
-          within = omega arith;
-          rest =
-              r.rest
-              ∙ ap (words_from w) (drop-cons line i 0 h)
-              ∙ cond_false _ _ e
-              ∙ (λ t. words_from (longer t) (drop (sym (add-one i) t) line));
-        }
+letter_first : (w : List ℕ) (c : ℕ) (ps : List (List ℕ)) → first_with (w ++ (c ∷ [])) ps ≡ first_with w (onto_first c ps)
+letter_first w c [] = refl
+letter_first w c (p ∷ ps) = ap (λ (x : List ℕ). x ∷ ps) (append_snoc w c p)
 
-    pub blank_ends : i < length line → is_blank (get_or line i 0) ≡ true → Ends line from i
-    unfolding words_from
-    blank_ends h e =
-        let w = begun line from i in
-        r.rest
-        ∙ ap (words_from w) (drop-cons line i 0 h)
-        ∙ cond_true _ _ e
-        ∙ ap (λ (j : ℕ). closed w ++ words_from [] (drop j line)) (sym (add-one i))
+parts_from : (w l : List ℕ) → words_from w l ≡ filter is_word (first_with w (slice_split is_blank l))
+unfolding words_from
+parts_from w [] = sym (append-nil (closed w)) ∙ one_word w [] ∙ ap (λ (x : List ℕ). filter is_word (x ∷ [])) (sym (append-nil w))
+parts_from w (c ∷ l) = by (is_blank c) (parts_from [] l) (parts_from (w ++ (c ∷ [])) l)
+  where
+    parts : List (List ℕ)
+    parts = slice_split is_blank l
 
-    pub line_ends : length line ≤ i → Ends line from i
-    unfolding words_from
-    line_ends h =
-        let w = begun line from i in
-        r.rest
-        ∙ ap (words_from w) (drop_of_length-le line {i = i} h)
-        ∙ sym (append-nil (closed w))
-        ∙ ap (λ (l : List ℕ). closed w ++ words_from [] l) (sym (drop_of_length-le line {i = i + 1} (omega arith)))
+    by :
+        (b : Bool) → words_from [] l ≡ filter is_word (first_with [] parts) → words_from (w ++ (c ∷ [])) l ≡ filter is_word (first_with (w ++ (c ∷ [])) parts)
+        → cond b (closed w ++ words_from [] l) (words_from (w ++ (c ∷ [])) l) ≡ filter is_word (first_with w (cond b ([] ∷ parts) (onto_first c parts)))
+    by true p q =
+        ap (λ (x : List (List ℕ)). closed w ++ x) (p ∙ nothing_first parts)
+        ∙ one_word w parts
+        ∙ ap (λ (x : List ℕ). filter is_word (x ∷ parts)) (sym (append-nil w))
+    by false p q = q ∙ ap (filter is_word) (letter_first w c parts)
 
--- ---- words put into slots
+pub words_are : (line : List ℕ) → filter is_word (slice_split is_blank line) ≡ words_from [] line
+words_are line = sym (parts_from [] line ∙ nothing_first (slice_split is_blank line))
 
--- the slots, and how many words were put into them
-pub record Filled : Type 0 where
-  pub slots : List Slot
-  pub count : ℕ
+-- ---- words put into places
 
-abbrev pub filled : List Slot → ℕ → Filled
-filled slots count = record { slots = slots; count = count }
+-- the first i of them, and `End` behind
+abbrev pub put : List (List ℕ) → ℕ → List Token
+put ws i = map token_of (take i ws) ++ replicate (25 - i) End
 
--- one behind the last
-abbrev pub with_word : Filled → List ℕ → Filled
-with_word s w = filled (set s.slots s.count (record { token = token_of w })) (s.count + 1)
+put_one : (ws : List (List ℕ)) (i : ℕ) (w : List ℕ) → i < length ws → i < 25 → set (put ws i) i (token_of (get_or ws i w)) ≡ put ws (i + 1)
+put_one ws i w h k =
+    let x = token_of (get_or ws i w) in
+    let front = map token_of (take i ws) in
+    let count : length front ≡ i = omega (arith, length-map (take i ws) token_of, length-take i ws) in
+    let room : 25 - i ≡ suc (25 - (i + 1)) = omega arith in
+    (λ t. set (front ++ replicate (room t) End) (sym count t) x)
+    ∙ set-append_seam front End (replicate (25 - (i + 1)) End) x
+    ∙ sym (append_snoc front x (replicate (25 - (i + 1)) End))
+    ∙ ap (λ (l : List Token). l ++ replicate (25 - (i + 1)) End)
+    (sym (map-append token_of (take i ws) (get_or ws i w ∷ [])) ∙ ap (map token_of) (sym (take-suc ws i w h) ∙ ap (λ (j : ℕ). take j ws) (sym (add-one i))))
 
-unfoldable pub words_put : Filled → List (List ℕ) → Filled
-words_put s [] = s
-words_put s (w ∷ l) = words_put (with_word s w) l
+ends_first : (m k : ℕ) → m ≤ k → take m (replicate k End) ≡ replicate m End
+ends_first zero k h = refl
+ends_first (suc m) zero h = absurd (omega arith)
+ends_first (suc m) (suc k) h = ap (λ (l : List Token). End ∷ l) (ends_first m k (omega arith))
 
-put_none : (s : Filled) (w : List ℕ) (l : List (List ℕ)) → length w ≤ 0 → words_put s (closed w ++ l) ≡ words_put s l
-put_none s [] l h = refl
-put_none s (x ∷ w) l h = absurd (omega arith)
+first_put : (ws : List (List ℕ)) (m k : ℕ) → m ≤ k → take m (map token_of ws ++ replicate k End) ≡ map token_of (take m ws) ++ replicate (m - length (take m ws)) End
+first_put ws zero k h = refl
+first_put [] (suc m) k h =
+    let all : suc m ≡ suc m - 0 = omega arith in
+    ends_first (suc m) k h ∙ ap (λ (j : ℕ). replicate j End) all
+first_put (w ∷ ws) (suc m) k h =
+    let less : m - length (take m ws) ≡ suc m - suc (length (take m ws)) = omega arith in
+    ap (λ (l : List Token). token_of w ∷ l) (first_put ws m k (omega arith) ∙ ap (λ (j : ℕ). map token_of (take m ws) ++ replicate j End) less)
 
-put_one : (s : Filled) (w : List ℕ) (l : List (List ℕ)) → 0 < length w → words_put s (closed w ++ l) ≡ words_put (with_word s w) l
-unfolding words_put
-put_one s [] l h = absurd (omega arith)
-put_one s (x ∷ w) l h = refl
-
-abbrev end : Slot
-end = record { token = End }
-
-abbrev no_words : Filled
-no_words = record { slots = replicate 25 end; count = 0 }
-
--- where no slot is left
-all_full : (s : Filled) (ws : List (List ℕ)) → length s.slots ≤ s.count → (words_put s ws).slots ≡ s.slots
-unfolding words_put
-all_full s [] h = refl
-all_full s (w ∷ ws) h =
-    let x : Slot = record { token = token_of w } in
-    all_full (record { slots = set s.slots s.count x; count = s.count + 1 }) ws (omega (arith, length-set s.slots s.count x))
-    ∙ set_out s.slots s.count x h
-
-take_ends : (m k : ℕ) → m ≤ k → replicate m end ≡ take m (replicate k end)
-take_ends zero k h = refl
-take_ends (suc m) zero h = absurd (omega arith)
-take_ends (suc m) (suc k) h = ap (λ (l : List Slot). end ∷ l) (take_ends m k (omega arith))
-
--- m slots being left behind those of p
-rest_put :
-    (p : List Slot) (ws : List (List ℕ)) (m k : ℕ) → m ≤ k
-    → (words_put (record { slots = p ++ replicate m end; count = length p }) ws).slots ≡ p ++ take m (slots_of ws ++ replicate k end)
-unfolding words_put slots_of
-rest_put p [] m k h = ap (λ (l : List Slot). p ++ l) (take_ends m k h)
-rest_put p (w ∷ ws) zero k h = all_full (record { slots = p ++ []; count = length p }) (w ∷ ws) (omega (arith, length-append p []))
-rest_put p (w ∷ ws) (suc m) k h =
-    let x : Slot = record { token = token_of w } in
-    let q : List Slot = p ++ (x ∷ []) in
-    let stored : set (p ++ (end ∷ replicate m end)) (length p) x ≡ q ++ replicate m end =
-    set-append_seam p end (replicate m end) x ∙ sym (append_snoc p x (replicate m end)) in
-    let count : length p + 1 ≡ length q = sym (length-append p (x ∷ [])) in
-    (λ t. (words_put (record { slots = stored t; count = count t }) ws).slots)
-    ∙ rest_put q ws m k (omega arith)
-    ∙ append_snoc p x (take m (slots_of ws ++ replicate k end))
-
-all_put : (ws : List (List ℕ)) → record { slots = (words_put no_words ws).slots } ≡ first_tokens ws
+all_put : (ws : List (List ℕ)) → let first = take 25 ws in record { 0 = put first (length first) } ≡ first_tokens ws
 unfolding first_tokens
-all_put ws = λ t. record { slots = rest_put [] ws 25 25 (omega arith) t }
+all_put ws =
+    let first = take 25 ws in
+    sym (λ t. record { 0 = (first_put ws 25 25 (omega arith) ∙ ap (λ (l : List (List ℕ)). map token_of l ++ replicate (25 - length first) End) (sym (take-length first))) t })
 
--- ---- the words of a line, those before a place being read
+-- ---- the words of a line, those that have a place
 
-pub record Read (line : List ℕ) (s : Filled) (at : ℕ) : Type 0 where
-  pub room : length s.slots ≡ 25
-  pub few : s.count ≤ 25
-  -- the words so far and those to come are all words
-  pub whole : first_tokens (words_from [] line) ≡ record { slots = (words_put s (words_from [] (drop at line))).slots }
+module _ (line : List ℕ) where
+  abbrev pub first : List (List ℕ)
+  first = take 25 (words_from [] line)
 
-pub nothing_read : (line : List ℕ) → Read line no_words 0
-nothing_read line = record { room = refl; few = omega arith; whole = sym (all_put (words_from [] line)) }
+  -- as the loop takes them
+  abbrev pub taken : List (ℕ × List ℕ)
+  taken = enumerate_from 0 (take 25 (filter is_word (slice_split is_blank line)))
 
-module _ {line : List ℕ} {s : Filled} {at : ℕ} (r : Read line s at) where
-  module _ (end : ℕ) (e : Ends line at end) where
-    next : (s' : Filled) → words_put s (words_from [] (drop at line)) ≡ words_put s' (words_from [] (drop (end + 1) line)) → first_tokens (words_from [] line) ≡ record { slots = (words_put s' (words_from [] (drop (end + 1) line))).slots }
-    next s' p = r.whole ∙ (λ t. record { slots = (p t).slots })
+  same_taken : taken ≡ enumerate_from 0 first
+  same_taken = ap (λ ws. enumerate_from 0 (take 25 ws)) (words_are line)
 
-    pub no_word : end ≤ at → Read line s (end + 1)
-    no_word h =
-        let none : length (begun line at end) ≤ 0 = simp (length-take, length-drop) (omega arith) in
-        record {
-          room = r.room;
-          few = r.few;
-          whole = next s (ap (words_put s) e ∙ put_none s (begun line at end) _ none);
-        }
+  taken_length : length taken ≡ length first
+  taken_length = ap length same_taken ∙ length-enumerate_from 0 first
 
-    some : at < end → end ≤ length line → 0 < length (begun line at end)
-    some h b = simp (length-take, length-drop) (omega arith)
+  pub one_taken : (i n : ℕ) (w : List ℕ) → (i < length taken) × ((n, w) ≡ get_or taken i (n, w)) → set (put first i) n (token_of w) ≡ put first (i + 1)
+  one_taken i n w h =
+      let most = length-take 25 (words_from [] line) in
+      let inside : i < length first = omega (arith, taken_length, h.0) in
+      let pair : (n, w) ≡ (0 + i, get_or first i w) = h.1 ∙ ap (λ l. get_or l i (n, w)) same_taken ∙ get_or-enumerate_from 0 first i (n, w) inside in
+      let place : n ≡ i = ap (λ p. p.0) pair ∙ zero-add i in
+      (λ t. set (put first i) (place t) (token_of (ap (λ p. p.1) pair t))) ∙ put_one first i w inside (omega arith)
 
-    pub word_read : at < end → end ≤ length line → s.count < 25 → Read line (with_word s (begun line at end)) (end + 1)
-    word_read h b c =
-        let w = begun line at end in
-        record {
-          room = length-set s.slots s.count (record { token = token_of w }) ∙ r.room;
-          few = omega arith;
-          whole = next (with_word s w) (ap (words_put s) e ∙ put_one s w _ (some h b));
-        }
-
-  pub slots_full : s.count ≡ 25 → record { slots = s.slots } ≡ first_tokens (words_from [] line)
-  slots_full c =
-      let full : length s.slots ≤ s.count = omega (arith, r.room) in
-      sym (r.whole ∙ (λ t. record { slots = all_full s (words_from [] (drop at line)) full t }))
-
-  pub all_read : length line ≤ at → record { slots = s.slots } ≡ first_tokens (words_from [] line)
-  unfolding words_from words_put
-  all_read h =
-      sym (r.whole ∙ ap (λ (l : List ℕ). record { slots = (words_put s (words_from [] l)).slots }) (drop_of_length-le line {i = at} h))
+  pub all_taken : (i : ℕ) → i ≡ length taken → record { 0 = put first i } ≡ first_tokens (words_from [] line)
+  all_taken i h = (λ t. record { 0 = put first ((h ∙ taken_length) t) }) ∙ all_put (words_from [] line)

@@ -1,9 +1,6 @@
 -- A call that is made is the step of its case: what the arms of `make` share. Assumes nothing.
-use mathlib.Core.List.{List}
-use mathlib.Core.Path.{◌≡◌, sym, ap, ◌∙◌}
-use lib.Ieee.{Float}
-use Prim.Native.Nat.{ℕ}
-use Rattle.maps.specs.declared.figures.Shown.{Shown}
+use Rattle.std.proofs.Common.{Result, List, ◌≡◌, sym, ap, ◌∙◌, Float, ℕ}
+use Rattle.base.specs.declared.refusal.Refusal.{Refusal}
 use Rattle.worksheet.specs.declared.desks.Outcome.{Outcome}
 use Rattle.worksheet.specs.declared.desks.Worksheet.{Worksheet}
 use Rattle.worksheet.specs.declared.journal.Call.{Call as Made}
@@ -26,12 +23,12 @@ module _ (source : Source) (lent : List Float) (w : Worksheet) where
       let h = ap stepped e ∙ s in
       record { answer = q ∙ sym (ap next_of h); buffer = sym (ap (λ (t : Step). buffer_after t.answer lent) h) }
 
-  pub shown_as : {k : Made} {n : ℕ} {shown : Shown} {after : List Float} → k ≡ Show n
+  pub shown_as : {k : Made} {n : ℕ} {shown : Result ℕ Refusal} {after : List Float} → k ≡ Show n
       → shown ≡ show_of source n lent w → after ≡ show_buffer source n lent w
       → Both (record { answer = IsShown shown; sheet = w } ≡ next_of (stepped k)) (after ≡ buffer_after (stepped k).answer lent)
   unfolding step next_of
   shown_as e p q =
       record {
-        answer = ap (λ (s : Shown). record { answer = IsShown s; sheet = w }) p ∙ sym (ap (λ (k : Made). next_of (stepped k)) e);
+        answer = ap (λ (s : Result ℕ Refusal). record { answer = IsShown s; sheet = w }) p ∙ sym (ap (λ (k : Made). next_of (stepped k)) e);
         buffer = q ∙ sym (ap (λ (k : Made). buffer_after (stepped k).answer lent) e);
       }

@@ -1,15 +1,10 @@
 -- A desk's draft in a worksheet, put there, turned stale, or alone with every other desk closed: by
 -- the tests of the desk's number. Assumes nothing.
-use Prim.Native.Nat.{ℕ, ◌≤◌}
-use mathlib.Core.Bool.{Bool, true, false, cond}
-use mathlib.Core.Path.{◌≡◌, refl, sym, ap, ◌∙◌, subst}
-use native.Mathlib.Omega.{arith}
-use lib.Dec.{eqb}
-use borrow.Author.Tests.{eqb-true, eqb-false}
+use Rattle.std.proofs.Common.{Option, ℕ, ◌≤◌, Bool, true, false, cond, ◌≡◌, refl, sym, ap, ◌∙◌, subst, arith, eqb, eqb-true}
+use borrow.Author.Tests.{eqb-false}
 use Rattle.maps.specs.declared.inputs.Inputs.{Inputs}
 use Rattle.worksheet.specs.declared.desks.Draft.{Draft}
 use Rattle.worksheet.specs.declared.desks.Draft.TheVariants.{Closed, Fresh, Stale}
-use Rattle.worksheet.specs.declared.desks.Earlier.{Earlier}
 use Rattle.worksheet.specs.declared.desks.Worksheet.{Worksheet}
 use Rattle.worksheet.specs.Desks.{draft_at, with_draft, stale_of, moved_to}
 
@@ -171,12 +166,12 @@ module _ (n m : ℕ) (d : Draft) (e : eqb n m ≡ false) where
       ∙ ap (cond (eqb m 3) w.d3) (other 4 w.d4 _)))
 
 -- no draft is fresh after the inputs moved, nor where moreover desk n was closed
-pub moved_not_fresh : (m : ℕ) (i : Inputs) (e : Earlier) (w : Worksheet) (x : Inputs) → FreshAt m x (moved_to i e w) → ⊥
+pub moved_not_fresh : (m : ℕ) (i : Inputs) (e : Option Inputs) (w : Worksheet) (x : Inputs) → FreshAt m x (moved_to i e w) → ⊥
 unfolding draft_at moved_to
 moved_not_fresh m i e w x h =
     turned_not_fresh (draft_at m w) x (sym (turned_chosen (eqb m 1) (eqb m 2) (eqb m 3) (eqb m 4) w.d1 w.d2 w.d3 w.d4) ∙ h)
 
-pub settled_not_fresh : (n m : ℕ) (i : Inputs) (e : Earlier) (w : Worksheet) (x : Inputs) → FreshAt m x (with_draft n Closed (moved_to i e w)) → ⊥
+pub settled_not_fresh : (n m : ℕ) (i : Inputs) (e : Option Inputs) (w : Worksheet) (x : Inputs) → FreshAt m x (with_draft n Closed (moved_to i e w)) → ⊥
 settled_not_fresh n m i e w x h = go (eqb n m) refl
   where
     v : Worksheet
@@ -187,12 +182,12 @@ settled_not_fresh n m i e w x h = go (eqb n m) refl
     go false q = moved_not_fresh m i e w x (sym (with_other n m Closed q v) ∙ h)
 
 -- of closed desks nothing turns stale
-pub moved_rest : (i : Inputs) (e : Earlier) (w : Worksheet) → moved_to i e (at_rest w) ≡ at_rest (moved_to i e w)
+pub moved_rest : (i : Inputs) (e : Option Inputs) (w : Worksheet) → moved_to i e (at_rest w) ≡ at_rest (moved_to i e w)
 unfolding moved_to stale_of
 moved_rest i e w = refl
 
 -- a draft that was alone leaves, settled, what it leaves in any worksheet, at rest
-pub settled_rest : (n : ℕ) (x i : Inputs) (e : Earlier) (w : Worksheet)
+pub settled_rest : (n : ℕ) (x i : Inputs) (e : Option Inputs) (w : Worksheet)
     → with_draft n Closed (moved_to i e (alone n x w)) ≡ at_rest (with_draft n Closed (moved_to i e w))
 unfolding with_draft moved_to
 settled_rest n x i e w = λ k. record {

@@ -1,20 +1,14 @@
 -- Every call keeps a property that all sets of inputs of a worksheet have (its inputs, its earlier
 -- set and its drafts), if the call's change keeps it: a set of inputs is only copied, moved or
 -- dropped, except by an accepted change. Assumes nothing.
-use Prim.Native.Nat.{ℕ}
-use mathlib.Core.Bool.{Bool, true, false, cond}
-use mathlib.Core.Path.{◌≡◌, refl}
-use lib.Dec.{eqb}
-use Rattle.base.specs.declared.refusal.Verdict.{Verdict}
-use Rattle.base.specs.declared.refusal.Verdict.TheVariants.{Accepted, Refused}
+use Rattle.std.proofs.Common.{Err, None, Ok, Option, Some, ℕ, Bool, true, false, cond, ◌≡◌, refl, eqb}
+use Rattle.base.specs.Refusal.{Verdict}
 use Rattle.base.specs.Refusal.{◌then◌}
 use Rattle.base.proofs.verdicts.Refusals.{then_both}
 use Rattle.maps.specs.declared.inputs.Inputs.{Inputs}
 use Rattle.worksheet.specs.declared.inputs.Edit.{Edit}
 use Rattle.worksheet.specs.declared.desks.Draft.{Draft}
 use Rattle.worksheet.specs.declared.desks.Draft.TheVariants.{Closed, Fresh, Stale}
-use Rattle.worksheet.specs.declared.desks.Earlier.{Earlier}
-use Rattle.worksheet.specs.declared.desks.Earlier.TheVariants.{Nothing, Set}
 use Rattle.worksheet.specs.declared.desks.Worksheet.{Worksheet}
 use Rattle.worksheet.specs.Inputs.{edit_check, edited}
 use Rattle.worksheet.specs.Desks.{draft_at, with_draft, inputs_of, stale_of, moved_to, outcome, desk_check, draft_check, edited_draft, set_of, begin_check, begin_of, change_check, change_of, commit_check, commit_of, cancel_check, cancel_of, earlier_check, take_back_of, EarlierHas, DraftHas, SheetHas}
@@ -24,7 +18,7 @@ use Rattle.worksheet.specs.Journal.{Call, begin, commit, cancel, change, take_ba
 module _ (P : Inputs → Type 0) where
   -- an accepted change e keeps the property
   abbrev pub EditKeeps : Edit → Type 0
-  EditKeeps e = edit_check e ≡ Accepted → (i : Inputs) → P i → P (edited e i)
+  EditKeeps e = edit_check e ≡ Ok tt → (i : Inputs) → P i → P (edited e i)
 
   -- ---- drafts read, put, turned stale and changed
 
@@ -57,10 +51,10 @@ module _ (P : Inputs → Type 0) where
   of_has (Fresh x) i k h = k
   of_has (Stale x) i k h = k
 
-  set_has : (e : Earlier) (i : Inputs) → EarlierHas P e → P i → P (set_of e i)
+  set_has : (e : Option Inputs) (i : Inputs) → EarlierHas P e → P i → P (set_of e i)
   unfolding set_of
-  set_has Nothing i k h = h
-  set_has (Set x) i k h = k
+  set_has None i k h = h
+  set_has (Some x) i k h = k
 
   stale_has : (d : Draft) → DraftHas P d → DraftHas P (stale_of d)
   unfolding stale_of
@@ -75,7 +69,7 @@ module _ (P : Inputs → Type 0) where
   draft_has e (Fresh x) h k = h x k
   draft_has e (Stale x) h k = h x k
 
-  moved_has : (i : Inputs) (e : Earlier) (w : Worksheet) → P i → EarlierHas P e → SheetHas P w →
+  moved_has : (i : Inputs) (e : Option Inputs) (w : Worksheet) → P i → EarlierHas P e → SheetHas P w →
       SheetHas P (moved_to i e w)
   unfolding moved_to
   moved_has i e w hi he h =
@@ -90,11 +84,11 @@ module _ (P : Inputs → Type 0) where
 
   -- ---- every call keeps it
 
-  outcome_has : (v : Verdict) (after w : Worksheet) → (v ≡ Accepted → SheetHas P after) → SheetHas P w →
+  outcome_has : (v : Verdict) (after w : Worksheet) → (v ≡ Ok tt → SheetHas P after) → SheetHas P w →
       SheetHas P (outcome v after w).sheet
   unfolding outcome
-  outcome_has Accepted after w h k = h refl
-  outcome_has (Refused why) after w h k = k
+  outcome_has (Ok _) after w h k = h refl
+  outcome_has (Err why) after w h k = k
 
   pub step_keeps : (source : Source) (c : Call) (w : Worksheet) →
       ((n : ℕ) (e : Edit) → c ≡ change n e → EditKeeps e) → SheetHas P w → SheetHas P (step source c w).sheet
@@ -111,13 +105,13 @@ module _ (P : Inputs → Type 0) where
       h
   step_keeps source (commit n) w keeps h =
       let i = inputs_of (draft_at n w) w.inputs in
-      let m = moved_to i (Set w.inputs) w in
+      let m = moved_to i (Some w.inputs) w in
       let k = of_has (draft_at n w) w.inputs (at_has n w h) h.inputs in
       outcome_has (commit_check n w) (with_draft n Closed m) w
-      (λ a. with_has n Closed m tt (moved_has i (Set w.inputs) w k h.inputs h)) h
+      (λ a. with_has n Closed m tt (moved_has i (Some w.inputs) w k h.inputs h)) h
   step_keeps source (cancel n) w keeps h = outcome_has (cancel_check n w) _ w (λ a. with_has n Closed w tt h) h
   step_keeps source take_back w keeps h =
       let i = set_of w.earlier w.inputs in
-      outcome_has (earlier_check w.earlier) (moved_to i Nothing w) w
-      (λ a. moved_has i Nothing w (set_has w.earlier w.inputs h.earlier h.inputs) tt h) h
+      outcome_has (earlier_check w.earlier) (moved_to i None w) w
+      (λ a. moved_has i None w (set_has w.earlier w.inputs h.earlier h.inputs) tt h) h
   step_keeps source (show n lent) w keeps h = h

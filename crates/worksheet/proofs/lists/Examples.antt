@@ -1,13 +1,10 @@
 -- The shorter list and the changes in force worked out, an example for each clause of document 01's
 -- demand 3: by computation, for any source of files, all inputs and buffers. Assumes nothing.
-use mathlib.Core.List.{List, [], ◌∷◌}
-use mathlib.Core.Path.{◌≡◌, refl}
-use lib.Ieee.{Float, round, le}
+use Rattle.std.proofs.Common.{Err, Ok, List, [], ◌∷◌, ◌≡◌, refl, Float}
+use lib.Ieee.{round, le}
 use Rattle.base.specs.declared.refusal.Refusal.TheVariants.{Hour as BadHour, Figures, Desk, Drafted, NoDraft, Stale as IsStale, NothingEarlier}
-use Rattle.base.specs.declared.refusal.Verdict.TheVariants.{Accepted, Refused}
 use Rattle.base.specs.Single.{decimal, minus_decimal}
 use Rattle.maps.specs.declared.inputs.Inputs.{Inputs}
-use Rattle.maps.specs.declared.figures.Shown.TheVariants.{Refused as NotShown}
 use Rattle.worksheet.specs.declared.inputs.Edit.{Edit}
 use Rattle.worksheet.specs.declared.inputs.Edit.TheVariants.{Sunspot, Hour}
 use Rattle.base.specs.Ranges.{month_check, hour_check, latitude_check, longitude_check, model_check}
@@ -48,7 +45,7 @@ in_range = record {
   model = 0;
 }
 
-pub in_range_law : (open_of in_range).answer ≡ Accepted
+pub in_range_law : (open_of in_range).answer ≡ Ok tt
 unfolding open_of inputs_check month_check sunspot_check hour_check route_check latitude_check longitude_check flag_check factors_check factor_check pole_check model_check decimal minus_decimal round le
 in_range_law = refl
 
@@ -99,11 +96,11 @@ module _ (source : Source) (i : Inputs) (x : Float) (a b c d : List Float) where
   -- refused showings, the own desk's and the worksheet's, are kept with their refusals; the buffers
   -- are as they were lent
   refused_showings : short (out_of_range i) (begin 1 ∷ show 1 a ∷ show 0 b ∷ commit 1 ∷ show 0 c ∷ [])
-      ≡ entry (show 0 b) (shown (NotShown BadHour) b)
-      ∷ entry (begin 1) (told Accepted)
-      ∷ entry (show 1 a) (shown (NotShown BadHour) a)
-      ∷ entry (commit 1) (told Accepted)
-      ∷ entry (show 0 c) (shown (NotShown BadHour) c)
+      ≡ entry (show 0 b) (shown (Err BadHour) b)
+      ∷ entry (begin 1) (told (Ok tt))
+      ∷ entry (show 1 a) (shown (Err BadHour) a)
+      ∷ entry (commit 1) (told (Ok tt))
+      ∷ entry (show 0 c) (shown (Err BadHour) c)
       ∷ []
   unfolding short
   refused_showings = refl
@@ -111,13 +108,13 @@ module _ (source : Source) (i : Inputs) (x : Float) (a b c d : List Float) where
   -- the same of inputs in range, refused 12 for their short buffers, before and after the draft was
   -- changed
   refused_buffers : short in_range (begin 1 ∷ show 1 (x ∷ []) ∷ show 0 [] ∷ change 1 three ∷ show 1 [] ∷ commit 1 ∷ show 0 (x ∷ []) ∷ [])
-      ≡ entry (show 0 []) (shown (NotShown Figures) [])
-      ∷ entry (begin 1) (told Accepted)
-      ∷ entry (show 1 (x ∷ [])) (shown (NotShown Figures) (x ∷ []))
-      ∷ entry (change 1 three) (told Accepted)
-      ∷ entry (show 1 []) (shown (NotShown Figures) [])
-      ∷ entry (commit 1) (told Accepted)
-      ∷ entry (show 0 (x ∷ [])) (shown (NotShown Figures) (x ∷ []))
+      ≡ entry (show 0 []) (shown (Err Figures) [])
+      ∷ entry (begin 1) (told (Ok tt))
+      ∷ entry (show 1 (x ∷ [])) (shown (Err Figures) (x ∷ []))
+      ∷ entry (change 1 three) (told (Ok tt))
+      ∷ entry (show 1 []) (shown (Err Figures) [])
+      ∷ entry (commit 1) (told (Ok tt))
+      ∷ entry (show 0 (x ∷ [])) (shown (Err Figures) (x ∷ []))
       ∷ []
   unfolding short
   refused_buffers = refl
@@ -125,9 +122,9 @@ module _ (source : Source) (i : Inputs) (x : Float) (a b c d : List Float) where
   -- refused so, a showing of another desk, of a cancelled draft or of a stale one is dropped with
   -- its draft's other calls
   dropped_buffers : short in_range (begin 2 ∷ show 2 [] ∷ begin 1 ∷ begin 3 ∷ show 3 [] ∷ cancel 3 ∷ show 1 [] ∷ commit 1 ∷ show 2 [] ∷ [])
-      ≡ entry (begin 1) (told Accepted)
-      ∷ entry (show 1 []) (shown (NotShown Figures) [])
-      ∷ entry (commit 1) (told Accepted)
+      ≡ entry (begin 1) (told (Ok tt))
+      ∷ entry (show 1 []) (shown (Err Figures) [])
+      ∷ entry (commit 1) (told (Ok tt))
       ∷ []
   unfolding short
   dropped_buffers = refl
@@ -177,8 +174,8 @@ module _ (source : Source) (i : Inputs) (x : Float) (a b c d : List Float) where
   answers_of (x ∷ l) = x.answer ∷ answers_of l
 
   answers : answers_of (full i (begin 1 ∷ begin 2 ∷ begin 2 ∷ change 1 late ∷ change 3 three ∷ commit 1 ∷ commit 2 ∷ cancel 2 ∷ commit 2 ∷ take_back ∷ take_back ∷ begin 0 ∷ []))
-      ≡ told Accepted ∷ told Accepted ∷ told (Refused Drafted) ∷ told (Refused BadHour) ∷ told (Refused NoDraft) ∷ told Accepted
-      ∷ told (Refused IsStale) ∷ told Accepted ∷ told (Refused NoDraft) ∷ told Accepted ∷ told (Refused NothingEarlier) ∷ told (Refused Desk) ∷ []
+      ≡ told (Ok tt) ∷ told (Ok tt) ∷ told (Err Drafted) ∷ told (Err BadHour) ∷ told (Err NoDraft) ∷ told (Ok tt)
+      ∷ told (Err IsStale) ∷ told (Ok tt) ∷ told (Err NoDraft) ∷ told (Ok tt) ∷ told (Err NothingEarlier) ∷ told (Err Desk) ∷ []
   unfolding full
   answers = refl
 

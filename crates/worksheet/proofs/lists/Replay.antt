@@ -1,16 +1,11 @@
 -- Demand 3 from one law for each role that a call has in a list. The invariant: the own calls of a
 -- fresh draft, run on the worksheet as it is now with every desk closed, get the answers that they
 -- got and make that draft. No rule of the desks and no file is looked into. Assumes nothing.
-use Prim.Native.Nat.{ℕ}
-use mathlib.Core.Bool.{Bool, true, false, cond, ◌&&◌, ◌||◌, and-false}
-use mathlib.Core.List.{List, [], ◌∷◌, ◌++◌}
-use mathlib.Core.Path.{◌≡◌, refl, sym, ap, ap₂, subst, ◌∙◌}
-use lib.Dec.{eqb}
-use borrow.Author.Tests.{eqb-true, eq-eqb}
+use Rattle.std.proofs.Common.{None, Some, ℕ, Bool, true, false, cond, ◌&&◌, ◌||◌, List, [], ◌∷◌, ◌++◌, ◌≡◌, refl, sym, ap, ap₂, subst, ◌∙◌, eqb, eqb-true, eq-eqb}
+use mathlib.Core.Bool.{and-false}
 use Rattle.maps.specs.declared.inputs.Inputs.{Inputs}
 use Rattle.worksheet.specs.declared.inputs.Edit.{Edit}
 use Rattle.worksheet.specs.declared.desks.Draft.TheVariants.{Fresh}
-use Rattle.worksheet.specs.declared.desks.Earlier.TheVariants.{Nothing, Set}
 use Rattle.worksheet.specs.declared.desks.Worksheet.{Worksheet}
 use Rattle.worksheet.specs.Desks.{with_draft}
 use Rattle.worksheet.specs.Showing.{Source}
@@ -70,7 +65,7 @@ module _ (source : Source) where
     pub draft : Inputs
     pub fresh : FreshAt n draft w
     pub inputs : (sheet_of c w).inputs ≡ draft
-    pub earlier : (sheet_of c w).earlier ≡ Set w.inputs
+    pub earlier : (sheet_of c w).earlier ≡ Some w.inputs
     pub alike : Like c w (alone n draft w) (at_rest (sheet_of c w))
     pub settled : Settled w (sheet_of c w)
     pub none : (m : ℕ) (x : Inputs) → FreshAt m x (sheet_of c w) → ⊥
@@ -79,9 +74,9 @@ module _ (source : Source) where
   -- none is fresh afterwards
   pub record ReturnLaw (c : Call) (w : Worksheet) : Type 0 where
     pub set : Inputs
-    pub was : w.earlier ≡ Set set
+    pub was : w.earlier ≡ Some set
     pub inputs : (sheet_of c w).inputs ≡ set
-    pub earlier : (sheet_of c w).earlier ≡ Nothing
+    pub earlier : (sheet_of c w).earlier ≡ None
     pub alike : Like c w (at_rest w) (at_rest (sheet_of c w))
     pub settled : Settled w (sheet_of c w)
     pub none : (m : ℕ) (x : Inputs) → FreshAt m x (sheet_of c w) → ⊥

@@ -1,19 +1,10 @@
 -- The rules of the desks keep the law of each role, and so demand 3 holds. Assumes nothing.
-use Prim.Native.Nat.{ℕ}
-use mathlib.Core.Bool.{Bool, true, false, cond, true≢false}
-use mathlib.Core.List.{List, [], ◌∷◌}
-use mathlib.Core.Path.{◌≡◌, refl, sym, ap, ap₂, ◌∙◌}
-use lib.Dec.{eqb}
-use lib.ListN.{length}
-use lib.Ieee.{Float}
-use borrow.Author.Tests.{eqb-true}
-use Rattle.base.specs.declared.refusal.Verdict.TheVariants.{Accepted}
+use Rattle.std.proofs.Common.{None, Ok, Some, ℕ, Bool, true, false, cond, true≢false, List, [], ◌∷◌, ◌≡◌, refl, sym, ap, ap₂, ◌∙◌, eqb, length, Float, eqb-true}
 use Rattle.maps.specs.declared.inputs.Inputs.{Inputs}
 use Rattle.maps.specs.Figures.{sheet_path, figures_of, points_or}
 use Rattle.worksheet.specs.declared.inputs.Edit.{Edit}
 use Rattle.worksheet.specs.declared.desks.Draft.{Draft}
 use Rattle.worksheet.specs.declared.desks.Draft.TheVariants.{Closed, Fresh}
-use Rattle.worksheet.specs.declared.desks.Earlier.TheVariants.{Nothing, Set}
 use Rattle.worksheet.specs.declared.desks.Worksheet.{Worksheet}
 use Rattle.base.specs.Refusal.{◌then◌, written_over}
 use Rattle.worksheet.specs.Inputs.{inputs_check, edited}
@@ -107,10 +98,10 @@ module _ (source : Source) where
     done = λ a.
         let b = committed source n w a in
         let x = b.draft in
-        let moved = moved_to x (Set w.inputs) w in
+        let moved = moved_to x (Some w.inputs) w in
         let is = commit_leaves source n w x b.desk b.fresh in
         let at = ap (λ (s : Step). s.sheet) is in
-        let none : (m : ℕ) (y : Inputs) → FreshAt m y (left (commit n) w) → ⊥ = λ m y h. settled_not_fresh n m x (Set w.inputs) w y (sym (ap (draft_at m) at) ∙ h) in
+        let none : (m : ℕ) (y : Inputs) → FreshAt m y (left (commit n) w) → ⊥ = λ m y h. settled_not_fresh n m x (Some w.inputs) w y (sym (ap (draft_at m) at) ∙ h) in
         record {
           draft = x;
           fresh = b.fresh;
@@ -118,8 +109,8 @@ module _ (source : Source) where
           earlier = ap (λ (u : Worksheet). u.earlier) at ∙ earlier_with n Closed moved;
           alike = like (commit n) w (alone n x w) (at_rest (left (commit n) w)) (with_draft n Closed moved)
               (commit_leaves source n (alone n x w) x b.desk (with_draft_law n w (at_rest w) (Fresh x) x b.fresh)
-              ∙ ap (λ (i : Inputs). accepting (with_draft n Closed (moved_to x (Set i) (alone n x w)))) (inputs_with n (Fresh x) (at_rest w))
-              ∙ ap accepting (settled_rest n x x (Set w.inputs) w ∙ sym (ap at_rest at)))
+              ∙ ap (λ (i : Inputs). accepting (with_draft n Closed (moved_to x (Some i) (alone n x w)))) (inputs_with n (Fresh x) (at_rest w))
+              ∙ ap accepting (settled_rest n x x (Some w.inputs) w ∙ sym (ap at_rest at)))
               is;
           settled = λ m y h. absurd (none m y h);
           none = none;
@@ -134,14 +125,14 @@ module _ (source : Source) where
         let b = taken_back source w a in
         let is = take_back_leaves source w b.0 b.1 in
         let at = ap (λ (s : Step). s.sheet) is in
-        let none : (m : ℕ) (x : Inputs) → FreshAt m x (left take_back w) → ⊥ = λ m x h. moved_not_fresh m b.0 Nothing w x (sym (ap (draft_at m) at) ∙ h) in
+        let none : (m : ℕ) (x : Inputs) → FreshAt m x (left take_back w) → ⊥ = λ m x h. moved_not_fresh m b.0 None w x (sym (ap (draft_at m) at) ∙ h) in
         record {
           set = b.0;
           was = b.1;
           inputs = ap (λ (u : Worksheet). u.inputs) at;
           earlier = ap (λ (u : Worksheet). u.earlier) at;
-          alike = like take_back w (at_rest w) (at_rest (left take_back w)) (moved_to b.0 Nothing w)
-              (take_back_leaves source (at_rest w) b.0 b.1 ∙ ap accepting (moved_rest b.0 Nothing w ∙ sym (ap at_rest at)))
+          alike = like take_back w (at_rest w) (at_rest (left take_back w)) (moved_to b.0 None w)
+              (take_back_leaves source (at_rest w) b.0 b.1 ∙ ap accepting (moved_rest b.0 None w ∙ sym (ap at_rest at)))
               is;
           settled = λ m x h. absurd (none m x h);
           none = none;
@@ -153,7 +144,7 @@ module _ (source : Source) where
   unfolding step show_of show_buffer show_check judged_check asked_check inputs_shown
   show_same n lent v w p q = ap₂ (λ (i : Inputs) (d : Draft).
       let j = cond (eqb n 0) i (inputs_of d i) in
-      let check = (cond (eqb n 0) Accepted (desk_check n then draft_check d) then inputs_check j) then drawn_check (source j) (length lent) in
+      let check = (cond (eqb n 0) (Ok tt) (desk_check n then draft_check d) then inputs_check j) then drawn_check (source j) (length lent) in
       record {
         answer = shown (points_or check (sheet_path j).count) (written_over check (figures_of (source j).f2 (source j).file j) lent);
         sheet = v;
@@ -189,6 +180,6 @@ module _ (source : Source) where
   demand_3_lent w h cs = alike source law w h cs
 
 -- DEMAND 3: for every source of files, every worksheet that open gives, and every list of calls
-pub demand_3 : (source : Source) (i : Inputs) → (open_of i).answer ≡ Accepted → (cs : List Call) → Demand3 source (open_of i).sheet cs
+pub demand_3 : (source : Source) (i : Inputs) → (open_of i).answer ≡ Ok tt → (cs : List Call) → Demand3 source (open_of i).sheet cs
 unfolding open_of fresh_sheet
 demand_3 source i h cs = demand_3_lent source (open_of i).sheet refl cs

@@ -1,7 +1,5 @@
 -- `field_account` writes `field_account`: the line of the origin of the field's part, call after call.
-use Prim.Native.Nat.{ℕ}
-use mathlib.Core.Bool.{false}
-use mathlib.Core.Path.{ap, ◌∙◌}
+use Rattle.std.proofs.Common.{ℕ, false, ap, ◌∙◌}
 use Rattle.listing.specs.Account.{came_line}
 use Rattle.auditing.specs.Marks.{origin_before}
 use Rattle.auditing.specs.Accounts.{came_by, field_account}
@@ -10,12 +8,10 @@ use Rattle.auditing.proofs.accounts.field_account.Goals as goal
 pub returns : goal.returns
 unfolding field_account
 returns c =
-    let b = c in
-    let o = b in
-    let a = o.args in
+    let a = c.args in
     let ms = a.marks.now in
     let origin =
-    o.origin_in-origin.ensures ∙ ap (λ (x : ℕ). origin_before ms x false a.count) o.field_part.ensures in
-    let came = b.came_by-came.ensures ∙ ap (came_by a.opened ms a.numbers.now) origin in
+    c.origin_in-origin.ensures ∙ ap (λ (x : ℕ). origin_before ms x false a.count) c.field_part.ensures in
+    let came = c.came_by-came.ensures ∙ ap (came_by a.opened ms a.numbers.now) origin in
     let e = c.came_line.ensures in
     record { text = e.text ∙ ap (came_line a.i a.k) came; count = e.count }

@@ -1,6 +1,5 @@
 -- `handed_page` writes `handed_page`, by the answer's cases.
-use mathlib.Core.Path.{refl, sym, ap, ◌∙◌}
-use native.Mathlib.Omega.{arith}
+use Rattle.std.proofs.Common.{refl, sym, ap, ◌∙◌, arith}
 use Rattle.worksheet.specs.declared.journal.Answer.{Answer as Handed}
 use Rattle.worksheet.specs.declared.journal.Answer.TheVariants as handed
 use Rattle.auditing.specs.Accounts.{handed_page}
@@ -12,20 +11,17 @@ returns-in-Told c =
     let a = c.args in
     record { text = sym (ap (λ (x : Handed). handed_page a.i x a.figures.now) c.in-Told.is); count = (omega arith, refl) }
 
-pub returns-in-Points : goal.returns-in-Points
+pub returns-in-Ok : goal.returns-in-Ok
 unfolding handed_page
-returns-in-Points c =
-    let s = c in
-    let m = s in
-    let a = m.args in
+returns-in-Ok c =
+    let a = c.args in
     let e = c.columns_text.ensures in
-    let is = m.in-Shown.is ∙ ap handed.Shown s.in-Points.is in
+    let is = c.in-Shown.is ∙ ap handed.Shown c.in-Ok.is in
     record { text = e.text ∙ sym (ap (λ (x : Handed). handed_page a.i x a.figures.now) is); count = e.count }
 
-pub returns-in-Refused : goal.returns-in-Refused
+pub returns-in-Err : goal.returns-in-Err
 unfolding handed_page
-returns-in-Refused c =
-    let m = c in
-    let a = m.args in
-    let is = m.in-Shown.is ∙ ap handed.Shown c.in-Refused.is in
+returns-in-Err c =
+    let a = c.args in
+    let is = c.in-Shown.is ∙ ap handed.Shown c.in-Err.is in
     record { text = sym (ap (λ (x : Handed). handed_page a.i x a.figures.now) is); count = (omega arith, refl) }

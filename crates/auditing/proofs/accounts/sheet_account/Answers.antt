@@ -7,7 +7,6 @@ use Rattle.auditing.proofs.accounts.sheet_account.Goals as goal
 pub returns : goal.returns
 unfolding decimal of_bits round
 returns c =
-    let m = c in
-    let a = m.args in
+    let a = c.args in
     let e = c.handed_page.ensures in
-    record { text = sheet_as _ a.w m.make-next.ensures.answer m.make-next.ensures.buffer e.text; count = e.count }
+    record { text = sheet_as _ a.w c.make-next.ensures.answer c.make-next.ensures.buffer e.text; count = e.count }

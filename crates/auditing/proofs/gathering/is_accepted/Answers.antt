@@ -1,21 +1,12 @@
 -- `is_accepted` tells an answer from a refusal, by the answer's cases.
-use mathlib.Core.Path.{sym, ap, ◌∙◌}
-use Rattle.worksheet.specs.declared.journal.Answer.TheVariants as handed
+use Rattle.std.proofs.Common.{rules}
 use Rattle.auditing.specs.Gathered.{handed_good}
 use Rattle.auditing.proofs.gathering.is_accepted.Goals as goal
 
-pub returns-in-Accepted : goal.returns-in-Accepted
+pub returns-in-Told : goal.returns-in-Told
 unfolding handed_good
-returns-in-Accepted c = sym (ap handed_good (c.in-Told.is ∙ ap handed.Told c.in-Accepted.is))
+returns-in-Told c = search rules
 
-pub returns-in-Refused : goal.returns-in-Refused
+pub returns-in-Shown : goal.returns-in-Shown
 unfolding handed_good
-returns-in-Refused c = sym (ap handed_good (c.in-Told.is ∙ ap handed.Told c.in-Refused.is))
-
-pub returns-in-Points : goal.returns-in-Points
-unfolding handed_good
-returns-in-Points c = sym (ap handed_good (c.in-Shown.is ∙ ap handed.Shown c.in-Points.is))
-
-pub returns-in-Refused-s : goal.returns-in-Refused-s
-unfolding handed_good
-returns-in-Refused-s c = sym (ap handed_good (c.in-Shown.is ∙ ap handed.Shown c.in-Refused-s.is))
+returns-in-Shown c = search rules

@@ -1,30 +1,16 @@
--- `line_end` finds the line's end, by the loop's invariant that what is left of the line from k on
--- ends there.
-use mathlib.Core.Path.{refl}
-use native.Mathlib.Omega.{arith}
-use Rattle.auditing.proofs.journals.Lines.{line_past, line_ends, line_longer, line_found}
+-- `line_end` finds the line's end, by where the first newline stands in what is left of the text.
+use Rattle.std.proofs.Common.{ℕ, ap, ◌+◌, ◌∙◌, arith}
+use Rattle.auditing.proofs.journals.Lines.{line_past, line_length, line_found}
 use Rattle.auditing.proofs.gathering.line_end.Goals as goal
 
-pub returns-then-text-k-eq10 : goal.returns-then-text-k-eq10
-returns-then-text-k-eq10 c =
-    let b = c in
-    let a = b.args in
-    let n = line_ends a.text.now b.loop-k.k c.loop-k-test.true c.if-text-k-eq10.true in
-    line_found a.text.now a.from b.loop-k.k (omega arith)
-
-pub loop-k-preserved : goal.loop-k-preserved
-loop-k-preserved c =
-    let b = c in
-    let a = b.args in
-    let n = line_longer a.text.now b.loop-k.k c.loop-k-test.true c.if-text-k-eq10.false in
-    omega arith
+pub returns-then-from-text : goal.returns-then-from-text
+returns-then-from-text c =
+    let a = c.args in
+    let n = line_past a.text.now a.from (omega arith) in
+    line_found a.text.now a.from a.from (omega arith)
 
 pub returns : goal.returns
 returns c =
-    let b = c in
-    let a = b.args in
-    let n = line_past a.text.now b.loop-k.k c.loop-k-test.false in
-    line_found a.text.now a.from b.loop-k.k (omega arith)
-
-pub loop-k-init : goal.loop-k-init
-loop-k-init c = refl
+    let a = c.args in
+    let n = c.unwrap_or.ensures ∙ line_length a.text.now a.from c.newline_in.ensures in
+    line_found a.text.now a.from _ (ap (λ (i : ℕ). a.from + i) n)

@@ -10,8 +10,6 @@ use Rattle.auditing.proofs.gathering.made.Goals as goal
 pub returns : goal.returns
 unfolding decimal of_bits round
 returns c =
-    let m = c in
-    let w = m in
-    let a = w.args in
+    let a = c.args in
     made_as (lent_as a.lent a.a.now a.b.now) (call_written a.c) a.w
-    w.call_written-call.ensures m.make-next.ensures.answer c.is_accepted.ensures (c.mark_of-mark.ensures blank)
+    c.call_written-call.ensures c.make-next.ensures.answer c.is_accepted.ensures (c.mark_of.ensures blank)

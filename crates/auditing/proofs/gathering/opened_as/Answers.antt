@@ -1,5 +1,5 @@
 -- `opened_as` is `opened_as`, field by field.
-use mathlib.Core.Path.{◌≡◌, ap, ◌∙◌}
+use Rattle.std.proofs.Common.{◌≡◌, ap, ◌∙◌}
 use Rattle.worksheet.specs.declared.desks.Outcome.{Outcome}
 use Rattle.worksheet.specs.Desks.{open_of}
 use Rattle.wording.specs.Written.{inputs_written}

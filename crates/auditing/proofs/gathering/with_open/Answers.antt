@@ -1,6 +1,5 @@
 -- `with_open` goes on with an open, by the stage: only where nothing was told does it open anything.
-use mathlib.Core.Path.{ap}
-use native.Mathlib.Omega.{arith}
+use Rattle.std.proofs.Common.{ap, inl, inr, arith}
 use Rattle.auditing.specs.declared.gathering.Gathered.{Gathered}
 use Rattle.auditing.specs.Gathered.{opened_as}
 use Rattle.auditing.proofs.journals.Turns.{goes_open, goes_open_late, waiting_sits, waiting_ended}
@@ -21,14 +20,7 @@ pub returns-in-Sits : goal.returns-in-Sits
 returns-in-Sits c =
     let e = c.ended.ensures in record {
       told = λ source marks numbers starts.
-          goes_open_late _ _ _ _ _ _ (λ q. waiting_sits _ q c.in-Sits.is) e;
-      count = omega arith;
-    }
-
-pub returns-in-Ended : goal.returns-in-Ended
-returns-in-Ended c =
-    let e = c.ended-in-Ended.ensures in record {
-      told = λ source marks numbers starts.
-          goes_open_late _ _ _ _ _ _ (λ q. waiting_ended _ q c.in-Ended.is) e;
+          goes_open_late _ _ _ _ _ _
+          (λ q. elim c.in-Sits.is [ inl s ↦ waiting_sits _ q s | inr s ↦ waiting_ended _ q s ]) e;
       count = omega arith;
     }

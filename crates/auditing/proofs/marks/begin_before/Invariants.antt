@@ -5,6 +5,3 @@ use Rattle.auditing.proofs.marks.begin_before.Given as goal
 
 abbrev pub invariant-loop-k : goal.invariant-loop-k
 invariant-loop-k l = Since l.marks l.desk l.j l.k
-
-abbrev pub decreases-loop-k : goal.decreases-loop-k
-decreases-loop-k l = l.k

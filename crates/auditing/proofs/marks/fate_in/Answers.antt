@@ -1,6 +1,6 @@
 -- `fate_in` is `fate_from`, by the loop's invariant that the calls that are left answer for the whole:
 -- a cancel or a commit decides, or it goes on.
-use mathlib.Core.Path.{refl, sym, ◌∙◌}
+use Rattle.std.proofs.Common.{refl, sym, ◌∙◌}
 use Rattle.base.proofs.verdicts.Picks.{cond_true, cond_false}
 use Rattle.auditing.proofs.places.Fates.{fate_next, fate_end}
 use Rattle.auditing.proofs.marks.fate_in.Goals as goal
@@ -10,35 +10,28 @@ loop-k-init c = refl
 
 pub returns-then-is_done_by : goal.returns-then-is_done_by
 returns-then-is_done_by c =
-    let d = c in
-    let t = d in
-    let l = t.loop-k in
+    let l = c.loop-k in
     sym
-    (fate_next _ l.k _ _ t.loop-k-test.true d.mark_at-mark.ensures _
-    ∙ cond_true _ _ (sym d.is_done_by.ensures ∙ c.if-is_done_by.true))
+    (fate_next _ l.k _ _ c.loop-k-test.true c.mark_at-mark.ensures _
+    ∙ cond_true _ _ (sym c.is_done_by.ensures ∙ c.if-is_done_by.true))
     ∙ l.invariant
 
 pub returns-then-is_done_by-2 : goal.returns-then-is_done_by-2
 returns-then-is_done_by-2 c =
-    let s = c in
-    let d = s in
-    let t = d in
-    let l = t.loop-k in
+    let l = c.loop-k in
     c.settled_in.ensures
     ∙ sym
-    (fate_next _ l.k _ _ t.loop-k-test.true d.mark_at-mark.ensures _
-    ∙ cond_false _ _ (sym d.is_done_by.ensures ∙ s.if-is_done_by.false)
-    ∙ cond_true _ _ (sym s.is_done_by-in-loop-k.ensures ∙ s.if-is_done_by-2.true))
+    (fate_next _ l.k _ _ c.loop-k-test.true c.mark_at-mark.ensures _
+    ∙ cond_false _ _ (sym c.is_done_by.ensures ∙ c.if-is_done_by.false)
+    ∙ cond_true _ _ (sym c.is_done_by-in-loop-k.ensures ∙ c.if-is_done_by-2.true))
     ∙ l.invariant
 
 pub loop-k-preserved : goal.loop-k-preserved
 loop-k-preserved c =
-    let d = c in
-    let t = d in
-    let l = t.loop-k in
+    let l = c.loop-k in
     sym
-    (fate_next _ l.k _ _ t.loop-k-test.true d.mark_at-mark.ensures _
-    ∙ cond_false _ _ (sym d.is_done_by.ensures ∙ c.if-is_done_by.false)
+    (fate_next _ l.k _ _ c.loop-k-test.true c.mark_at-mark.ensures _
+    ∙ cond_false _ _ (sym c.is_done_by.ensures ∙ c.if-is_done_by.false)
     ∙ cond_false _ _ (sym c.is_done_by-in-loop-k.ensures ∙ c.if-is_done_by-2.false))
     ∙ l.invariant
 

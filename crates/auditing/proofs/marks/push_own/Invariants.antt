@@ -1,14 +1,10 @@
 -- `push_own` gives the buffer a draft's own places, by the loop's invariant that those which are left
 -- complete them.
-use Prim.Native.Nat.{◌-◌}
-use mathlib.Core.Path.{◌≡◌}
-use lib.ListN.{length}
+use Rattle.std.proofs.Common.{◌-◌, ◌≡◌}
 use Rattle.auditing.specs.Marks.{own_places, pile, all_given, draft_places}
 use Rattle.auditing.proofs.marks.push_own.Given as goal
 
 abbrev pub invariant-loop-k : goal.invariant-loop-k
-invariant-loop-k l = (length l.out ≡ length l.initial.out)
-    × (all_given (draft_places l.marks l.desk l.k (l.j - l.k)) (pile l.n l.out) ≡ all_given (own_places l.marks l.desk l.j) (pile l.size l.initial.out))
-
-abbrev pub decreases-loop-k : goal.decreases-loop-k
-decreases-loop-k l = l.j - l.k
+invariant-loop-k l =
+    all_given (draft_places l.marks l.desk l.k (l.j - l.k)) (pile l.n l.out)
+    ≡ all_given (own_places l.marks l.desk l.j) (pile l.size l.initial.out)

@@ -1,6 +1,6 @@
 -- `settled_in` is `settled_from`, by the loop's invariant that the calls that are left answer for the
 -- whole: a commit or a take-back decides, or it goes on.
-use mathlib.Core.Path.{refl, sym, ◌∙◌}
+use Rattle.std.proofs.Common.{refl, sym, ◌∙◌}
 use Rattle.base.proofs.verdicts.Picks.{cond_true, cond_false}
 use Rattle.auditing.proofs.places.Fates.{settled_next, settled_end}
 use Rattle.auditing.proofs.marks.settled_in.Goals as goal
@@ -10,33 +10,27 @@ loop-k-init c = refl
 
 pub returns-then-is_done : goal.returns-then-is_done
 returns-then-is_done c =
-    let d = c in
-    let t = d in
-    let l = t.loop-k in
+    let l = c.loop-k in
     sym
-    (settled_next _ l.k _ _ t.loop-k-test.true d.mark_at-mark.ensures _
-    ∙ cond_true _ _ (sym d.is_done.ensures ∙ c.if-is_done.true))
+    (settled_next _ l.k _ _ c.loop-k-test.true c.mark_at-mark.ensures _
+    ∙ cond_true _ _ (sym c.is_done.ensures ∙ c.if-is_done.true))
     ∙ l.invariant
 
 pub returns-then-is_done-2 : goal.returns-then-is_done-2
 returns-then-is_done-2 c =
-    let d = c in
-    let t = d in
-    let l = t.loop-k in
+    let l = c.loop-k in
     sym
-    (settled_next _ l.k _ _ t.loop-k-test.true d.mark_at-mark.ensures _
-    ∙ cond_false _ _ (sym d.is_done.ensures ∙ c.if-is_done.false)
+    (settled_next _ l.k _ _ c.loop-k-test.true c.mark_at-mark.ensures _
+    ∙ cond_false _ _ (sym c.is_done.ensures ∙ c.if-is_done.false)
     ∙ cond_true _ _ (sym c.is_done-in-loop-k.ensures ∙ c.if-is_done-2.true))
     ∙ l.invariant
 
 pub loop-k-preserved : goal.loop-k-preserved
 loop-k-preserved c =
-    let d = c in
-    let t = d in
-    let l = t.loop-k in
+    let l = c.loop-k in
     sym
-    (settled_next _ l.k _ _ t.loop-k-test.true d.mark_at-mark.ensures _
-    ∙ cond_false _ _ (sym d.is_done.ensures ∙ c.if-is_done.false)
+    (settled_next _ l.k _ _ c.loop-k-test.true c.mark_at-mark.ensures _
+    ∙ cond_false _ _ (sym c.is_done.ensures ∙ c.if-is_done.false)
     ∙ cond_false _ _ (sym c.is_done-in-loop-k.ensures ∙ c.if-is_done-2.false))
     ∙ l.invariant
 

@@ -1,7 +1,5 @@
 -- `drafts_part` writes `drafts_part`: the heading, the drafts or `none`, and then the shorter journal.
-use Prim.Native.Nat.{suc, ◌-◌}
-use mathlib.Core.Path.{sym, ◌∙◌}
-use native.Mathlib.Omega.{arith}
+use Rattle.std.proofs.Common.{suc, ◌-◌, sym, ◌∙◌, arith}
 use borrow.Author.Tests.{lt-leb}
 use Rattle.worksheet.specs.Showing.{lent_as}
 use Rattle.auditing.specs.Page.{shorter_parts, drafts_parts}

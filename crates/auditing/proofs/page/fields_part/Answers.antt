@@ -1,6 +1,5 @@
 -- `fields_part` writes `fields_part`: the title, or a field.
-use mathlib.Core.Path.{◌∙◌}
-use native.Mathlib.Omega.{arith}
+use Rattle.std.proofs.Common.{◌∙◌, arith}
 use Rattle.auditing.proofs.pages.Parts.{fields_title, fields_field}
 use Rattle.auditing.proofs.page.fields_part.Goals as goal
 

@@ -1,7 +1,5 @@
 -- `page_part` writes `page_part`: the fields, and then the drafts and what follows them.
-use Prim.Native.Nat.{suc, ◌-◌}
-use mathlib.Core.Path.{sym, ◌∙◌}
-use native.Mathlib.Omega.{arith}
+use Rattle.std.proofs.Common.{suc, ◌-◌, sym, ◌∙◌, arith}
 use borrow.Author.Tests.{lt-leb}
 use Rattle.worksheet.specs.Showing.{lent_as}
 use Rattle.auditing.specs.Page.{drafts_parts, page_size}

@@ -1,8 +1,6 @@
 -- `sheet_part` writes `sheet_part`: the heading, the sheet, and nothing after it.
-use Prim.Native.Nat.{suc}
-use mathlib.Core.Path.{refl, sym}
-use native.Mathlib.Omega.{arith}
-use borrow.Author.Tests.{le-leb, lt-leb}
+use Rattle.std.proofs.Common.{suc, refl, sym, arith, le-leb}
+use borrow.Author.Tests.{lt-leb}
 use Rattle.worksheet.specs.Showing.{lent_as}
 use Rattle.auditing.proofs.pages.Parts.{part_as, sheet_head_law, sheet_itself, sheet_past}
 use Rattle.auditing.proofs.page.sheet_part.Goals as goal

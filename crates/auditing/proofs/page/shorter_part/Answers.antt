@@ -1,7 +1,5 @@
 -- `shorter_part` writes `shorter_part`: the heading, the open, the calls, and then the sheet.
-use Prim.Native.Nat.{suc, ◌-◌}
-use mathlib.Core.Path.{sym, ap, ◌∙◌}
-use native.Mathlib.Omega.{arith}
+use Rattle.std.proofs.Common.{suc, ◌-◌, sym, ap, ◌∙◌, arith}
 use borrow.Author.Tests.{lt-leb}
 use Rattle.worksheet.specs.Showing.{lent_as}
 use Rattle.auditing.specs.Accounts.{number_at, line_account}

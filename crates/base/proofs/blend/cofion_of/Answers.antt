@@ -23,12 +23,6 @@ blend-requires-3 c =
     let l = c.blend-arg-3-1.given in
     (omega arith, omega arith, omega (arith, p.1), omega (arith, l), p.3.words xesucf (lit≤ tt) (lit≤ tt))
 
-pub blend-requires-4 : goal.blend-requires-4
-blend-requires-4 c =
-    let p = c.requires in
-    let l = c.blend-arg-4-1.given in
-    (omega arith, omega arith, omega (arith, p.0), omega (arith, l), p.2.words)
-
 pub blend-requires-5 : goal.blend-requires-5
 blend-requires-5 c =
     let p = c.requires in

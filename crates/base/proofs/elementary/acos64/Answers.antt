@@ -1,9 +1,8 @@
 -- `acos64` is `acos_of`: the range's test decides, then the callees' definitions compose.
-use Rattle.std.proofs.Common.{sym, ap, ◌∙◌}
-use lib.Ieee.{Float, binary64, le, round, of_bits}
+use Rattle.std.proofs.Common.{sym, ap, ◌∙◌, Float}
+use lib.Ieee.{le, round, of_bits}
 use Rattle.base.specs.Double.{◌⊗◌, fraction}
 use Rattle.base.specs.Elementary.{atan_of, acos_of}
-use Rattle.base.proofs.rounding.Patterns.{no_number}
 use Rattle.base.proofs.verdicts.Picks.{cond_true, cond_false}
 use Rattle.base.proofs.elementary.acos64.Goals as goal
 
@@ -15,4 +14,4 @@ returns-then-abs64 c =
 
 pub returns-else-abs64 : goal.returns-else-abs64
 unfolding acos_of fraction round of_bits
-returns-else-abs64 c = no_number binary64 ∙ sym (cond_false _ _ (ap (λ (a : Float). le a (fraction 1 1)) (sym c.abs64.ensures) ∙ c.if-abs64.false))
+returns-else-abs64 c = sym (cond_false _ _ (ap (λ (a : Float). le a (fraction 1 1)) (sym c.abs64.ensures) ∙ c.if-abs64.false))

@@ -1,6 +1,6 @@
 -- `atan_from` is `atan_from`: inverted above 1.
-use Rattle.std.proofs.Common.{sym, ap, ◌∙◌}
-use lib.Ieee.{Float, round, of_bits}
+use Rattle.std.proofs.Common.{sym, ap, ◌∙◌, Float}
+use lib.Ieee.{round, of_bits}
 use Rattle.base.specs.Double.{◌⊖◌, fraction}
 use Rattle.base.specs.Elementary.{atan_from, half_pi}
 use Rattle.base.proofs.verdicts.Picks.{cond_true, cond_false}

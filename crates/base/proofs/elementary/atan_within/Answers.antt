@@ -1,7 +1,7 @@
 -- `atan_within` is three halvings, the series and the product with 8, each callee by its
 -- definition.
-use Rattle.std.proofs.Common.{ap, ◌∙◌}
-use lib.Ieee.{Float, round, of_bits}
+use Rattle.std.proofs.Common.{ap, ◌∙◌, Float}
+use lib.Ieee.{round, of_bits}
 use Rattle.base.specs.Double.{◌⊗◌, fraction}
 use Rattle.base.specs.Elementary.{half_angle, atan_series, atan_within}
 use Rattle.base.proofs.elementary.atan_within.Goals as goal

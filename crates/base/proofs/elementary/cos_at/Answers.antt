@@ -1,6 +1,6 @@
 -- `cos_at` goes by the quarter as `cos_at` does.
-use Rattle.std.proofs.Common.{◌≡◌, ℕ, zero, suc, sym, refl, ap, ◌∙◌}
-use lib.Ieee.{Float, neg}
+use Rattle.std.proofs.Common.{◌≡◌, ℕ, zero, suc, sym, refl, ap, ◌∙◌, rules, Float}
+use lib.Ieee.{neg}
 use Rattle.base.specs.Elementary.{cos_at, sin_series}
 use Rattle.base.proofs.elementary.cos_at.Goals as goal
 
@@ -11,17 +11,17 @@ rest (suc zero) a x y z = absurd (y refl)
 rest (suc (suc zero)) a x y z = absurd (z refl)
 rest (suc (suc (suc q))) a x y z = refl
 
-pub returns-then-q-eq0 : goal.returns-then-q-eq0
+pub returns-in-0 : goal.returns-in-0
 unfolding cos_at
-returns-then-q-eq0 c = c.cos_series.ensures ∙ ap (λ (q : ℕ). cos_at q c.args.a) (sym c.if-q-eq0.true)
+returns-in-0 c = c.cos_series.ensures ∙ ap (λ (q : ℕ). cos_at q c.args.a) (sym c.in-0.is)
 
-pub returns-then-q-eq1 : goal.returns-then-q-eq1
+pub returns-in-1 : goal.returns-in-1
 unfolding cos_at
-returns-then-q-eq1 c = ap neg c.sin_series.ensures ∙ ap (λ (q : ℕ). cos_at q c.args.a) (sym c.if-q-eq1.true)
+returns-in-1 c = ap neg c.sin_series.ensures ∙ ap (λ (q : ℕ). cos_at q c.args.a) (sym c.in-1.is)
 
-pub returns-then-q-eq2 : goal.returns-then-q-eq2
+pub returns-in-2 : goal.returns-in-2
 unfolding cos_at
-returns-then-q-eq2 c = ap neg c.cos_series-then-q-eq2.ensures ∙ ap (λ (q : ℕ). cos_at q c.args.a) (sym c.if-q-eq2.true)
+returns-in-2 c = ap neg c.cos_series-in-2.ensures ∙ ap (λ (q : ℕ). cos_at q c.args.a) (sym c.in-2.is)
 
-pub returns-else-q-eq2 : goal.returns-else-q-eq2
-returns-else-q-eq2 c = c.sin_series-else-q-eq2.ensures ∙ rest c.args.q c.args.a c.if-q-eq0.false c.if-q-eq1.false c.if-q-eq2.false
+pub returns-in_default : goal.returns-in_default
+returns-in_default c = c.sin_series-in_default.ensures ∙ rest c.args.q c.args.a (search rules) (search rules) (search rules)

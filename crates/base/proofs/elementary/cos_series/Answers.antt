@@ -1,6 +1,6 @@
 -- `cos_series` is `cos_series`: its table is the fractions, and `horner` is the sum.
-use Rattle.std.proofs.Common.{List, ap, ◌∙◌}
-use lib.Ieee.{Float, round, of_bits}
+use Rattle.std.proofs.Common.{List, ap, ◌∙◌, Float}
+use lib.Ieee.{round, of_bits}
 use Rattle.base.specs.Double.{◌⊗◌, fraction}
 use Rattle.base.specs.Elementary.{horner, cos_series}
 use Rattle.base.proofs.steps.Terms.{cos_tied}

@@ -1,18 +1,14 @@
 -- `exp64` is `exp_of`: the two ends, then `exp_within`.
-use Rattle.std.proofs.Common.{◌≡◌, false, sym, refl, ◌∙◌}
-use lib.Ieee.{binary64, inf, div, neg, round, of_bits}
+use Rattle.std.proofs.Common.{sym, ◌∙◌}
+use lib.Ieee.{neg, round, of_bits}
 use Rattle.base.specs.Double.{fraction}
 use Rattle.base.specs.Elementary.{exp_of}
 use Rattle.base.proofs.verdicts.Picks.{cond_true, cond_false}
 use Rattle.base.proofs.elementary.exp64.Goals as goal
 
-endless : div binary64 (of_bits binary64 0x3ff0000000000000) (of_bits binary64 0) ≡ inf false
-unfolding div of_bits
-endless = refl
-
 pub returns-then-v : goal.returns-then-v
 unfolding exp_of fraction round of_bits
-returns-then-v c = endless ∙ sym (cond_true _ _ c.if-v.true)
+returns-then-v c = sym (cond_true _ _ c.if-v.true)
 
 pub returns-then-v-2 : goal.returns-then-v-2
 unfolding exp_of fraction round of_bits neg

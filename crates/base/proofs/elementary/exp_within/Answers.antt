@@ -1,6 +1,6 @@
 -- `exp_within` takes whole powers of two out, and sums the series of what is left.
-use Rattle.std.proofs.Common.{List, ap, ◌∙◌}
-use lib.Ieee.{Float, round, of_bits}
+use Rattle.std.proofs.Common.{List, ap, ◌∙◌, Float}
+use lib.Ieee.{round, of_bits}
 use Rattle.base.specs.Double.{◌⊖◌, ◌⊗◌, fraction}
 use Rattle.base.specs.Elementary.{power_of_two, horner, ln2, exp_terms, exp_within}
 use Rattle.base.proofs.steps.Terms.{exp_tied}

@@ -1,6 +1,6 @@
 -- `half_angle` is `half_angle`, the root by its definition.
-use Rattle.std.proofs.Common.{ap}
-use lib.Ieee.{Float, round, of_bits}
+use Rattle.std.proofs.Common.{ap, Float}
+use lib.Ieee.{round, of_bits}
 use Rattle.base.specs.Double.{◌⊕◌, ◌⊘◌, fraction}
 use Rattle.base.specs.Elementary.{half_angle}
 use Rattle.base.proofs.elementary.half_angle.Goals as goal

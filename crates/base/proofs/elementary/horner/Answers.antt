@@ -1,31 +1,14 @@
--- `horner` is the sum from the highest term down: before each turn `s` is the sum of the terms from
--- `i` on.
-use Rattle.std.proofs.Common.{◌≡◌, ℕ, suc, ◌-◌, length, get_or, drop, ap, ◌∙◌, arith, rules}
-use lib.Ieee.{Float, nan}
-use Rattle.base.specs.Double.{◌⊕◌, ◌⊗◌}
+-- `horner` is the sum from the highest term down: a fold over the other terms, the highest of them
+-- first.
+use Rattle.std.proofs.Common.{sym, ap, ◌∙◌}
 use Rattle.base.specs.Elementary.{horner}
-use Rattle.base.proofs.steps.Terms.{horner_none, horner_last, horner_next}
+use Rattle.base.proofs.steps.Terms.{horner_none, horner_fold}
 use Rattle.base.proofs.elementary.horner.Goals as goal
 
-pub returns-then-i-eq0 : goal.returns-then-i-eq0
-returns-then-i-eq0 c = horner_none _ _ (search rules)
-
-pub loop-i-init : goal.loop-i-init
-loop-i-init c =
-    let t = c.args.t.now in
-    (search rules, horner_last t (length t - 1) _ _ (omega arith))
-
-pub loop-i-preserved : goal.loop-i-preserved
-loop-i-preserved c =
-    let i = c.loop-i.i in
-    let t = c.args.t.now in
+pub returns-in-Some : goal.returns-in-Some
+returns-in-Some c =
     let x = c.args.x in
-    let e : i ≡ suc (i - 1) = omega arith in
-    let s : c.loop-i.s ≡ horner (drop (suc (i - 1)) t) x = c.loop-i.invariant.1 ∙ ap (λ (k : ℕ). horner (drop k t) x) e in
-    (search rules, ap (λ (v : Float). v ⊗ x ⊕ get_or t (i - 1) nan) s ∙ horner_next t (i - 1) x nan (omega arith))
+    c.from_highest.ensures ∙ horner_fold _ _ x ∙ ap (λ t. horner t x) (sym c.in-Some.ensures.cases.0)
 
-pub returns : goal.returns
-returns c =
-    let args = c.args in
-    let e : c.loop-i.i ≡ 0 = omega arith in
-    c.loop-i.invariant.1 ∙ ap (λ (k : ℕ). horner (drop k args.t.now) args.x) e
+pub returns-in-None : goal.returns-in-None
+returns-in-None c = horner_none _ _ c.in-None.ensures.cases

@@ -1,15 +1,16 @@
 -- `ln64` is `ln_of`: NaN, the zeros, what is below zero and the infinity by their patterns, the rest
 -- by `ln_bits`.
 use Rattle.std.proofs.Common.{◌≡◌, ◌+◌, ◌-◌, ◌*◌, ◌%◌, ◌^◌, ◌<◌, true, ◌⊎◌, sym, refl, ap, ◌∙◌, inl, inr, eq-zero-or-pos, arith}
-use lib.Ieee.{inf, binary64, div, neg, of_bits, to_bits}
+use lib.Ieee.{nan, inf, binary64, of_bits, to_bits}
 use Rattle.base.specs.Elementary.{ln_of}
-use Rattle.base.proofs.rounding.Patterns.{is_nan_law, no_nan, no_number, wide, read_back, by_bits, capped}
+use Rattle.base.proofs.rounding.Patterns.{is_nan_law, wide, read_back, by_bits, capped}
 use Rattle.base.proofs.steps.Logs.{ln_nan, ln_plus_zero, ln_minus_zero, ln_infinity, ln_below_zero}
 use Rattle.base.proofs.elementary.ln64.Goals.{Start}
+use Rattle.base.proofs.rounding.Signs.{by_test}
 use Rattle.base.proofs.elementary.ln64.Goals as goal
 
-endless : div binary64 (neg (of_bits binary64 0x3ff0000000000000)) (of_bits binary64 0) ≡ inf true
-unfolding div neg of_bits
+endless : of_bits binary64 0xfff0000000000000 ≡ inf true
+unfolding of_bits
 endless = refl
 
 -- the logarithm of a zero, by its two patterns
@@ -20,14 +21,15 @@ at_zero c (inr p) h =
     let e : to_bits binary64 c.args.x ≡ 2 ^ 63 = omega arith in
     ln_minus_zero ∙ ap ln_of (sym (by_bits binary64 c.args.x c.well_formed.0.1 (2 ^ 63) e))
 
-pub returns-then-x : goal.returns-then-x
-returns-then-x c = ln_nan c.args.x (is_nan_law c.args.x c.if-x.true)
-
-pub float_to_bits-b : goal.float_to_bits-b
-float_to_bits-b c = no_nan c.args.x c.if-x.false
+pub returns-then-is_nan : goal.returns-then-is_nan
+returns-then-is_nan c = ln_nan c.args.x (is_nan_law c.args.x (by_test _ c.is_nan.ensures.value c.if-is_nan.true))
 
 pub returns-then-b-eq0 : goal.returns-then-b-eq0
 returns-then-b-eq0 c = endless ∙ at_zero (goal.at.returns-then-b-eq0 c).Start (eq-zero-or-pos (to_bits binary64 c.args.x)) c.if-b-eq0.true
+
+no_number : of_bits binary64 0x7ff8000000000000 ≡ nan
+unfolding of_bits
+no_number = refl
 
 pub returns-then-b-gt9223372036854775808 : goal.returns-then-b-gt9223372036854775808
 returns-then-b-gt9223372036854775808 c =
@@ -35,8 +37,8 @@ returns-then-b-gt9223372036854775808 c =
     let b = to_bits binary64 s.args.x in
     let w = wide binary64 s.args.x s.well_formed.0.1 in
     let e : 2 ^ 63 + (b - 2 ^ 63) ≡ b = omega arith in
-    no_number binary64
-    ∙ sym (ln_below_zero (b - 2 ^ 63) (omega arith) (omega (arith, capped binary64 s.args.x s.well_formed.0.1 c.if-x.false)))
+    no_number
+    ∙ sym (ln_below_zero (b - 2 ^ 63) (omega arith) (omega (arith, capped binary64 s.args.x s.well_formed.0.1 (by_test _ c.is_nan.ensures.value c.if-is_nan.false))))
     ∙ ap ln_of (ap (of_bits binary64) e ∙ read_back binary64 s.args.x s.well_formed.0.1)
 
 pub returns-then-b-eq9218868437227405312 : goal.returns-then-b-eq9218868437227405312
@@ -48,7 +50,7 @@ returns-then-b-eq9218868437227405312 c =
 pub ln_bits-requires : goal.ln_bits-requires
 ln_bits-requires c =
     let k = c in
-    omega (arith, capped binary64 k.args.x k.well_formed.0.1 k.if-x.false)
+    omega (arith, capped binary64 k.args.x k.well_formed.0.1 (by_test _ k.is_nan.ensures.value k.if-is_nan.false))
 
 pub returns : goal.returns
 returns c = c.ln_bits.ensures ∙ ap ln_of (read_back binary64 c.args.x c.well_formed.0.1)

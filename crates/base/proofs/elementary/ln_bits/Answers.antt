@@ -5,17 +5,8 @@ use Rattle.base.proofs.rounding.Sorts.{lead, no_wrap}
 use Rattle.base.proofs.steps.Logs.{normal_ln, subnormal_ln}
 use Rattle.base.proofs.elementary.ln_bits.Goals as goal
 
-pub overflow_cast-shift : goal.overflow_cast-shift
-overflow_cast-shift c = omega (arith, (lead c.args.b c.requires.0 c.if-b-lt4503599627370496.true).1)
-
 pub overflow_sub-shift : goal.overflow_sub-shift
 overflow_sub-shift c = (lead c.args.b c.requires.0 c.if-b-lt4503599627370496.true).0
-
-pub overflow_shl-b : goal.overflow_shl-b
-overflow_shl-b c = omega (arith, (lead c.args.b c.requires.0 c.if-b-lt4503599627370496.true).1)
-
-pub overflow_sub-shift-then-b-lt4503599627370496 : goal.overflow_sub-shift-then-b-lt4503599627370496
-overflow_sub-shift-then-b-lt4503599627370496 c = omega (arith, (lead c.args.b c.requires.0 c.if-b-lt4503599627370496.true).1)
 
 pub ln_scaled-requires : goal.ln_scaled-requires
 ln_scaled-requires c = omega (arith, no_wrap c.args.b c.requires.0 c.if-b-lt4503599627370496.true, (lead c.args.b c.requires.0 c.if-b-lt4503599627370496.true).2, (lead c.args.b c.requires.0 c.if-b-lt4503599627370496.true).3)

@@ -1,7 +1,7 @@
 -- `ln_scaled` is `ln_sum` of the exponent and of the digits, whose pattern m + 2 ^ 52 * 1022 is that
 -- of m / 2 ^ 52.
-use Rattle.std.proofs.Common.{◌+◌, ◌*◌, ◌^◌, ap, ◌∙◌, arith}
-use lib.Ieee.{Float, binary64, minus, of_int, of_bits}
+use Rattle.std.proofs.Common.{◌+◌, ◌*◌, ◌^◌, ap, ◌∙◌, arith, Float}
+use lib.Ieee.{binary64, minus, of_int, of_bits}
 use Rattle.base.specs.Elementary.{ln_sum}
 use Rattle.base.proofs.rounding.Patterns.{no_nan_bits}
 use Rattle.base.proofs.rounding.Twos.{digits_bits}

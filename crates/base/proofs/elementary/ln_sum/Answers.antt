@@ -1,6 +1,6 @@
 -- `ln_sum` is `ln_sum`, the series by its definition.
-use Rattle.std.proofs.Common.{ap}
-use lib.Ieee.{Float, round, of_bits}
+use Rattle.std.proofs.Common.{ap, Float}
+use lib.Ieee.{round, of_bits}
 use Rattle.base.specs.Double.{◌⊕◌, ◌⊗◌, fraction}
 use Rattle.base.specs.Elementary.{ln2, ln_sum}
 use Rattle.base.proofs.elementary.ln_sum.Goals as goal

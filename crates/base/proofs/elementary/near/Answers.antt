@@ -1,6 +1,6 @@
 -- `near` is the definition's two steps, the first of them by `shifted`. Assumes nothing.
-use Rattle.std.proofs.Common.{ap}
-use lib.Ieee.{Float, round, of_bits}
+use Rattle.std.proofs.Common.{ap, Float}
+use lib.Ieee.{round, of_bits}
 use Rattle.base.specs.Double.{◌⊖◌, fraction}
 use Rattle.base.specs.Elementary.{near_of}
 use Rattle.base.proofs.elementary.near.Goals as goal

@@ -1,6 +1,6 @@
 -- `power_up` is 2 ^ k: by the exponent's field, and the infinity from 2 ^ 1024 on.
 use Rattle.std.proofs.Common.{◌≡◌, ◌+◌, ◌*◌, ◌^◌, false, refl, ◌∙◌, arith}
-use lib.Ieee.{binary64, inf, div, of_bits}
+use lib.Ieee.{binary64, inf, of_bits}
 use Rattle.base.proofs.rounding.Patterns.{no_nan_bits}
 use Rattle.base.proofs.rounding.Twos.{up_bits, up_inf}
 use Rattle.base.proofs.elementary.power_up.Goals as goal
@@ -8,8 +8,8 @@ use Rattle.base.proofs.elementary.power_up.Goals as goal
 pub float_from_bits-result : goal.float_from_bits-result
 float_from_bits-result c = no_nan_bits binary64 ((c.args.k + 1023) * 2 ^ 52) (omega arith)
 
-endless : div binary64 (of_bits binary64 0x3ff0000000000000) (of_bits binary64 0) ≡ inf false
-unfolding div of_bits
+endless : of_bits binary64 0x7ff0000000000000 ≡ inf false
+unfolding of_bits
 endless = refl
 
 pub returns-then-k-lt1024 : goal.returns-then-k-lt1024

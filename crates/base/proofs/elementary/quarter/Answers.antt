@@ -1,7 +1,7 @@
 -- `quarter` is `quarter_of` of the nearest whole number: the last two bits of the shifted number are
 -- those of the nearest (`shifted_quarter`).
-use Rattle.std.proofs.Common.{◌%◌, not, T, sym, ap, ◌∙◌, subst}
-use lib.Ieee.{Float, binary64, is_nan, to_bits}
+use Rattle.std.proofs.Common.{◌%◌, not, T, sym, ap, ◌∙◌, subst, Float}
+use lib.Ieee.{binary64, is_nan, to_bits}
 use Rattle.base.proofs.steps.Turns.{shifted_no_nan, shifted_quarter}
 use Rattle.base.proofs.elementary.quarter.Goals as goal
 

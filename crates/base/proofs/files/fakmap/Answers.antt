@@ -1,22 +1,9 @@
--- `fakmap` answers `file_check`, and fills the array with `fakmap_of` or leaves it, by the verdict.
+-- What is read is there and finite, by the check before it.
 use Rattle.std.proofs.Common.{sym, ◌∙◌}
-use Rattle.base.proofs.layout.Readers.{file_length, file_finite, written, left}
+use Rattle.base.proofs.layout.Readers.{file_length, file_finite}
 use Rattle.base.proofs.files.fakmap.Goals as goal
 
 pub fakmap_of-requires : goal.fakmap_of-requires
 fakmap_of-requires c =
-    let e = c.file_check-verdict.ensures in
-    let good = sym e ∙ c.in-Accepted.is in
-    (file_length _ good, file_finite _ good)
-
-pub returns-in-Accepted : goal.returns-in-Accepted
-returns-in-Accepted c =
-    let e = c.file_check-verdict.ensures in
-    let z = c.in-Accepted.is in
-    record { answer = sym z ∙ e; buffer = written e _ z c.fakmap_of.ensures }
-
-pub returns-in-Refused : goal.returns-in-Refused
-returns-in-Refused c =
-    let e = c.file_check-verdict.ensures in
-    let z = c.in-Refused.is in
-    record { answer = sym z ∙ e; buffer = left e _ _ z }
+    let e = sym c.file_check.ensures ∙ c.in_ok-file_check.was in
+    (file_length _ e, file_finite _ e)

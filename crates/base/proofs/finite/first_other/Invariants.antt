@@ -1,11 +1,7 @@
 -- `first_other` is `first_other`: where all words are finite it is behind them, and else it is looked
 -- for, by the loop's invariant that from the word i on it is that of the whole run.
-use Rattle.std.proofs.Common.{◌-◌, ◌≤◌}
 use Rattle.base.proofs.layout.FirstWords.{Sought}
 use Rattle.base.proofs.finite.first_other.Given as goal
 
 abbrev pub invariant-loop-i : goal.invariant-loop-i
-invariant-loop-i l = (l.i ≤ l.n) × Sought l.s l.at l.n l.i
-
-abbrev pub decreases-loop-i : goal.decreases-loop-i
-decreases-loop-i l = l.n - l.i
+invariant-loop-i l = Sought l.s l.at l.n l.i

@@ -1,11 +1,7 @@
 -- `index_check` is `index_check`, by the loop's invariant that the rest of the check is the whole of
 -- it: a map is bad, or the check goes on.
-use Rattle.std.proofs.Common.{◌-◌}
 use Rattle.base.proofs.ladder.Ladders.{Checked}
 use Rattle.base.proofs.index.index_check.Given as goal
 
 abbrev pub invariant-loop-k : goal.invariant-loop-k
 invariant-loop-k l = Checked l.month l.k
-
-abbrev pub decreases-loop-k : goal.decreases-loop-k
-decreases-loop-k l = 6 - l.k

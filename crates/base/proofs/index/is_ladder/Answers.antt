@@ -1,12 +1,9 @@
 -- `is_ladder` is `climbs`, by the loop's invariant that the rest of the ladder is the whole of it:
 -- a word stops it, breaks it or goes on.
-use Rattle.std.proofs.Common.{ℕ, ℤ, sym, refl, ap, ◌∙◌, rules}
+use Rattle.std.proofs.Common.{ℕ, ℤ, sym, ap, ◌∙◌}
 use Rattle.base.specs.Index.{climbs}
 use Rattle.base.proofs.ladder.Ladders.{same_words, stops, falls, goes_up, ends_up}
 use Rattle.base.proofs.index.is_ladder.Goals as goal
-
-pub loop-j-init : goal.loop-j-init
-loop-j-init c = record { turns = search rules; is = c.ikim_word-p.ensures; small = c.requires.1; same = refl }
 
 pub returns-then-q-p : goal.returns-then-q-p
 returns-then-q-p c =

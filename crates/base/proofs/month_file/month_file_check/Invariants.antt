@@ -1,11 +1,7 @@
 -- `month_file_check` is `month_file_check`, by the loop's invariant that what is left of the walk is
 -- the whole walk: a record is passed at once, or the walk ends in it.
-use Rattle.std.proofs.Common.{◌-◌}
 use Rattle.base.proofs.layout.Walks.{Walked}
 use Rattle.base.proofs.month_file.month_file_check.Given as goal
 
-abbrev pub invariant-loop-k : goal.invariant-loop-k
-invariant-loop-k l = Walked l.s l.at l.k
-
-abbrev pub decreases-loop-k : goal.decreases-loop-k
-decreases-loop-k l = 9 - l.k
+abbrev pub invariant-loop-n : goal.invariant-loop-n
+invariant-loop-n l = Walked l.s l.at l.n-index

@@ -10,9 +10,6 @@ small c =
     let m = c.args.b % 2 ^ 52 + 2 ^ 52 in
     subst (λ (r : ℕ). r ≤ 2 ^ 24) (sym c.half_even-then-exponent-lt1151.ensures) (closest_le 24 m 29 (omega arith))
 
-pub overflow_add-result : goal.overflow_add-result
-overflow_add-result c = omega (arith, small (goal.at.overflow_add-result c).After-half_even-then-exponent-lt1151)
-
 pub returns-then-exponent-le872 : goal.returns-then-exponent-le872
 returns-then-exponent-le872 c = record { bound = lit≤ tt; value = zero_case c.args.b c.requires c.if-exponent-le872.true }
 

@@ -1,9 +1,9 @@
 -- `narrowed` is `narrow_of`: the bits with 29 digits cleared are those of the `f64` that has the
 -- same value as the `f32` of `mid_case`, and two floats of one format with the same value are the
 -- same, since their bits are.
-use Rattle.std.proofs.Common.{◌≡◌, ℕ, ◌+◌, ◌-◌, ◌*◌, ◌/◌, ◌%◌, ◌^◌, ◌<◌, ◌≤◌, Bool, true, false, cond, not, T, sym, refl, ap, ◌∙◌, subst, inr, lt_of_lt_of_le, mul_right_comm, arith, lit≤, pow_pos, pow_mono, shl_lt}
+use Rattle.std.proofs.Common.{◌≡◌, ℕ, ◌+◌, ◌-◌, ◌*◌, ◌/◌, ◌%◌, ◌^◌, ◌<◌, ◌≤◌, Bool, true, false, cond, not, T, sym, refl, ap, ◌∙◌, subst, inr, lt_of_lt_of_le, mul_right_comm, arith, lit≤, pow_pos, pow_mono, shl_lt, Float}
 use native.Mathlib.Decide.{dec_lt}
-use lib.Ieee.{Float, nan, inf, fin, Format, binary32, binary64, prec, low, up, down, hid, top, size, units, nan_bits, of_bits, to_bits, fits}
+use lib.Ieee.{nan, inf, fin, Format, binary32, binary64, prec, low, up, down, hid, top, size, units, nan_bits, of_bits, to_bits, fits}
 use lib.Ieee.Fits.{down_pos, fits_widens}
 use lib.Ieee.Exact.{HasValue, units_val}
 use lib.Ieee.Nearest.{closest, div_same}
@@ -11,8 +11,9 @@ use lib.Ieee.Bits.{of_bits-to_bits}
 use Rattle.base.specs.Number.{narrow_of}
 use Rattle.base.proofs.rounding.Halves.{half_up}
 use Rattle.base.proofs.rounding.Narrowing.{mid_case}
-use Rattle.base.proofs.rounding.Patterns.{is_nan_law, no_nan, no_nan_bits, wide, read_back}
+use Rattle.base.proofs.rounding.Patterns.{is_nan_law, no_nan_bits, wide, read_back}
 use Rattle.base.proofs.rounding.Rounding.{shifts, closest_le, closest_ge, units_fit, units_bits}
+use Rattle.base.proofs.rounding.Signs.{by_test}
 use Rattle.base.proofs.number.narrowed.Goals as goal
 
 -- ---- the same value, the same float
@@ -66,17 +67,8 @@ nan_case : (x : Float) → x ≡ nan → x ≡ narrow_of x
 unfolding narrow_of
 nan_case x e = e ∙ ap narrow_of (sym e)
 
-pub returns-then-x : goal.returns-then-x
-returns-then-x c = nan_case c.args.x (is_nan_law c.args.x c.if-x.true)
-
-pub float_to_bits-b : goal.float_to_bits-b
-float_to_bits-b c = no_nan c.args.x c.if-x.false
-
-pub returns-then-exponent-lt897 : goal.returns-then-exponent-lt897
-returns-then-exponent-lt897 c = c.widen.ensures ∙ c.narrow.ensures
-
-pub returns-then-exponent-ge1150 : goal.returns-then-exponent-ge1150
-returns-then-exponent-ge1150 c = c.widen-then-exponent-ge1150.ensures ∙ c.narrow-then-exponent-ge1150.ensures
+pub returns-then-is_nan : goal.returns-then-is_nan
+returns-then-is_nan c = nan_case c.args.x (is_nan_law c.args.x (by_test _ c.is_nan.ensures.value c.if-is_nan.true))
 
 -- rounding does not see the digits above
 above : (k m o : ℕ) → k * 2 ^ 29 + m + 268435455 + o - (k * 2 ^ 29 + m + 268435455 + o) % 2 ^ 29 ≡ k * 2 ^ 29 + (m + 268435455 + o) / 2 ^ 29 * 2 ^ 29

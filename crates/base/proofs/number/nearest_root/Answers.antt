@@ -36,12 +36,6 @@ overflow_add-q c = omega (arith, root_lt (goal.at.overflow_add-q c).In-loop-i)
 pub overflow_mul-q-else-step-next : goal.overflow_mul-q-else-step-next
 overflow_mul-q-else-step-next c = omega (arith, root_lt (goal.at.overflow_mul-q-else-step-next c).In-loop-i)
 
-pub overflow_add-i : goal.overflow_add-i
-overflow_add-i c = omega arith
-
-pub loop-i-smaller : goal.loop-i-smaller
-loop-i-smaller c = omega arith
-
 pub loop-i-preserved : goal.loop-i-preserved
 loop-i-preserved c =
     let l = c.loop-i in

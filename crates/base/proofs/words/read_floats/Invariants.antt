@@ -1,11 +1,8 @@
 -- `read_floats` fills the array with the floats. The loop's invariant: the first i are filled.
-use Rattle.std.proofs.Common.{◌≡◌, ◌+◌, ◌-◌, ◌*◌, ◌≤◌, length}
+use Rattle.std.proofs.Common.{◌≡◌, ◌+◌, ◌*◌}
 use Rattle.base.specs.Fill.{fill}
 use Rattle.base.specs.Words.{float_at}
 use Rattle.base.proofs.words.read_floats.Given as goal
 
 abbrev pub invariant-loop-i : goal.invariant-loop-i
-invariant-loop-i l = (l.i ≤ length l.initial.out) × (length l.out ≡ length l.initial.out) × (l.out ≡ fill (λ j. float_at l.s (l.at + 4 * j)) 0 l.initial.out l.i)
-
-abbrev pub decreases-loop-i : goal.decreases-loop-i
-decreases-loop-i l = length l.initial.out - l.i
+invariant-loop-i l = (l.out ≡ fill (λ j. float_at l.s (l.at + 4 * j)) 0 l.initial.out l.i)

@@ -1,17 +1,16 @@
 -- `read_words` fills the array with the words. The loop's invariant: the first i are filled.
-use Rattle.std.proofs.Common.{sym, refl, arith, rules}
+use Rattle.std.proofs.Common.{sym, refl, arith}
 use Rattle.base.specs.Fill.{fill}
 use Rattle.base.proofs.lists.Fills.{fill_first, filled}
 use Rattle.base.proofs.words.read_words.Goals as goal
 
 pub loop-i-init : goal.loop-i-init
 unfolding fill
-loop-i-init c = (search rules, refl, refl)
+loop-i-init c = refl
 
 pub loop-i-preserved : goal.loop-i-preserved
 loop-i-preserved c =
-    let so_far = c.loop-i.invariant.2 in
-    (search rules, search rules, rw (c.whole_word.ensures, so_far) (sym (fill_first _ _ _)))
+    rw (c.whole_word.ensures, c.loop-i.invariant) (sym (fill_first _ _ _))
 
 pub returns : goal.returns
-returns c = filled _ _ c.loop-i.invariant.2 (omega arith)
+returns c = filled _ _ c.loop-i.invariant (omega arith)

@@ -1,7 +1,7 @@
 -- `model_place` is the part `year_model`: that of a pair, by what `pair_place` ensures, or none.
 use Rattle.std.proofs.Common.{ℕ, sym, ap, ◌∙◌, arith}
 use Rattle.base.specs.MonthFile.{Part}
-use Rattle.base.proofs.layout.Directories.{model_part_is, no_model, bit_known}
+use Rattle.base.proofs.layout.Directories.{model_part_is, no_model}
 use Rattle.base.proofs.year.model_place.Goals as goal
 
 abbrev from_of : Part → ℕ
@@ -9,9 +9,6 @@ from_of p = p.from
 
 abbrev size_of : Part → ℕ
 size_of p = p.size
-
-pub pair_place-requires : goal.pair_place-requires
-pair_place-requires c = omega (arith, bit_known c.args.model (sym c.is_bit.ensures ∙ c.if-is_bit.true))
 
 pub returns-then-is_bit : goal.returns-then-is_bit
 returns-then-is_bit c =

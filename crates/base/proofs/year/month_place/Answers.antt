@@ -1,7 +1,7 @@
 -- `month_place` is the part `year_month`: that of a pair, by what `pair_place` ensures, or none.
 use Rattle.std.proofs.Common.{ℕ, sym, ap, ◌∙◌, arith}
 use Rattle.base.specs.MonthFile.{Part}
-use Rattle.base.proofs.layout.Directories.{month_part_is, no_month, month_known}
+use Rattle.base.proofs.layout.Directories.{month_part_is, no_month}
 use Rattle.base.proofs.year.month_place.Goals as goal
 
 abbrev from_of : Part → ℕ
@@ -9,12 +9,6 @@ from_of p = p.from
 
 abbrev size_of : Part → ℕ
 size_of p = p.size
-
-pub overflow_sub-month : goal.overflow_sub-month
-overflow_sub-month c = omega (arith, month_known c.args.month (sym c.is_month.ensures ∙ c.if-is_month.true))
-
-pub pair_place-requires : goal.pair_place-requires
-pair_place-requires c = omega (arith, month_known c.args.month (sym c.is_month.ensures ∙ c.if-is_month.true))
 
 pub returns-then-is_month : goal.returns-then-is_month
 returns-then-is_month c =

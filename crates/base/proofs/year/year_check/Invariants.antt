@@ -1,10 +1,6 @@
 -- `year_check` is `year_check`, by the loop's invariant that what is left of the check is the whole.
-use Rattle.std.proofs.Common.{◌-◌}
 use Rattle.base.proofs.layout.Directories.{Passed}
 use Rattle.base.proofs.year.year_check.Given as goal
 
 abbrev pub invariant-loop-k : goal.invariant-loop-k
 invariant-loop-k l = Passed l.year l.k
-
-abbrev pub decreases-loop-k : goal.decreases-loop-k
-decreases-loop-k l = 14 - l.k

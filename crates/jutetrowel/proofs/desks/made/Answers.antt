@@ -1,7 +1,6 @@
 -- `made` is the step of the worksheet that the words hold, by whether `make` hands back a verdict
 -- or a showing.
-use mathlib.Core.List.{[]}
-use mathlib.Core.Path.{ap, ◌∙◌}
+use Rattle.std.proofs.Common.{[], ap, ◌∙◌}
 use Rattle.worksheet.specs.declared.desks.Worksheet.{Worksheet}
 use Rattle.worksheet.specs.Showing.{pair}
 use Rattle.worksheet.specs.Journal.{step}
@@ -14,22 +13,20 @@ use Rattle.jutetrowel.proofs.desks.made.Goals as goal
 pub returns-in-Told : goal.returns-in-Told
 unfolding words_left
 returns-in-Told c =
-    let m = c in
-    let w = m.load.ensures in
-    let a = m.args in
+    let w = c.load.ensures in
+    let a = c.args in
     let s = c.settle.ensures in
     let k = called a.call [] in
     told_crosses (step (pair [] []) k (worksheet_of a.sheet.now)) a.sheet.now
-    (m.make-next.ensures.answer ∙ ap (λ (x : Worksheet). next_of (step (pair [] []) k x)) w)
+    (c.make-next.ensures.answer ∙ ap (λ (x : Worksheet). next_of (step (pair [] []) k x)) w)
     c.in-Told.is s.answer s.sheet
 
 pub returns-in-Shown : goal.returns-in-Shown
 unfolding words_left
 returns-in-Shown c =
-    let m = c in
-    let w = m.load.ensures in
-    let a = m.args in
+    let w = c.load.ensures in
+    let a = c.args in
     let k = called a.call [] in
     shown_crosses (step (pair [] []) k (worksheet_of a.sheet.now)) a.sheet.now
-    (m.make-next.ensures.answer ∙ ap (λ (x : Worksheet). next_of (step (pair [] []) k x)) w)
-    c.in-Shown.is c.numbers_of.ensures
+    (c.make-next.ensures.answer ∙ ap (λ (x : Worksheet). next_of (step (pair [] []) k x)) w)
+    c.in-Shown.is c.from.ensures

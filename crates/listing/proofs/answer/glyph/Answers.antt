@@ -1,6 +1,5 @@
 -- `glyph` is `glyph_of`, by whether the digit is below 10.
-use borrow.Author.Tests.{lt-ltb, le-ltb}
-use mathlib.Core.Path.{sym}
+use Rattle.std.proofs.Common.{lt-ltb, le-ltb, sym}
 use Rattle.base.proofs.verdicts.Picks.{cond_true, cond_false}
 use Rattle.listing.specs.Answer.{glyph_of}
 use Rattle.listing.proofs.answer.glyph.Goals as goal

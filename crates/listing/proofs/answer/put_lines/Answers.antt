@@ -1,36 +1,25 @@
--- `put_lines` puts `lines_of`. The loop's invariant: what is owed after k turns are the lines from
--- number k on.
-use borrow.Author.Rules.{rules}
-use Prim.Native.Nat.{◌+◌}
-use lib.ListN.{get_or, drop}
-use lib.Ieee.{nan}
+-- `put_lines` puts `lines_of`: what is owed after some turns are the lines of the numbers that follow.
+use Rattle.std.proofs.Common.{◌+◌, get_or, drop}
+use Rattle.std.specs.Float.{nan}
 use Rattle.listing.specs.Answer.{line_of, lines_of}
 use Rattle.listing.proofs.pieces.HexLines.{lines_from, no_lines}
-use Rattle.listing.proofs.pieces.Puts.{owing, renamed, paid, room, settled}
+use Rattle.listing.proofs.pieces.Puts.{owing, paid, room, settled}
 use Rattle.listing.proofs.answer.put_lines.Goals as goal
 
-pub loop-k-init : goal.loop-k-init
-loop-k-init c =
-    let a = c.args in
-    (search rules, owing a.out.now a.at (lines_of a.figures.now))
+pub loop-x-init : goal.loop-x-init
+loop-x-init c = owing c.args.text.now (lines_of c.args.figures.now)
 
-pub put_line-next-requires : goal.put_line-next-requires
-put_line-next-requires c =
-    let l = c.loop-k in
-    let s = c in
-    let xs = s.args.figures.now in
-    room (line_of (get_or xs l.k nan)) (lines_of (drop (l.k + 1) xs)) (renamed l.invariant.1 (lines_from xs l.k c.loop-k-test.true)) s.requires
+pub put_line-requires : goal.put_line-requires
+put_line-requires c =
+    let xs = c.args.figures.now in
+    let k = c.loop-x.x-index in
+    room (line_of (get_or xs k nan)) (lines_of (drop (k + 1) xs)) c.loop-x.invariant (lines_from xs k c.loop-x-test.true) c.requires
 
-pub loop-k-preserved : goal.loop-k-preserved
-loop-k-preserved c =
-    let t = c in
-    let l = t.loop-k in
-    let xs = t.args.figures.now in (
-      search rules,
-      paid (line_of (get_or xs l.k nan)) (lines_of (drop (l.k + 1) xs)) (renamed l.invariant.1 (lines_from xs l.k t.loop-k-test.true)) c.put_line-next.ensures,
-    )
+pub loop-x-preserved : goal.loop-x-preserved
+loop-x-preserved c =
+    let xs = c.args.figures.now in
+    let k = c.loop-x.x-index in
+    paid (line_of (get_or xs k nan)) (lines_of (drop (k + 1) xs)) c.loop-x.invariant (lines_from xs k c.loop-x-test.true) c.put_line.ensures
 
 pub returns : goal.returns
-returns c =
-    let l = c.loop-k in
-    settled (renamed l.invariant.1 (no_lines c.args.figures.now l.k c.loop-k-test.false))
+returns c = settled c.loop-x.invariant (no_lines c.args.figures.now c.loop-x.x-index c.loop-x-test.false)

@@ -1,13 +1,8 @@
--- `put_lines` puts `lines_of`. The loop's invariant: what is owed after k turns are the lines from
--- number k on.
-use Prim.Native.Nat.{◌≤◌, ◌-◌}
-use lib.ListN.{length, drop}
+-- `put_lines` puts `lines_of`: what is owed after some turns are the lines of the numbers that follow.
+use Rattle.std.proofs.Common.{drop}
 use Rattle.listing.specs.Answer.{lines_of}
 use Rattle.listing.proofs.pieces.Puts.{Owed}
 use Rattle.listing.proofs.answer.put_lines.Given as goal
 
-abbrev pub invariant-loop-k : goal.invariant-loop-k
-invariant-loop-k l = (l.k ≤ length l.figures) × Owed l.initial.out l.at (lines_of l.figures) l.out l.next (lines_of (drop l.k l.figures))
-
-abbrev pub decreases-loop-k : goal.decreases-loop-k
-decreases-loop-k l = length l.figures - l.k
+abbrev pub invariant-loop-x : goal.invariant-loop-x
+invariant-loop-x l = Owed l.initial.text (lines_of l.figures) l.text (lines_of (drop l.x-index l.figures))

@@ -1,12 +1,8 @@
 -- `call_in` is `call_in`, by the operation's number: each arm is its row of the table of calls, and
 -- a number that has no arm is 0 or past the table's end.
-use mathlib.Core.Path.{◌≡◌, sym, ap, ◌∙◌}
-use mathlib.Core.List.{List}
-use Prim.Native.Nat.{ℕ, ◌≤◌}
-use native.Mathlib.Omega.{arith}
+use Rattle.std.proofs.Common.{◌≡◌, sym, ap, ◌∙◌, List, ℕ, ◌≤◌, arith, Float}
 use native.Mathlib.Decide.{dec_lt}
 use lib.ListN.{get_or-eq_default}
-use lib.Ieee.{Float}
 use Rattle.worksheet.specs.declared.inputs.Edit.TheVariants.{Sunspot, Hour, Month, Model}
 use Rattle.worksheet.specs.declared.journal.Call.TheVariants.{Begin, Commit, Cancel, Show}
 use Rattle.listing.specs.declared.call.Read.TheVariants.{Call as Called}

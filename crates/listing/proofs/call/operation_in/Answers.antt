@@ -1,5 +1,5 @@
 -- `operation_in` is `operation_in`, by what is lent.
-use mathlib.Core.Path.{sym, ap, ◌∙◌}
+use Rattle.std.proofs.Common.{sym, ap, ◌∙◌}
 use Rattle.worksheet.specs.declared.showing.Lent.{Lent}
 use Rattle.listing.specs.Calls.{operation_in}
 use Rattle.listing.proofs.call.operation_in.Goals as goal

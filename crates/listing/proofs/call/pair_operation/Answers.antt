@@ -1,6 +1,5 @@
 -- `pair_operation` is `pair_operation`, by its test.
-use borrow.Author.Tests.{lt-ltb, le-ltb}
-use mathlib.Core.Path.{sym}
+use Rattle.std.proofs.Common.{lt-ltb, le-ltb, sym}
 use Rattle.base.proofs.verdicts.Picks.{cond_true, cond_false}
 use Rattle.listing.specs.Calls.{pair_operation}
 use Rattle.listing.proofs.call.pair_operation.Goals as goal

@@ -1,12 +1,7 @@
 -- The source's sizes are those of the table of calls, by computation over the whole table; so is
 -- that none is above 24.
-use mathlib.Core.Path.{sym, ap}
-use mathlib.Core.Bool.{Bool}
-use mathlib.Core.List.{List, map}
-use Prim.Native.Nat.{ℕ, ◌*◌}
-use native.Mathlib.Omega.{arith}
-use lib.Dec.{leb, leb→le}
-use lib.ListN.{get_or, get_or-map, get_or-eq_default}
+use Rattle.std.proofs.Common.{sym, ap, Bool, List, map, ℕ, ◌*◌, arith, leb, leb→le, get_or}
+use lib.ListN.{get_or-map, get_or-eq_default}
 use Rattle.base.proofs.lists.Entries.{at as entry}
 use Rattle.listing.specs.Calls.{Operation, unknown, operations, size_of}
 use Rattle.listing.proofs.call.size_of.Goals as goal

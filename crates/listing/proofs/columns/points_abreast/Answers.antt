@@ -1,7 +1,5 @@
 -- `points_abreast` is `abreast`, by whether the count is below five.
-use borrow.Author.Tests.{lt-ltb, le-ltb}
-use mathlib.Core.Path.{sym}
-use native.Mathlib.Omega.{arith}
+use Rattle.std.proofs.Common.{lt-ltb, le-ltb, sym, arith}
 use Rattle.base.proofs.verdicts.Picks.{cond_true, cond_false}
 use Rattle.listing.specs.Columns.{abreast}
 use Rattle.listing.proofs.columns.points_abreast.Goals as goal

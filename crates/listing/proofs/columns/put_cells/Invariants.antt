@@ -1,11 +1,7 @@
--- `put_cells` puts `cells_text`. The loop's invariant: after p turns p numbers stand there.
-use Prim.Native.Nat.{◌-◌, ◌≤◌}
-use Rattle.listing.specs.Text.{Put}
+-- `put_cells` puts `cells_text`: after p turns p numbers stand there.
+use Rattle.listing.specs.Text.{Puts}
 use Rattle.listing.specs.Columns.{cells_text}
 use Rattle.listing.proofs.columns.put_cells.Given as goal
 
 abbrev pub invariant-loop-p : goal.invariant-loop-p
-invariant-loop-p l = (l.p ≤ l.n) × Put l.initial.out l.at (cells_text l.figures l.from l.p) l.out l.next
-
-abbrev pub decreases-loop-p : goal.decreases-loop-p
-decreases-loop-p l = l.n - l.p
+invariant-loop-p l = Puts l.initial.text (cells_text l.figures l.from l.p) l.text

@@ -1,8 +1,6 @@
 -- `halved` is n over 2^s to the nearest: n over all factors of two but the last, halved to the
 -- nearest.
-use mathlib.Core.Path.{sym, ap, ◌∙◌}
-use Prim.Native.Nat.{ℕ, ◌+◌, ◌/◌, ◌%◌, ◌^◌}
-use native.Mathlib.Omega.{arith}
+use Rattle.std.proofs.Common.{sym, ap, ◌∙◌, ℕ, ◌+◌, ◌/◌, ◌%◌, ◌^◌, arith}
 use Rattle.listing.specs.Decimal.{nearest_of}
 use Rattle.listing.proofs.digits.Quotients.{nearest_none, to_nearest}
 use Rattle.listing.proofs.decimal.halved.Goals as goal

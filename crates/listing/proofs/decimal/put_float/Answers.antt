@@ -1,7 +1,6 @@
 -- `put_float` puts `decimal_text`: the fields are those of the float's bits, which are read back as
 -- the float.
-use mathlib.Core.Path.{ap, ◌∙◌}
-use Prim.Native.Nat.{ℕ}
+use Rattle.std.proofs.Common.{ℕ, ap, ◌∙◌}
 use lib.Ieee.{binary32, of_bits}
 use Rattle.base.proofs.rounding.Patterns.{read_back}
 use Rattle.listing.specs.Decimal.{decimal_text}
@@ -11,7 +10,5 @@ use Rattle.listing.proofs.decimal.put_float.Goals as goal
 pub returns : goal.returns
 unfolding of_bits
 returns c =
-    let b = c in
-    let s = b in
     put_as c.put_parts.ensures
-    (ap (λ (w : ℕ). decimal_text (of_bits binary32 w)) b.bits32-w.ensures ∙ ap decimal_text (read_back binary32 s.args.x s.well_formed.1.1.0.1))
+    (ap (λ (w : ℕ). decimal_text (of_bits binary32 w)) c.bits32-w.ensures ∙ ap decimal_text (read_back binary32 c.args.x c.well_formed.1.0.1))

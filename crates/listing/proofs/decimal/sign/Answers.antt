@@ -1,5 +1,5 @@
 -- `sign` is `sign_text`, by the flag.
-use mathlib.Core.Path.{sym}
+use Rattle.std.proofs.Common.{sym}
 use Rattle.base.proofs.verdicts.Picks.{cond_true, cond_false}
 use Rattle.listing.specs.Decimal.{sign_text}
 use Rattle.listing.proofs.decimal.sign.Goals as goal

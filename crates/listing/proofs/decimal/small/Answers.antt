@@ -1,8 +1,6 @@
 -- `small` is `decimal_text` of a float below 2^24, by whether it has a leading one that its bits do
 -- not hold.
-use mathlib.Core.Path.{sym, ap, ◌∙◌}
-use Prim.Native.Nat.{ℕ}
-use native.Mathlib.Omega.{arith}
+use Rattle.std.proofs.Common.{sym, ap, ◌∙◌, ℕ, arith}
 use lib.Ieee.{binary32, of_fields}
 use Rattle.listing.specs.Decimal.{text_of, decimal_text}
 use Rattle.listing.proofs.digits.Values.{lowest, middle}

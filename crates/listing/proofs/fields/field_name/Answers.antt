@@ -1,6 +1,5 @@
 -- The source's names are those of the rows of specs/Fields.antt, by computation over the whole table.
-use Prim.Native.Nat.{◌-◌}
-use native.Mathlib.Omega.{arith}
+use Rattle.std.proofs.Common.{◌-◌, arith}
 use Rattle.listing.specs.Fields.{field_name}
 use Rattle.listing.proofs.pieces.Named.{name_of}
 use Rattle.listing.proofs.fields.field_name.Goals as goal

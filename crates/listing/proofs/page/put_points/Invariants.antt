@@ -1,16 +1,7 @@
--- `put_points` puts the five points. The loop's invariant: after p turns the first p stand there.
-use borrow.Author.Rules.{rules}
-use mathlib.Core.Path.{◌≡◌, subst}
-use Prim.Native.Nat.{ℕ, ◌≤◌, ◌-◌}
-use native.Mathlib.Omega.{arith}
-use Rattle.listing.specs.Text.{Put}
+-- `put_points` puts `first_points`: after p turns the first p points stand there.
+use Rattle.listing.specs.Text.{Puts}
 use Rattle.listing.specs.Page.{first_points}
-use Rattle.listing.proofs.pieces.Puts.{put_as, joined}
-use Rattle.listing.proofs.pieces.Rows.{no_points, next_point, length_points}
 use Rattle.listing.proofs.page.put_points.Given as goal
 
 abbrev pub invariant-loop-p : goal.invariant-loop-p
-invariant-loop-p l = (l.p ≤ 5) × Put l.initial.out l.at (first_points l.count l.figures l.p) l.out l.next
-
-abbrev pub decreases-loop-p : goal.decreases-loop-p
-decreases-loop-p l = 5 - l.p
+invariant-loop-p l = Puts l.initial.text (first_points l.count l.figures l.p) l.text

@@ -1,5 +1,5 @@
 -- `page_answer` puts `page_answer`: what the showing of the opened worksheet gives, as a page.
-use mathlib.Core.Path.{ap, ap₂, ◌∙◌}
+use Rattle.std.proofs.Common.{ap, ap₂, ◌∙◌}
 use lib.Ieee.{of_bits, round}
 use Rattle.base.specs.Single.{decimal}
 use Rattle.worksheet.specs.declared.desks.Outcome.{Outcome}

@@ -1,7 +1,6 @@
 -- `spoken` leaves the step's worksheet and puts its answer in words: what `make` hands back, as
 -- words, with the inputs that the call asks to see.
-use mathlib.Core.Path.{ap, ◌∙◌}
-use Prim.Native.Nat.{ℕ}
+use Rattle.std.proofs.Common.{ap, ◌∙◌, ℕ}
 use lib.Ieee.{of_bits, round}
 use Rattle.base.specs.Single.{decimal}
 use Rattle.worksheet.specs.Showing.{inputs_shown}

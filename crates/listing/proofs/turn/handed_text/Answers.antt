@@ -1,5 +1,5 @@
 -- `handed_text` puts `handed_text`, by the answer's case.
-use mathlib.Core.Path.{sym, ap, ◌∙◌}
+use Rattle.std.proofs.Common.{sym, ap, ◌∙◌}
 use Rattle.worksheet.specs.declared.journal.Answer.{Answer}
 use Rattle.listing.specs.Turn.{handed_text}
 use Rattle.listing.proofs.turn.handed_text.Goals as goal

@@ -8,5 +8,7 @@ use Rattle.maps.proofs.figures.fill_in.Goals as goal
 pub returns : goal.returns
 unfolding hour_from
 returns c =
-    let b = c in
-    let d = b in record { answer = ap (λ (g : PathGeometry). g.count) d.path-g.ensures; buffer = rw (b.put_figures.ensures, d.path-g.ensures, d.monthly_of-m.ensures, d.virtim-ab.ensures) refl }
+    let m = c.new.ensures in record {
+      answer = ap (λ (g : PathGeometry). g.count) c.path-g.ensures;
+      buffer = rw (c.put_figures.ensures, c.path-g.ensures, c.monthly_of.ensures, m.coefficients, m.words, c.virtim-ab.ensures) refl;
+    }

@@ -8,4 +8,4 @@ pub returns : goal.returns
 unfolding head_of
 returns c =
     let g = c.args.g in
-    ap (λ (a : Degrees). g.gcd.0 ∷ g.gcd_km ∷ g.btr.0 ∷ g.brt.0 ∷ g.rlatd.0 ∷ a.0 ∷ []) c.alatd-alatd.ensures
+    ap (λ (a : Degrees). g.gcd.0 ∷ g.gcd_km ∷ g.btr.0 ∷ g.brt.0 ∷ g.rlatd.0 ∷ a.0 ∷ []) c.alatd.ensures

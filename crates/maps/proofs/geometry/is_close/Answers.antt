@@ -1,6 +1,6 @@
 -- `is_close` compares the difference's size with `DDX`, in the Rust's digits.
-use Rattle.std.proofs.Common.{ap}
-use lib.Ieee.{Float, le, round, of_bits}
+use Rattle.std.proofs.Common.{ap, Float}
+use lib.Ieee.{le, round, of_bits}
 use Rattle.base.specs.Single.{decimal}
 use Rattle.maps.specs.Geometry.{DDX, close}
 use Rattle.maps.proofs.geometry.is_close.Goals as goal

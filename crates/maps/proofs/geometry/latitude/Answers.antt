@@ -1,6 +1,6 @@
 -- `latitude` is one difference from `PIO2`, in the Rust's digits.
-use Rattle.std.proofs.Common.{ap}
-use lib.Ieee.{Float, round, of_bits}
+use Rattle.std.proofs.Common.{ap, Float}
+use lib.Ieee.{round, of_bits}
 use Rattle.base.specs.Single.{◌⊖◌, decimal}
 use Rattle.base.specs.Constants.{PIO2}
 use Rattle.maps.specs.Geometry.{latitude_of}

@@ -1,5 +1,4 @@
 -- `rows` is the list of its five rows.
-use Rattle.std.proofs.Common.{rules}
 use Rattle.maps.specs.Geometry.{control_row, rows_of}
 use Rattle.maps.proofs.geometry.rows.Goals as goal
 

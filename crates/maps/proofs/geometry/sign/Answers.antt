@@ -1,7 +1,7 @@
 -- `sign` sets the sign that `sign_from` gives over the bits of a's size (`signed_size`), and is a NaN
 -- where a is one.
-use Rattle.std.proofs.Common.{◌≡◌, ℕ, ◌+◌, ◌*◌, ◌%◌, ◌^◌, ◌≤◌, Bool, true, false, cond, not, T, sym, refl, ap, ◌∙◌, subst, arith}
-use lib.Ieee.{Float, nan, neg, le, fits, is_nan, binary32, nan_bits, of_bits, to_bits}
+use Rattle.std.proofs.Common.{◌≡◌, ℕ, ◌+◌, ◌*◌, ◌%◌, ◌^◌, ◌≤◌, Bool, true, false, cond, not, T, sym, refl, ap, ◌∙◌, subst, arith, Float}
+use lib.Ieee.{nan, neg, le, fits, is_nan, binary32, nan_bits, of_bits, to_bits}
 use Rattle.base.specs.Number.{abs_of}
 use Rattle.base.specs.Single.{decimal}
 use Rattle.base.proofs.rounding.Patterns.{is_nan_law, no_nan, no_nan_bits, abs_nan, held, capped, signed_size}

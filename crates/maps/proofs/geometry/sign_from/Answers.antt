@@ -1,7 +1,7 @@
 -- `sign_from` tests b by its bits: those of a number that is not below zero are at most those of -0
 -- (`not_below_bits`), and only with more is there a carry into the 33rd bit.
-use Rattle.std.proofs.Common.{◌≡◌, ℕ, ◌+◌, ◌-◌, ◌*◌, ◌/◌, ◌^◌, ◌<◌, Bool, true, false, cond, leb, sym, refl, ap, ◌∙◌, arith, leb-false, leb-true}
-use lib.Ieee.{Float, nan, binary32, lt, eq, le, round, to_bits}
+use Rattle.std.proofs.Common.{◌≡◌, ℕ, ◌+◌, ◌-◌, ◌*◌, ◌/◌, ◌^◌, ◌<◌, Bool, true, false, cond, leb, sym, refl, ap, ◌∙◌, arith, leb-false, leb-true, Float}
+use lib.Ieee.{nan, binary32, lt, eq, le, round, to_bits}
 use Rattle.base.specs.Single.{decimal}
 use Rattle.base.proofs.rounding.Patterns.{is_nan_law, no_nan, held, wide, not_below_bits}
 use Rattle.maps.proofs.geometry.sign_from.Goals.{Else-b}

@@ -1,6 +1,6 @@
 -- `turned` takes `PI2` off with the sign of x.
-use Rattle.std.proofs.Common.{ap}
-use lib.Ieee.{Float, round, of_bits}
+use Rattle.std.proofs.Common.{ap, Float}
+use lib.Ieee.{round, of_bits}
 use Rattle.base.specs.Single.{◌⊖◌, decimal}
 use Rattle.base.specs.Constants.{PI2}
 use Rattle.maps.specs.Geometry.{turned_of}

@@ -1,55 +1,35 @@
--- `layer_parameters_at` is `layers_at_of`, by the verdict of month and file: where both are accepted,
--- the tables are the file's own.
-use Rattle.std.proofs.Common.{sym, ap, ◌∙◌}
-use Rattle.base.specs.declared.refusal.Verdict.{Verdict}
-use Rattle.base.specs.declared.refusal.Verdict.TheVariants.{Accepted}
+-- `layer_parameters_at` is `layers_at_of`: where month and file are accepted, the tables are the
+-- file's own.
+use Rattle.std.proofs.Common.{◌≡◌, sym, ◌∙◌, rules, Ok}
 use Rattle.base.specs.Index.{index_of}
 use Rattle.base.specs.Blend.{hmym_of}
-use Rattle.maps.specs.declared.ionosphere.LayersAt.{LayersAt}
-use Rattle.maps.specs.declared.ionosphere.layers.LayerParams.{LayerParams}
-use Rattle.maps.specs.Layers.{monthly_of}
-use Rattle.maps.specs.Ionosphere.{layers_there, layers_if, layers_at_of}
+use Rattle.maps.specs.Ionosphere.{layers_check, layers_at_of}
 use Rattle.maps.proofs.sheet.Checks.{written_is, good_same, layers_index, layers_finite}
+use Rattle.maps.proofs.ionosphere.layer_parameters_at.Goals.{In_ok-layer_tables}
 use Rattle.maps.proofs.ionosphere.layer_parameters_at.Goals as goal
 
+good : (c : In_ok-layer_tables) → layers_check c.args.inputs.month c.args.file.now ≡ Ok tt
+good c = sym c.layer_tables.ensures.answer ∙ c.in_ok-layer_tables.was
+
 pub monthly_of-m-requires : goal.monthly_of-m-requires
-monthly_of-m-requires c =
-    let b = c in
-    let a = b.args in
-    layers_finite a.inputs.month a.file.now (sym b.layer_tables-verdict.ensures.answer ∙ c.in-Accepted.is)
+monthly_of-m-requires c = layers_finite _ _ (good (goal.at.monthly_of-m-requires c).In_ok-layer_tables)
 
-pub layers_there-requires : goal.layers_there-requires
-layers_there-requires c =
-    let b = c in
-    let a = b.args in
-    let file = a.file.now in
-    let e = sym b.layer_tables-verdict.ensures.answer ∙ c.in-Accepted.is in
-    good_same file (layers_index a.inputs.month file e) (written_is (index_of file) _ e b.layer_tables-verdict.ensures.index)
+pub invariant_of-index : goal.invariant_of-index
+invariant_of-index c =
+    let file = c.args.file.now in
+    let e = good (goal.at.invariant_of-index c).In_ok-layer_tables in
+    record { good = good_same file (layers_index _ file e) (written_is (index_of file) _ e c.layer_tables.ensures.index) }
 
-pub returns-in-Accepted : goal.returns-in-Accepted
+pub returns-in_err-layer_tables : goal.returns-in_err-layer_tables
 unfolding layers_at_of
-returns-in-Accepted c =
-    let b = c in
-    let a = b.args in
-    let i = a.inputs in
-    let file = a.file.now in
-    let e = sym b.layer_tables-verdict.ensures.answer ∙ c.in-Accepted.is in
-    let m = c.monthly_of-m.ensures in
-    let index = written_is (index_of file) _ e b.layer_tables-verdict.ensures.index in
-    let hmym = written_is (hmym_of file i.ssn) _ e b.layer_tables-verdict.ensures.hmym in
-    let there = layers_there i (monthly_of file i.month i.ssn) a.ab.now (index_of file) (hmym_of file i.ssn) a.pole a.lat a.lon in
-    let f : LayerParams → LayersAt = λ (l : LayerParams). record { verdict = Accepted; params = l } in
-    ap f c.layers_there.ensures
-    ∙ (λ t. f (layers_there i (m t) a.ab.now (index t) (hmym t) a.pole a.lat a.lon))
-    ∙ sym (ap (λ (v : Verdict). layers_if v there) e)
+returns-in_err-layer_tables c = search rules
 
-pub returns-in-Refused : goal.returns-in-Refused
+pub returns : goal.returns
 unfolding layers_at_of
-returns-in-Refused c =
-    let b = c in
-    let a = b.args in
-    let i = a.inputs in
-    let file = a.file.now in
-    let e = sym b.layer_tables-verdict.ensures.answer ∙ c.in-Refused.is in
-    let there = layers_there i (monthly_of file i.month i.ssn) a.ab.now (index_of file) (hmym_of file i.ssn) a.pole a.lat a.lon in
-    rw c.no_layers.ensures (sym (ap (λ (v : Verdict). layers_if v there) e))
+returns c =
+    let i = c.args.inputs in
+    let file = c.args.file.now in
+    let e = good (goal.at.returns c).In_ok-layer_tables in
+    let index = written_is (index_of file) _ e c.layer_tables.ensures.index in
+    let hmym = written_is (hmym_of file i.ssn) _ e c.layer_tables.ensures.hmym in
+    search rules

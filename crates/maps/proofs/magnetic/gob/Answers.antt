@@ -1,6 +1,6 @@
 -- `gob` is `gob_of`, arm by arm.
-use Rattle.std.proofs.Common.{sym, ap, ◌∙◌}
-use lib.Ieee.{Float, le, round, of_bits}
+use Rattle.std.proofs.Common.{sym, ap, ◌∙◌, Float}
+use lib.Ieee.{le, round, of_bits}
 use Rattle.base.specs.Single.{decimal}
 use Rattle.base.proofs.verdicts.Picks.{cond_true, cond_false}
 use Rattle.maps.specs.Magnetic.{gob_of}

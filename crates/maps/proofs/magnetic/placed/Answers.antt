@@ -6,7 +6,4 @@ use Rattle.maps.proofs.magnetic.placed.Goals as goal
 
 pub returns : goal.returns
 unfolding placed_of HC decimal round of_bits
-returns c =
-    let k = c in
-    let q = k in
-    rw (c.powers-aor.ensures, k.multiples_of-v.ensures, k.sqrt32-s.ensures, q.sin32-c.ensures, q.clamped-q.ensures)
+returns c = rw (c.powers.ensures, c.multiples_of.ensures, c.sqrt32.ensures, c.sin32-c.ensures, c.clamped-q.ensures)

@@ -1,3 +1,4 @@
+-- `words_from`: the line stays within its buffer.
 use Rattle.std.proofs.Common.{◌≤◌, length}
 use Rattle.office.proofs.say.words_from.Given as goal
 

@@ -1,3 +1,4 @@
+-- `read_full`: what is read stays within the buffer, and what is left of it falls.
 use Rattle.std.proofs.Common.{◌-◌, ◌≤◌, length}
 use Rattle.system.proofs.files.read_full.Given as goal
 

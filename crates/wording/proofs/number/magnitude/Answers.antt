@@ -1,12 +1,7 @@
 -- `magnitude` is the pattern of n / d rounded, by the invariants of the two loops (`Widened`,
 -- `Divided`): n / d stays the same number of units, whichever of the two is doubled.
-use mathlib.Core.Path.{◌≡◌, sym, ap, ◌∙◌, subst}
+use Rattle.std.proofs.Common.{◌≡◌, sym, ap, ◌∙◌, subst, cond, ℕ, ◌+◌, ◌*◌, ◌^◌, ◌<◌, add-zero, arith, lit≤}
 use Rattle.wording.proofs.number.magnitude.Goals.{then-rest-by, else-rest-by}
-use mathlib.Core.Bool.{cond}
-use Prim.Native.Nat.{ℕ, ◌+◌, ◌*◌, ◌^◌, ◌<◌}
-use native.Mathlib.Nat.{add-zero}
-use native.Mathlib.Omega.{arith}
-use lib.Dec.{lit≤}
 use lib.Ieee.{binary32, of_bits, round}
 use Rattle.wording.proofs.decimals.Dividing.{same_first, few, early, wider, Divided, divided, more, turn_zero, turn_one, last, fits, pattern, zero_pattern}
 use Rattle.wording.proofs.number.magnitude.Goals.{In-loop-q}

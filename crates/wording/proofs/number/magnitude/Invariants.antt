@@ -1,6 +1,6 @@
 -- `magnitude` is the pattern of n / d rounded, by the invariants of the two loops (`Widened`,
 -- `Divided`): n / d stays the same number of units, whichever of the two is doubled.
-use Prim.Native.Nat.{◌-◌}
+use Rattle.std.proofs.Common.{◌-◌}
 use Rattle.wording.proofs.decimals.Dividing.{Widened, Divided}
 use Rattle.wording.proofs.number.magnitude.Given as goal
 

@@ -1,26 +1,13 @@
--- `comment_at` finds what `uncommented` keeps. The loop's invariant: that is the bytes read and what
--- is kept of those that follow.
-use mathlib.Core.Path.{refl, sym, ◌∙◌}
-use borrow.Author.Rules.{rules}
-use Rattle.wording.proofs.words.Splits.{comment_starts, comment_later, no_comment}
+-- `comment_at` finds what `uncommented` keeps: what stands before the first '#'.
+use Rattle.std.proofs.Common.{ap, ◌∙◌, take, rules, tests}
+use Rattle.std.proofs.lemmas.Iterator.{YieldsList-from_slice}
+use Rattle.std.proofs.lemmas.Iterator.Search.{position_from_yields_List}
+use Rattle.wording.proofs.words.Splits.{is_mark, comment_begins}
 use Rattle.wording.proofs.token.comment_at.Goals as goal
 
-pub loop-i-init : goal.loop-i-init
-loop-i-init c = (search rules, refl)
-
-pub returns-then-line-i-eq35 : goal.returns-then-line-i-eq35
-returns-then-line-i-eq35 c =
-    let b = c in
-    let l = b.loop-i in record { within = search rules; before = sym (l.invariant.1 ∙ comment_starts b.args.line.now l.i b.loop-i-test.true c.if-line-i-eq35.true) }
-
-pub loop-i-preserved : goal.loop-i-preserved
-loop-i-preserved c =
-    let b = c in
-    let l = b.loop-i in (
-      search rules,
-      l.invariant.1 ∙ comment_later b.args.line.now l.i b.loop-i-test.true c.if-line-i-eq35.false,
-    )
-
-pub returns : goal.returns
-returns c =
-    let l = c.loop-i in record { within = search rules; before = sym (l.invariant.1 ∙ no_comment c.args.line.now l.i c.loop-i-test.false) }
+pub returns-clause-before : goal.returns-clause-before
+returns-clause-before c =
+    let line = c.args.line.now in
+    ap (λ n. take n line) c.unwrap_or.ensures
+    ∙ comment_begins line c.position.result
+    (position_from_yields_List is_mark _ _ c.position.result c.position.ensures.ran (YieldsList-from_slice line cc) (λ x b q k. search (rules, tests)))

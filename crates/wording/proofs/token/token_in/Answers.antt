@@ -1,33 +1,20 @@
--- `token_in` is `token_of`, by what the name is.
-use mathlib.Core.Path.{sym, ap, ◌∙◌}
-use Rattle.wording.specs.declared.token.Token.{Token}
-use Rattle.wording.specs.Token.{number_or, name_or, token_of}
+-- `token_in` is `token_of`: a name, else a number, else neither.
+use Rattle.std.proofs.Common.{ap, ◌∙◌, sym}
+use Rattle.wording.specs.Token.{token_of, name_or, number_or}
 use Rattle.wording.proofs.token.token_in.Goals as goal
 
-pub returns-in-Other : goal.returns-in-Other
+pub returns-in-Some : goal.returns-in-Some
 unfolding token_of
-returns-in-Other c =
-    let b = c in
-    let n = b in
-    let w = n.args.word.now in
-    c.number_or.ensures
-    ∙ ap number_or c.number_in.ensures
-    ∙ sym (ap (λ (t : Token). name_or t w) (sym n.name_in-name.ensures ∙ b.in-Other.is))
+returns-in-Some c = ap (λ o. name_or o c.args.word.now) (sym c.in-Some.is ∙ c.word_in.ensures)
 
-pub returns-in-Word : goal.returns-in-Word
+pub returns-in-Some-number_in : goal.returns-in-Some-number_in
 unfolding token_of
-returns-in-Word c =
-    let n = c in
-    sym (ap (λ (t : Token). name_or t n.args.word.now) (sym n.name_in-name.ensures ∙ c.in-Word.is))
+returns-in-Some-number_in c =
+    ap number_or (sym c.in-Some-number_in.is ∙ c.number_in.ensures)
+    ∙ ap (λ o. name_or o c.args.word.now) (sym c.in_default.is ∙ c.word_in.ensures)
 
-pub returns-in-Number : goal.returns-in-Number
+pub returns-in-None : goal.returns-in-None
 unfolding token_of
-returns-in-Number c =
-    let n = c in
-    sym (ap (λ (t : Token). name_or t n.args.word.now) (sym n.name_in-name.ensures ∙ c.in-Number.is))
-
-pub returns-in-End : goal.returns-in-End
-unfolding token_of
-returns-in-End c =
-    let n = c in
-    sym (ap (λ (t : Token). name_or t n.args.word.now) (sym n.name_in-name.ensures ∙ c.in-End.is))
+returns-in-None c =
+    ap number_or (sym c.in-None.is ∙ c.number_in.ensures)
+    ∙ ap (λ o. name_or o c.args.word.now) (sym c.in_default.is ∙ c.word_in.ensures)

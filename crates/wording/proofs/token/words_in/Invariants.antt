@@ -1,12 +1,7 @@
--- `words_in` puts word after word. The loop's invariant: the words so far and those to come are all
--- words.
-use Prim.Native.Nat.{◌-◌}
-use lib.ListN.{length}
-use Rattle.wording.proofs.words.Splits.{filled, Read}
+-- `words_in` puts the words into the first places, those that the loop has taken so far (`put`).
+use Rattle.std.proofs.Common.{◌≡◌, length}
+use Rattle.wording.proofs.words.Splits.{put, first}
 use Rattle.wording.proofs.token.words_in.Given as goal
 
-abbrev pub invariant-loop-at : goal.invariant-loop-at
-invariant-loop-at l = Read l.line (filled l.slots l.n) l.at
-
-abbrev pub decreases-loop-at : goal.decreases-loop-at
-decreases-loop-at l = length l.line - l.at
+abbrev pub invariant-loop-n : goal.invariant-loop-n
+invariant-loop-n l = l.tokens ≡ put (first l.line) (length l.yielded)

@@ -1,5 +1,5 @@
 -- `call_written` is `call_written`, by the case that the call is.
-use mathlib.Core.Path.{sym, ap, ◌∙◌}
+use Rattle.std.proofs.Common.{sym, ap, ◌∙◌}
 use Rattle.wording.specs.Written.{call_written}
 use Rattle.worksheet.specs.declared.journal.Call.TheVariants as call
 use Rattle.wording.proofs.written.call_written.Goals as goal

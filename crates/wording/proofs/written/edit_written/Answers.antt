@@ -1,5 +1,5 @@
 -- `edit_written` is `edit_written`, by the case that the edit is.
-use mathlib.Core.Path.{sym, ap, ◌∙◌}
+use Rattle.std.proofs.Common.{sym, ap, ◌∙◌}
 use Rattle.wording.specs.Written.{edit_written}
 use Rattle.worksheet.specs.declared.inputs.Edit.TheVariants as edit
 use Rattle.wording.proofs.written.edit_written.Goals as goal

@@ -1,5 +1,5 @@
 -- `fresh_sheet` is `fresh_sheet`, field by field.
-use mathlib.Core.Path.{refl}
+use Rattle.std.proofs.Common.{refl}
 use Rattle.worksheet.specs.Desks.{fresh_sheet}
 use Rattle.worksheet.proofs.desks.fresh_sheet.Goals as goal
 

@@ -1,5 +1,5 @@
 -- `opened` is `opened_of`: the inputs of the words, opened, by what `inputs_in` and `open` ensure.
-use mathlib.Core.Path.{ap, ◌∙◌}
+use Rattle.std.proofs.Common.{ap, ◌∙◌}
 use Rattle.worksheet.specs.Desks.{open_of, opened_of}
 use Rattle.worksheet.proofs.desks.opened.Goals as goal
 

@@ -1,5 +1,5 @@
 -- `sheet_opened` is `sheet_opened_of`: the inputs of the words, opened, by what its calls ensure.
-use mathlib.Core.Path.{ap, ◌∙◌}
+use Rattle.std.proofs.Common.{ap, ◌∙◌}
 use Rattle.worksheet.specs.Desks.{open_of, sheet_opened_of}
 use Rattle.worksheet.proofs.desks.sheet_opened.Goals as goal
 

@@ -1,5 +1,5 @@
 -- `make` is the `step` of its call, answer and buffer, by the call's six cases.
-use mathlib.Core.Path.{refl, ap, ◌∙◌}
+use Rattle.std.proofs.Common.{refl, ap, ◌∙◌}
 use Rattle.worksheet.specs.declared.desks.Outcome.{Outcome}
 use Rattle.worksheet.specs.Journal.{step_of, step}
 use Rattle.worksheet.specs.Calls.{next_of}

@@ -1,21 +1,29 @@
--- `drawn` answers `drawn_of` and leaves `drawn_buffer`, by the buffer's length, and then by what the
--- figures answered.
-use borrow.Author.Rules.{rules}
-use mathlib.Core.Path.{sym, ◌∙◌}
-use Rattle.worksheet.proofs.checks.Showings.{drawn_unfit, drawn_points, drawn_refused}
+-- `drawn`: each way out, by its definition.
+use Rattle.std.proofs.Common.{rules}
+use Rattle.worksheet.specs.Showing.{drawn_of, drawn_buffer, drawn_check, buffer_check}
+use Rattle.maps.specs.Figures.{shown_of, figures_buffer}
 use Rattle.worksheet.proofs.showing.drawn.Goals as goal
 
-pub returns-then-out-ne-FIGURES : goal.returns-then-out-ne-FIGURES
-returns-then-out-ne-FIGURES c = drawn_unfit _ _ _ c.if-out-ne-FIGURES.true
+pub returns-then-out-ne-FIGURES-clause-answer : goal.returns-then-out-ne-FIGURES-clause-answer
+unfolding drawn_of drawn_buffer drawn_check buffer_check shown_of figures_buffer
+returns-then-out-ne-FIGURES-clause-answer c = search rules
 
-pub returns-in-Points : goal.returns-in-Points
-returns-in-Points c =
-    let f = c.figures-shown in
-    let is = c.in-Points.is in
-    let fits = c.if-out-ne-FIGURES.false in
-    drawn_points _ _ _ _ _ _ fits (sym is ∙ f.ensures.answer) f.ensures.buffer c.put.ensures
+pub returns-then-out-ne-FIGURES-clause-buffer : goal.returns-then-out-ne-FIGURES-clause-buffer
+unfolding drawn_of drawn_buffer drawn_check buffer_check shown_of figures_buffer
+returns-then-out-ne-FIGURES-clause-buffer c = search rules
 
-pub returns-in-Refused : goal.returns-in-Refused
-returns-in-Refused c =
-    drawn_refused _ _ _ _ _ c.if-out-ne-FIGURES.false
-    (sym c.in-Refused.is ∙ c.figures-shown.ensures.answer)
+pub returns-in_err-count-clause-answer : goal.returns-in_err-count-clause-answer
+unfolding drawn_of drawn_buffer drawn_check buffer_check shown_of figures_buffer
+returns-in_err-count-clause-answer c = search rules
+
+pub returns-in_err-count-clause-buffer : goal.returns-in_err-count-clause-buffer
+unfolding drawn_of drawn_buffer drawn_check buffer_check shown_of figures_buffer
+returns-in_err-count-clause-buffer c = search rules
+
+pub returns-clause-answer : goal.returns-clause-answer
+unfolding drawn_of drawn_buffer drawn_check buffer_check shown_of figures_buffer
+returns-clause-answer c = search rules
+
+pub returns-clause-buffer : goal.returns-clause-buffer
+unfolding drawn_of drawn_buffer drawn_check buffer_check shown_of figures_buffer
+returns-clause-buffer c = search rules

@@ -1,26 +1,36 @@
--- `drawn_year` answers `drawn_of` and leaves `drawn_buffer` over the year's own parts: by the buffer's
--- length, by what the year file and the model's part refuse, and then as `drawn` over the two parts.
-use mathlib.Core.Path.{sym, ap₂, ◌∙◌}
-use Rattle.base.specs.Refusal.{◌then◌}
-use Rattle.worksheet.proofs.checks.Showings.{drawn_unfit, year_drawn, year_withheld}
+-- `drawn_year`: each way out, by its definition.
+use Rattle.std.proofs.Common.{rules}
+use Rattle.worksheet.specs.Showing.{drawn_of, drawn_buffer, buffer_check, drawn_check, year_files}
 use Rattle.worksheet.proofs.showing.drawn_year.Goals as goal
 
-pub returns-then-out-ne-FIGURES : goal.returns-then-out-ne-FIGURES
-returns-then-out-ne-FIGURES c = drawn_unfit _ _ _ c.if-out-ne-FIGURES.true
+pub returns-then-out-ne-FIGURES-clause-answer : goal.returns-then-out-ne-FIGURES-clause-answer
+unfolding drawn_of drawn_buffer drawn_check buffer_check
+returns-then-out-ne-FIGURES-clause-answer c = search rules
 
-pub returns-in-Accepted : goal.returns-in-Accepted
-returns-in-Accepted c =
-    let r = c in
-    let v = r in
-    let a = v.args in
-    let check = sym (v.then-check.ensures ∙ ap₂ ◌then◌ v.year_check.ensures v.month_record_check.ensures) ∙ r.in-Accepted.is in
-    let d = c.drawn.ensures in
-    year_drawn a.year.now a.i v.year_model-daw.ensures.bytes _ check r.month_record-record.ensures.bytes
-    c.year_month-file.ensures.bytes d.answer d.buffer
+pub returns-then-out-ne-FIGURES-clause-buffer : goal.returns-then-out-ne-FIGURES-clause-buffer
+unfolding drawn_of drawn_buffer drawn_check buffer_check
+returns-then-out-ne-FIGURES-clause-buffer c = search rules
 
-pub returns-in-Refused : goal.returns-in-Refused
-returns-in-Refused c =
-    let v = c in
-    let a = v.args in
-    let check = sym (v.then-check.ensures ∙ ap₂ ◌then◌ v.year_check.ensures v.month_record_check.ensures) ∙ c.in-Refused.is in
-    year_withheld a.year.now a.i v.year_model-daw.ensures.bytes _ _ v.if-out-ne-FIGURES.false check
+pub returns-in_err-year_check-clause-answer : goal.returns-in_err-year_check-clause-answer
+unfolding drawn_of drawn_buffer drawn_check buffer_check year_files
+returns-in_err-year_check-clause-answer c = search rules
+
+pub returns-in_err-year_check-clause-buffer : goal.returns-in_err-year_check-clause-buffer
+unfolding drawn_of drawn_buffer drawn_check buffer_check year_files
+returns-in_err-year_check-clause-buffer c = search rules
+
+pub returns-clause-answer : goal.returns-clause-answer
+unfolding drawn_of drawn_buffer drawn_check buffer_check year_files
+returns-clause-answer c = search rules
+
+pub returns-clause-buffer : goal.returns-clause-buffer
+unfolding drawn_of drawn_buffer drawn_check buffer_check year_files
+returns-clause-buffer c = search rules
+
+pub returns-in_err-month_record_check-clause-answer : goal.returns-in_err-month_record_check-clause-answer
+unfolding drawn_of drawn_buffer drawn_check buffer_check year_files
+returns-in_err-month_record_check-clause-answer c = search rules
+
+pub returns-in_err-month_record_check-clause-buffer : goal.returns-in_err-month_record_check-clause-buffer
+unfolding drawn_of drawn_buffer drawn_check buffer_check year_files
+returns-in_err-month_record_check-clause-buffer c = search rules

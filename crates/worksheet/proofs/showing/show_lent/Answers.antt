@@ -1,5 +1,5 @@
 -- `show_lent` is the showing over the source that `lent_as` makes of what is lent, by its two cases.
-use mathlib.Core.Path.{sym, ap, ◌∙◌}
+use Rattle.std.proofs.Common.{sym, ap, ◌∙◌}
 use Rattle.worksheet.specs.declared.showing.Lent.{Lent}
 use Rattle.worksheet.specs.Showing.{lent_as, show_of, show_buffer}
 use Rattle.worksheet.proofs.showing.show_lent.Goals as goal

@@ -1,15 +1,10 @@
--- `number_at` is `float_at`: a word that is finite tells its number.
-use Rattle.std.proofs.Common.{sym, ap, ◌∙◌}
-use Rattle.base.proofs.layout.FirstWords.{number_in, told_number, told_always}
+-- A word that is finite is there.
+use Rattle.std.proofs.Common.{◌∙◌, rules}
+use Rattle.base.proofs.layout.FirstWords.{told_number}
 use Rattle.maps.proofs.ionosphere.layers.number_at.Goals as goal
 
-pub returns-in-Finite : goal.returns-in-Finite
-unfolding number_in
-returns-in-Finite c =
-    let b = c in
-    sym (ap number_in c.in-Finite.is) ∙ ap number_in b.table_word-w.ensures ∙ told_number _ _ b.requires
+pub unwrap-requires : goal.unwrap-requires
+unwrap-requires c = let e = c.table_word.ensures ∙ told_number _ _ c.requires in search rules
 
-pub returns-in-NotFinite : goal.returns-in-NotFinite
-returns-in-NotFinite c =
-    let b = c in
-    told_always _ _ b.requires (sym c.in-NotFinite.is ∙ b.table_word-w.ensures)
+pub returns : goal.returns
+returns c = let e = c.table_word.ensures ∙ told_number _ _ c.requires in search rules

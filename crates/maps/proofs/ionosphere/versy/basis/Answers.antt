@@ -1,7 +1,7 @@
 -- `basis` fills the array along the ladder. The loop's invariant: what is left to fill from here
 -- gives what `filled_of` gives, and what is left of the ladder climbs.
-use Rattle.std.proofs.Common.{◌≡◌, ℕ, suc, ◌+◌, ◌-◌, ◌*◌, ◌%◌, ◌<◌, ◌≤◌, List, get_or, sym, ap, ◌∙◌, subst, ⊎_elim, arith, eq-eqb, ne_eqb}
-use lib.Ieee.{Float, nan}
+use Rattle.std.proofs.Common.{◌≡◌, ℕ, suc, ◌+◌, ◌-◌, ◌*◌, ◌%◌, ◌<◌, ◌≤◌, List, get_or, sym, ap, ◌∙◌, subst, ⊎_elim, arith, eq-eqb, ne_eqb, Float}
+use lib.Ieee.{nan}
 use Rattle.base.specs.Fill.{fill, tabulate}
 use Rattle.base.specs.Index.{map_word, Climbs}
 use Rattle.base.proofs.lists.Fills.{run_at}
@@ -91,7 +91,7 @@ pub powers-requires : goal.powers-requires
 powers-requires c =
     let a = c.args in
     let pre = c.requires in
-    let good = pre.0 a.k pre.1 in
+    let good = a.index.good a.k pre.0 in
     let e = c.word-below.ensures in
     let l = good.low in
     let h = good.high in
@@ -102,15 +102,15 @@ loop-j-init c =
     let b = c in
     let a = b.args in
     let pre = b.requires in
-    let good = pre.0 a.k pre.1 in
-    begun (map_word a.index.now a.k) a.sx a.waves.now _ _ _ b.word-below.ensures good.high good.climbing pre.2 c.powers.ensures
+    let good = a.index.good a.k pre.0 in
+    begun (map_word a.index.words.now a.k) a.sx a.waves.now _ _ _ b.word-below.ensures good.high good.climbing pre.1 c.powers.ensures
 
 pub rung-requires : goal.rung-requires
 rung-requires c =
     let b = c in
     let l = b.loop-j in
     let a = b.args in
-    let w = map_word a.index.now a.k in
+    let w = map_word a.index.words.now a.k in
     let e = b.word-end.ensures in
     let d = l.invariant.word in
     let r = rising w a.sx a.waves.now l.g l.below l.j l.invariant b.loop-j-test.true (λ q. c.if-end-below.false (e ∙ q ∙ sym d)) in
@@ -121,20 +121,20 @@ loop-j-preserved c =
     let b = c in
     let l = b.loop-j in
     let a = b.args in
-    again (map_word a.index.now a.k) a.sx a.waves.now _ _ _ _ _ l.invariant b.loop-j-test.true b.word-end.ensures c.if-end-below.false c.rung.ensures
+    again (map_word a.index.words.now a.k) a.sx a.waves.now _ _ _ _ _ l.invariant b.loop-j-test.true b.word-end.ensures c.if-end-below.false c.rung.ensures
 
 pub returns-after-loop-j : goal.returns-after-loop-j
 returns-after-loop-j c =
     let a = c.args in
     let pre = c.requires in
-    let good = pre.0 a.k pre.1 in
-    ended (map_word a.index.now a.k) a.sx a.waves.now _ _ _ c.loop-j.invariant c.loop-j-test.false good.high good.climbing
+    let good = a.index.good a.k pre.0 in
+    ended (map_word a.index.words.now a.k) a.sx a.waves.now _ _ _ c.loop-j.invariant c.loop-j-test.false good.high good.climbing
 
 pub returns-then-end-below : goal.returns-then-end-below
 returns-then-end-below c =
     let b = c in
     let a = b.args in
     let pre = b.requires in
-    let good = pre.0 a.k pre.1 in
-    levelled (map_word a.index.now a.k) a.sx a.waves.now _ _ _ b.loop-j.invariant c.loop-j-test.true
+    let good = a.index.good a.k pre.0 in
+    levelled (map_word a.index.words.now a.k) a.sx a.waves.now _ _ _ b.loop-j.invariant c.loop-j-test.true
     (sym c.word-end.ensures ∙ c.if-end-below.true ∙ b.loop-j.invariant.word) good.high good.climbing

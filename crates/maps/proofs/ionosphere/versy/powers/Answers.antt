@@ -1,7 +1,7 @@
 -- `powers` fills in `sx_power`. The loop's invariant: the powers 1 to n - 1 stand in their places,
 -- after 1.0, and the power is the n-th.
-use Rattle.std.proofs.Common.{◌≡◌, ℕ, zero, suc, ◌+◌, ◌-◌, ◌<◌, ◌≤◌, List, set, sym, refl, ap, ◌∙◌, add-one, arith, rules}
-use lib.Ieee.{Float, round, of_bits}
+use Rattle.std.proofs.Common.{◌≡◌, ℕ, zero, suc, ◌+◌, ◌-◌, ◌<◌, ◌≤◌, List, set, sym, refl, ap, ◌∙◌, add-one, arith, rules, Float}
+use lib.Ieee.{round, of_bits}
 use Rattle.base.specs.Double.{◌⊗◌, fraction}
 use Rattle.base.specs.Fill.{fill}
 use Rattle.maps.specs.Versy.{sx_power}
@@ -15,7 +15,7 @@ power_next sx zero h = absurd (omega arith)
 power_next sx (suc n) h = sym (ap (sx_power sx) (add-one (suc n)))
 
 again :
-    (sx : Float) (k : ℕ) (g₀ g : List Float) (power : Float) (n : ℕ) → Raised sx k g₀ g power n → n ≤ k →
+    (sx : Float) (k : ℕ) (g₀ g : List Float) (power : Float) (n : ℕ) → Raised sx k g₀ g power n → n < k + 1 →
     Raised sx k g₀ (set g n power) (sx ⊗ power) (n + 1)
 again sx k g₀ g power n v h =
     let l = v.first in
@@ -31,7 +31,7 @@ again sx k g₀ g power n v h =
     }
 
 -- with the first of them, 1.0
-all : (sx : Float) (k : ℕ) (g g₁ : List Float) (power : Float) (n : ℕ) → Raised sx k (set g 0 (fraction 1 1)) g₁ power n → k < n → g₁ ≡ fill (sx_power sx) 0 g (k + 1)
+all : (sx : Float) (k : ℕ) (g g₁ : List Float) (power : Float) (n : ℕ) → Raised sx k (set g 0 (fraction 1 1)) g₁ power n → k + 1 ≤ n → g₁ ≡ fill (sx_power sx) 0 g (k + 1)
 unfolding fill sx_power
 all sx k g g₁ power n v h =
     let l = v.turns in

@@ -1,7 +1,6 @@
 -- `powers` fills in `sx_power`. The loop's invariant: the powers 1 to n - 1 stand in their places,
 -- after 1.0, and the power is the n-th.
-use Rattle.std.proofs.Common.{◌≡◌, ℕ, ◌+◌, ◌-◌, ◌≤◌, List}
-use lib.Ieee.{Float}
+use Rattle.std.proofs.Common.{◌≡◌, ℕ, ◌+◌, ◌-◌, ◌≤◌, List, Float}
 use Rattle.base.specs.Fill.{fill}
 use Rattle.maps.specs.Versy.{sx_power}
 use Rattle.maps.proofs.ionosphere.versy.powers.Given as goal
@@ -14,6 +13,3 @@ pub record Raised (sx : Float) (k : ℕ) (g₀ g : List Float) (power : Float) (
 
 abbrev pub invariant-loop-n : goal.invariant-loop-n
 invariant-loop-n l = Raised l.sx l.k l.initial.g l.g l.power l.n
-
-abbrev pub decreases-loop-n : goal.decreases-loop-n
-decreases-loop-n l = l.k + 1 - l.n

@@ -1,7 +1,6 @@
 -- `rung` fills in `rung_of`. The loop's invariant: the places before k are filled, an even number of
 -- them, and the cosine and the sine are the next two.
-use Rattle.std.proofs.Common.{◌≡◌, ℕ, suc, ◌+◌, ◌-◌, ◌/◌, ◌%◌, ◌<◌, ◌≤◌, List, set, sym, ap, ◌∙◌, arith, eq-eqb, ne_eqb}
-use lib.Ieee.{Float}
+use Rattle.std.proofs.Common.{◌≡◌, ℕ, suc, ◌+◌, ◌-◌, ◌/◌, ◌%◌, ◌<◌, ◌≤◌, List, set, sym, ap, ◌∙◌, arith, eq-eqb, ne_eqb, Float}
 use Rattle.base.specs.Double.{◌⊗◌}
 use Rattle.base.specs.Fill.{fill}
 use Rattle.base.proofs.verdicts.Picks.{cond_true, cond_false}

@@ -1,7 +1,6 @@
 -- `rung` fills in `rung_of`. The loop's invariant: the places before k are filled, an even number of
 -- them, and the cosine and the sine are the next two.
-use Rattle.std.proofs.Common.{◌≡◌, ℕ, ◌+◌, ◌-◌, ◌/◌, ◌%◌, ◌≤◌, List}
-use lib.Ieee.{Float}
+use Rattle.std.proofs.Common.{◌≡◌, ℕ, ◌+◌, ◌-◌, ◌/◌, ◌%◌, ◌≤◌, List, Float}
 use Rattle.base.specs.Fill.{fill}
 use Rattle.maps.specs.Versy.{raised, rung_of}
 use Rattle.maps.proofs.ionosphere.versy.rung.Given as goal

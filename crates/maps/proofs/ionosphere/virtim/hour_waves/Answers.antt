@@ -1,7 +1,7 @@
 -- `hour_waves` is `hour_waves`. The loop's invariant: each array is filled with the waves up to jb,
 -- and the cosine and the sine are the wave jb.
-use Rattle.std.proofs.Common.{◌≡◌, ℕ, ◌+◌, ◌<◌, ◌≤◌, List, length, set, sym, refl, ap, ◌∙◌, add-one, arith, rules}
-use lib.Ieee.{Float, round, of_bits}
+use Rattle.std.proofs.Common.{◌≡◌, ℕ, ◌+◌, ◌<◌, ◌≤◌, List, length, set, sym, refl, ap, ◌∙◌, add-one, arith, rules, Float}
+use lib.Ieee.{round, of_bits}
 use Rattle.base.specs.declared.angle.Radians.{Radians}
 use Rattle.base.specs.Single.{◌⊕◌, ◌⊖◌, ◌⊗◌, decimal}
 use Rattle.base.specs.Fill.{fill}

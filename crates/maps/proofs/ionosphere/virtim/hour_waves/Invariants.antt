@@ -1,7 +1,6 @@
 -- `hour_waves` is `hour_waves`. The loop's invariant: each array is filled with the waves up to jb,
 -- and the cosine and the sine are the wave jb.
-use Rattle.std.proofs.Common.{◌≡◌, ℕ, ◌-◌, ◌≤◌, List}
-use lib.Ieee.{Float}
+use Rattle.std.proofs.Common.{◌≡◌, ℕ, ◌≤◌, List, Float}
 use Rattle.base.specs.Fill.{fill}
 use Rattle.maps.specs.Virtim.{wave_of}
 use Rattle.maps.proofs.ionosphere.virtim.hour_waves.Given as goal
@@ -15,6 +14,3 @@ pub record Made (c0 s0 : Float) (c₀ s₀ c s : List Float) (cosine sine : Floa
 
 abbrev pub invariant-loop-jb : goal.invariant-loop-jb
 invariant-loop-jb l = Made l.c0 l.s0 l.initial.c l.initial.s l.c l.s l.cosine l.sine l.jb
-
-abbrev pub decreases-loop-jb : goal.decreases-loop-jb
-decreases-loop-jb l = 8 - l.jb

@@ -1,7 +1,7 @@
 -- `two_values` gives two `value_of`. The loop's invariant: each value is that of the first ka
 -- harmonics.
-use Rattle.std.proofs.Common.{◌≡◌, ℕ, ◌+◌, ◌*◌, List, get_or, sym, refl, ap, add-one, arith, rules}
-use lib.Ieee.{Float, nan}
+use Rattle.std.proofs.Common.{◌≡◌, ℕ, ◌+◌, ◌*◌, List, get_or, sym, refl, ap, add-one, arith, rules, Float}
+use lib.Ieee.{nan}
 use Rattle.base.specs.Single.{◌⊕◌, ◌⊗◌}
 use Rattle.maps.specs.Virtim.{wave_in, value_of}
 use Rattle.maps.proofs.ionosphere.virtim.two_values.Goals as goal

@@ -1,8 +1,8 @@
 -- `virtim` is `virtim_of`. The loop's invariant: AB is what the loop of the definition has at k, and
 -- the table that is lent keeps its rule, which is computed here over all of its entries. The arrays
 -- of cosines and sines hold the waves that the definition takes, as far as a map's harmonics go.
-use Rattle.std.proofs.Common.{◌≡◌, ℕ, zero, suc, ◌+◌, ◌-◌, ◌*◌, ◌<◌, List, get_or, refl, ap, ◌∙◌, arith, rules}
-use lib.Ieee.{Float, nan, round, of_bits}
+use Rattle.std.proofs.Common.{◌≡◌, ℕ, zero, suc, ◌+◌, ◌-◌, ◌*◌, ◌<◌, List, get_or, refl, ap, ◌∙◌, arith, rules, Float}
+use lib.Ieee.{nan, round, of_bits}
 use Rattle.base.specs.Single.{◌⊕◌, ◌⊗◌, decimal}
 use Rattle.base.specs.Fill.{fill}
 use Rattle.base.specs.Index.{map_word}
@@ -49,12 +49,12 @@ loop-k-preserved c =
     let k = c in
     let w = k in
     let s = w in
-    let f = time_map_of (hour_wave s.args.gmt) s.args.cof.now s.args.index.now in (
+    let f = time_map_of (hour_wave s.args.gmt) s.args.cof.now s.args.index.words.now in (
       search rules,
       loop_turn 0 f _ k.loop-k.k (omega arith) k.loop-k.invariant.1
           (c.time_map.ensures
-          ∙ map_same s.args.cof.now s.args.index.now s.args.gmt w.hour_waves-w.result k.loop-k.k _ s.requires
-          c.loop-k-test.true w.hour_waves-w.ensures),
+          ∙ map_same s.args.cof.now s.args.index.words.now s.args.gmt w.hour_waves.result k.loop-k.k _ s.args.index.good
+          c.loop-k-test.true w.hour_waves.ensures),
     )
 
 pub returns : goal.returns
@@ -63,4 +63,4 @@ returns c = let e : c.loop-k.k ≡ 6 = omega arith in rw e at c.loop-k.invariant
 
 pub time_map-requires : goal.time_map-requires
 time_map-requires c = let k = c in
-    (k.requires, carried _ tt, k.loop-k-test.true)
+    (carried _ tt, k.loop-k-test.true)

@@ -1,0 +1,12 @@
+-- `model_name` is the name of the model, by its number.
+use Rattle.std.proofs.Common.{refl, arith, ne_eqb}
+use Rattle.listing.proofs.survey.model_name.Goals as goal
+
+pub returns-in-0 : goal.returns-in-0
+returns-in-0 c = rw c.in-0.is refl
+
+pub returns-in-1 : goal.returns-in-1
+returns-in-1 c = rw c.in-1.is refl
+
+pub returns-in_default : goal.returns-in_default
+returns-in_default c = simp (ne_eqb c.args.model 0 (λ e. omega arith), ne_eqb c.args.model 1 (λ e. omega arith)) refl

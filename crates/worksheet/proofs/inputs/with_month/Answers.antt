@@ -1,8 +1,0 @@
--- `with_month` is `edited` for a change of the month, field by field.
-use mathlib.Core.Path.{refl}
-use Rattle.worksheet.specs.Inputs.{edited}
-use Rattle.worksheet.proofs.inputs.with_month.Goals as goal
-
-pub returns : goal.returns
-unfolding edited
-returns c = refl

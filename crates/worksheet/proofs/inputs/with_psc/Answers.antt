@@ -1,8 +1,0 @@
--- `with_psc` is `edited` for a change of the factors, field by field.
-use mathlib.Core.Path.{refl}
-use Rattle.worksheet.specs.Inputs.{edited}
-use Rattle.worksheet.proofs.inputs.with_psc.Goals as goal
-
-pub returns : goal.returns
-unfolding edited
-returns c = refl
