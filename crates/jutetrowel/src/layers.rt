@@ -13,11 +13,10 @@ ghost use Rattle.jutetrowel.specs.Layers.{layer_inputs, measured_of, layers_as};
 use crate::answers::Answer;
 use crate::fields::{factors, pole};
 use base::angle::{Degrees, Radians};
-use base::refusal::Refusal;
+use base::refusal::Report;
 use maps::geometry::PathGeometry;
-use maps::ionosphere::LayerInputs;
-use maps::ionosphere::layers::LayerParams;
 use maps::ionosphere::virtim::TimeMaps;
+use maps::ionosphere::{LayerInputs, LayersAt};
 use maps::{geometry, ionosphere};
 
 // The lengths and bearings of a path, radians but for the names that say otherwise, and its points.
@@ -109,47 +108,32 @@ pub fn jt_hour_maps(f2: &[u8], file: &[u8], ssn: f32, gmt: f32, ab: &mut TimeMap
     Answer::from(ionosphere::hour_maps(f2, file, ssn, gmt, ab))
 }
 
-// The layers as C has them, or the refusal beside zeros.
-impl From<Result<LayerParams, Refusal>> for Layers {
-    fn from(layers: Result<LayerParams, Refusal>) -> Layers
-        ensures { result ≡ layers_as layers }
+// The layers as C has them, beside the verdict's number and place.
+impl From<LayersAt> for Layers {
+    #[tactic(auto, unfolding(crate::specs::Layers::layers_as))]
+    fn from(l: LayersAt) -> Layers
+        ensures { result ≡ layers_as l }
     {
-        match layers {
-            Ok(p) => {
-                // Each array goes through a name. Tried without, and by a pattern: the borrow checker
-                // has no proof yet of an array's field that goes into a literal.
-                let fi = p.fi;
-                let yi = p.yi;
-                let hi = p.hi;
-                Layers {
-                    number: 0,
-                    place: 0,
-                    fi,
-                    yi,
-                    hi,
-                    f2m3: p.f2m3,
-                    hpf2: p.hpf2,
-                    rat: p.rat,
-                    abiy: p.abiy,
-                    clck: p.clck,
-                    zenang: p.zenang.0,
-                    zenmax: p.zenmax.0,
-                }
-            }
-            Err(why) => Layers {
-                number: why.number(),
-                place: why.place(),
-                fi: [0.0; 3],
-                yi: [0.0; 3],
-                hi: [0.0; 3],
-                f2m3: 0.0,
-                hpf2: 0.0,
-                rat: 0.0,
-                abiy: 0.0,
-                clck: 0.0,
-                zenang: 0.0,
-                zenmax: 0.0,
-            },
+        let Report(number, place) = Report::from(l.verdict);
+        let p = l.params;
+        // Each array goes through a name. Tried without, and by a pattern: the borrow checker has no
+        // proof yet of an array's field that goes into a literal.
+        let fi = p.fi;
+        let yi = p.yi;
+        let hi = p.hi;
+        Layers {
+            number,
+            place,
+            fi,
+            yi,
+            hi,
+            f2m3: p.f2m3,
+            hpf2: p.hpf2,
+            rat: p.rat,
+            abiy: p.abiy,
+            clck: p.clck,
+            zenang: p.zenang.0,
+            zenmax: p.zenmax.0,
         }
     }
 }

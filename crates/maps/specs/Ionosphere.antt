@@ -1,10 +1,9 @@
 -- The ionosphere over lent files: the maps at an hour, and `layer_parameters_at`. Assumes nothing.
-use Rattle.std.specs.Prelude.{ℕ, List, Result, Ok, Err, Float}
+use Rattle.std.specs.Prelude.{ℕ, List, [], ◌∷◌, Float}
 use Rattle.base.specs.declared.angle.Radians.{Radians}
 use Rattle.maps.specs.declared.inputs.MagneticPole.{MagneticPole}
-use Rattle.base.specs.declared.refusal.Refusal.{Refusal}
 use Rattle.base.specs.Refusal.{Verdict}
-use Rattle.base.specs.Refusal.{◌then◌, unless_refused}
+use Rattle.base.specs.Refusal.{◌then◌, written_over}
 use Rattle.base.specs.Single.{decimal}
 use Rattle.base.specs.Elementary.{cos32_of}
 use Rattle.base.specs.Ranges.{month_check}
@@ -14,6 +13,7 @@ use Rattle.base.specs.Files.{file_check}
 use Rattle.maps.specs.declared.geometry.ControlPoint.{ControlPoint}
 use Rattle.maps.specs.declared.magnetic.MagneticVars.{MagneticVars}
 use Rattle.maps.specs.declared.ionosphere.LayerInputs.{LayerInputs}
+use Rattle.maps.specs.declared.ionosphere.LayersAt.{LayersAt}
 use Rattle.maps.specs.declared.ionosphere.versy.Gammas.{Gammas}
 use Rattle.maps.specs.declared.ionosphere.layers.LayerParams.{LayerParams}
 use Rattle.maps.specs.declared.ionosphere.layers.Monthly.{Monthly}
@@ -50,9 +50,27 @@ layers_there i m ab index hmym pole lat lon =
     let mag = magvar_of lat lon in
     layers_of m i.ssn i.gmt i.psc hmym (point_at pole lat lon) mag (gammas_at ab index lat lon mag)
 
-unfoldable pub layers_at_of :
-    LayerInputs → List Float → List ℕ → MagneticPole → Radians → Radians → Result LayerParams Refusal
+-- +0.0 in every field, beside a refusal
+unfoldable pub no_layers : LayerParams
+no_layers =
+    let o = decimal 0 1 in
+    record {
+      fi = o ∷ o ∷ o ∷ [];
+      yi = o ∷ o ∷ o ∷ [];
+      hi = o ∷ o ∷ o ∷ [];
+      f2m3 = o;
+      hpf2 = o;
+      rat = o;
+      abiy = o;
+      clck = o;
+      zenang = record { 0 = o };
+      zenmax = record { 0 = o };
+    }
+
+abbrev pub layers_if : Verdict → LayerParams → LayersAt
+layers_if v l = record { verdict = v; params = written_over v l no_layers }
+
+unfoldable pub layers_at_of : LayerInputs → List Float → List ℕ → MagneticPole → Radians → Radians → LayersAt
 layers_at_of i ab file pole lat lon =
-    let m = monthly_of file i.month i.ssn in
-    let l = layers_there i m ab (index_of file) (hmym_of file i.ssn) pole lat lon in
-    unless_refused (layers_check i.month file) (Ok l) Err
+    layers_if (layers_check i.month file)
+    (layers_there i (monthly_of file i.month i.ssn) ab (index_of file) (hmym_of file i.ssn) pole lat lon)

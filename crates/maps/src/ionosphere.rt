@@ -13,19 +13,19 @@ ghost use Rattle.base.specs.Refusal.{written_over};
 ghost use Rattle.base.specs.Index.{index_of};
 ghost use Rattle.base.specs.Blend.{hmym_of};
 ghost use Rattle.base.specs.Files.{file_check, files_check};
-ghost use Rattle.maps.specs.Ionosphere.{hour_maps_of, gammas_at, point_at, layers_check, layers_there, layers_at_of};
+ghost use Rattle.maps.specs.Ionosphere.{hour_maps_of, gammas_at, point_at, layers_check, layers_there, no_layers, layers_at_of};
 
 use crate::geometry::ControlPoint;
 use crate::inputs::{Factors, MagneticPole};
 use crate::magnetic::MagneticVars;
 use crate::{geometry, magnetic};
-use base::angle::Radians;
+use base::angle::{Degrees, Radians};
 use base::blend::{COFION, HeightMap, PLANE};
 use base::elementary::cos32;
 use base::files;
 use base::index::{INDEX, IndexTable};
 use base::ranges::month_check;
-use base::refusal::{Refusal, Verdict};
+use base::refusal::Verdict;
 use index::CheckedIndex;
 use layers::{LayerParams, Monthly};
 use versy::{Gammas, HourMaps};
@@ -63,6 +63,13 @@ pub struct LayerInputs {
     pub ssn: f32,
     pub gmt: f32,
     pub psc: Factors,
+}
+
+// The layers at a place; refused, they are +0.0 in every field.
+#[derive(Clone, Copy)]
+pub struct LayersAt {
+    pub verdict: Verdict,
+    pub params: LayerParams,
 }
 
 // The control point that a place is. Nothing reads its distance.
@@ -127,8 +134,25 @@ fn layers_there(
     layers::layer_parameters(m, inputs.ssn, inputs.gmt, inputs.psc, hmym, pt, mag, g)
 }
 
+fn no_layers() -> LayerParams
+    ensures { result ≡ no_layers }
+{
+    LayerParams {
+        fi: [0.0; 3],
+        yi: [0.0; 3],
+        hi: [0.0; 3],
+        f2m3: 0.0,
+        hpf2: 0.0,
+        rat: 0.0,
+        abiy: 0.0,
+        clck: 0.0,
+        zenang: Degrees(0.0),
+        zenmax: Degrees(0.0),
+    }
+}
+
 // The layer parameters at one place, as at a control point, from the maps at the hour and a month
-// file. Refuses 1, then 9, 10, 23, 11.
+// file. Refused, by 1 and then 9, 10, 23, 11, every parameter is +0.0.
 pub fn layer_parameters_at(
     inputs: LayerInputs,
     ab: &TimeMaps,
@@ -136,14 +160,24 @@ pub fn layer_parameters_at(
     pole: MagneticPole,
     lat: Radians,
     lon: Radians,
-) -> Result<LayerParams, Refusal>
+) -> LayersAt
     ensures { result ≡ layers_at_of inputs ab.now file.now pole lat lon }
 {
     let mut index = [0u32; INDEX];
     let mut hmym = [0.0f32; PLANE];
-    layer_tables(inputs.month, inputs.ssn, file, &mut index, &mut hmym)?;
-    let m = layers::monthly_of(file, inputs.month, inputs.ssn);
-    let index = CheckedIndex { words: &index };
-    let maps = HourMaps::new(ab, index);
-    Ok(layers_there(inputs, m, maps, &hmym, pole, lat, lon))
+    match layer_tables(inputs.month, inputs.ssn, file, &mut index, &mut hmym) {
+        Ok(()) => {
+            let m = layers::monthly_of(file, inputs.month, inputs.ssn);
+            let index = CheckedIndex { words: &index };
+            let maps = HourMaps::new(ab, index);
+            LayersAt {
+                verdict: Ok(()),
+                params: layers_there(inputs, m, maps, &hmym, pole, lat, lon),
+            }
+        }
+        Err(why) => LayersAt {
+            verdict: Err(why),
+            params: no_layers(),
+        },
+    }
 }
