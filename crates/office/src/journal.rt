@@ -54,7 +54,7 @@ impl Ran {
 }
 
 pub(crate) fn is_ended(s: Sitting) -> bool {
-    matches!(s, Sitting::Ended)
+    matches!(s, Sitting::Ended(_))
 }
 
 // The next line, of `size` bytes, is answered, unless it ends the journal.

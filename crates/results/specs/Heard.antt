@@ -30,6 +30,13 @@ use Rattle.auditing.specs.Gathered.{text_lines, Numbered, Told, waiting, sits, e
 abbrev pub line_after : List ℕ → ℕ → List ℕ
 line_after text m = get_or (text_lines text) m []
 
+-- the sitting waits for its open, and it has ended; each on whatever worksheet
+abbrev pub IsWaiting : Sitting → Type 0
+IsWaiting s = (w : Worksheet) × (s ≡ Waiting w)
+
+abbrev pub HasEnded : Sitting → Type 0
+HasEnded s = (w : Worksheet) × (s ≡ Ended w)
+
 -- what is said of line n where it ends a journal, by what the lines before it told and what it reads as:
 -- of a line that is no call the word that does not fit, of an open after the open that there was one, of
 -- a call before the open that there was none, and of an open that is refused its refusal
@@ -90,14 +97,14 @@ module _ (source : Source) where
     pub ending :
         EndingText (suc before) (told_by text before) (line_in (line_after text before)) (line_heard s text before).text
     -- and the sitting has ended
-    pub sitting : (heard_by s text k).sitting ≡ Ended
+    pub sitting : HasEnded (heard_by s text k).sitting
 
 -- ---- what the first k lines of a text leave, heard from the first on
 
 -- While they told nothing, being blank, the sitting is as it was, and nothing is said
 abbrev pub HeardWaiting : Type 0
 HeardWaiting =
-    (source : Source) (s : Sitting) → s ≡ Waiting → (text : List ℕ) (k : ℕ) → told_by text k ≡ waiting →
+    (source : Source) (s : Sitting) → IsWaiting s → (text : List ℕ) (k : ℕ) → told_by text k ≡ waiting →
     let h = heard_by source s text k in
     (h.sitting ≡ s) × (h.text ≡ [])
 
@@ -105,7 +112,7 @@ HeardWaiting =
 -- calls leaves, and what is said is that the open is accepted and the answers of that run
 abbrev pub HeardSits : Type 0
 HeardSits =
-    (source : Source) (s : Sitting) → s ≡ Waiting →
+    (source : Source) (s : Sitting) → IsWaiting s →
     (text : List ℕ) (k : ℕ) (o : WrittenInputs) (at : ℕ) (cs : List Numbered) → told_by text k ≡ sits o at cs →
     HeardRun source o at cs (heard_by source s text k)
 
@@ -114,7 +121,7 @@ HeardSits =
 -- it ended the journal, and nothing of the lines after it; and the sitting has ended
 abbrev pub HeardEnded : Type 0
 HeardEnded =
-    (source : Source) (s : Sitting) → s ≡ Waiting → (text : List ℕ) (k : ℕ) → told_by text k ≡ ended →
+    (source : Source) (s : Sitting) → IsWaiting s → (text : List ℕ) (k : ℕ) → told_by text k ≡ ended →
     EndedAt source s text k
 
 -- ---- the answers

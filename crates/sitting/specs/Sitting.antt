@@ -2,7 +2,7 @@
 use Rattle.std.specs.Prelude.{ℕ, List, [], Err, Ok}
 use Rattle.base.specs.Refusal.{Verdict}
 use Rattle.worksheet.specs.declared.desks.Worksheet.{Worksheet}
-use Rattle.worksheet.specs.Desks.{open_of}
+use Rattle.worksheet.specs.Desks.{open_of, opened_of}
 use Rattle.worksheet.specs.Showing.{Source}
 use Rattle.worksheet.specs.Journal.{step}
 use Rattle.worksheet.specs.Calls.{called}
@@ -24,18 +24,25 @@ pub record Hearing : Type 0 where
   pub sitting : Sitting
   pub text : List ℕ
 
--- before the first line
+-- before the first line: the worksheet is that of no words at all, and nothing is made on it
 unfoldable pub first_sitting : Sitting
-first_sitting = stage.Waiting
+first_sitting = stage.Waiting (opened_of []).sheet
 
--- a line that ends the journal: it is no call, or the open is refused
-abbrev pub ended_with : List ℕ → Hearing
-ended_with text = record { sitting = stage.Ended; text = text }
+-- ---- a line that ends the journal: it is no call, or the open is refused
+
+-- the worksheet stays
+abbrev pub ended_by : Sitting → Sitting
+ended_by (stage.Waiting w) = stage.Ended w
+ended_by (stage.Open w) = stage.Ended w
+ended_by (stage.Ended w) = stage.Ended w
+
+abbrev pub ended_with : Sitting → List ℕ → Hearing
+ended_with s text = record { sitting = ended_by s; text = text }
 
 -- 'a refused one gives no worksheet'
 abbrev pub sitting_after : Verdict → Worksheet → Sitting
 sitting_after (Ok _) w = stage.Open w
-sitting_after (Err why) w = stage.Ended
+sitting_after (Err why) w = stage.Ended w
 
 abbrev pub opened_by : ℕ → WrittenInputs → Hearing
 opened_by n o =
@@ -46,15 +53,15 @@ opened_by n o =
 
 -- a journal has one open, its first call
 abbrev pub hear_open : ℕ → WrittenInputs → Sitting → Hearing
-hear_open n o stage.Waiting = opened_by n o
-hear_open n o (stage.Open w) = ended_with (again_text n)
-hear_open n o stage.Ended = ended_with []
+hear_open n o (stage.Waiting w) = opened_by n o
+hear_open n o (stage.Open w) = ended_with (stage.Open w) (again_text n)
+hear_open n o (stage.Ended w) = ended_with (stage.Ended w) []
 
 -- a line that is no call
 abbrev pub hear_wrong : ℕ → Fault → Sitting → Hearing
-hear_wrong n f stage.Waiting = ended_with (fault_text n f)
-hear_wrong n f (stage.Open w) = ended_with (fault_text n f)
-hear_wrong n f stage.Ended = ended_with []
+hear_wrong n f (stage.Waiting w) = ended_with (stage.Waiting w) (fault_text n f)
+hear_wrong n f (stage.Open w) = ended_with (stage.Open w) (fault_text n f)
+hear_wrong n f (stage.Ended w) = ended_with (stage.Ended w) []
 
 module _ (source : Source) where
   -- on the worksheet that is open
@@ -67,9 +74,9 @@ module _ (source : Source) where
       }
 
   abbrev pub hear_call : ℕ → WrittenCall → Sitting → Hearing
-  hear_call n c stage.Waiting = ended_with (unopened_text n)
+  hear_call n c (stage.Waiting w) = ended_with (stage.Waiting w) (unopened_text n)
   hear_call n c (stage.Open w) = made_by n c w
-  hear_call n c stage.Ended = ended_with []
+  hear_call n c (stage.Ended w) = ended_with (stage.Ended w) []
 
   abbrev pub hear_line : ℕ → Sitting → Line → Hearing
   hear_line n s Blank = record { sitting = s; text = [] }

@@ -9,8 +9,7 @@ ghost use Rattle.worksheet.specs.Journal.{step};
 ghost use Rattle.worksheet.specs.Calls.{called};
 ghost use Rattle.listing.specs.Turn.{blank};
 ghost use Rattle.wording.specs.Written.{call_written};
-ghost use Rattle.sitting.specs.Sitting.{first_sitting, sitting_after, opened_by, hear_open, hear_wrong};
-ghost use Rattle.sitting.specs.declared.Sitting.TheVariants.{Ended};
+ghost use Rattle.sitting.specs.Sitting.{first_sitting, ended_by, sitting_after, opened_by, hear_open, hear_wrong};
 ghost use Rattle.sitting.specs.Sitting.{made_by, hear_call, hearing};
 
 use listing::fault::{again_text, fault_text, unopened_text};
@@ -18,19 +17,20 @@ use listing::spoken::{SPOKEN, opened_text, spoken};
 use maps::figures::FIGURES;
 use wording::line::{Fault, Line, line_in};
 use wording::written::{WrittenCall, WrittenInputs, call_written, inputs_written};
-use worksheet::desks::{Outcome, Worksheet, open};
+use worksheet::desks::{Outcome, Worksheet, open, opened};
 use worksheet::journal::make;
 use worksheet::showing::Lent;
 
 // What the lines so far left.
 #[derive(Clone, Copy)]
 pub enum Sitting {
-    // Nothing is open yet.
-    Waiting,
+    // Nothing is open yet. The worksheet in it is none that anything was opened with.
+    Waiting(Worksheet),
     // The worksheet that is open.
     Open(Worksheet),
-    // Something was no call, or the open was refused: nothing is heard any more.
-    Ended,
+    // Something was no call, or the open was refused: nothing is heard any more. The worksheet is
+    // the last one, or the one that the open was refused with.
+    Ended(Worksheet),
 }
 
 // The sitting after a line, and how many bytes are said of it.
@@ -40,11 +40,11 @@ pub struct Heard {
     pub size: usize,
 }
 
-// A sitting before its first line.
+// A sitting before its first line. The worksheet in it is none that anything was opened with.
 pub fn waiting() -> Sitting
     ensures { result ≡ first_sitting }
 {
-    Sitting::Waiting
+    Sitting::Waiting(opened(b"").sheet)
 }
 
 // What an open leaves: a refused one gives no worksheet.
@@ -53,16 +53,25 @@ fn sitting_after(done: Outcome) -> Sitting
 {
     match done.answer {
         Ok(()) => Sitting::Open(done.sheet),
-        Err(_) => Sitting::Ended,
+        Err(_) => Sitting::Ended(done.sheet),
+    }
+}
+
+// Nothing is heard any more: the worksheet stays.
+fn ended(s: Sitting) -> Sitting
+    ensures { result ≡ ended_by s }
+{
+    match s {
+        Sitting::Waiting(w) | Sitting::Open(w) | Sitting::Ended(w) => Sitting::Ended(w),
     }
 }
 
 // Nothing is heard any more, and this much is said.
-fn ended_with(size: usize) -> Heard
-    ensures { result ≡ record { sitting = Ended; size = size } }
+fn ended_with(s: Sitting, size: usize) -> Heard
+    ensures { result ≡ record { sitting = ended_by s; size = size } }
 {
     Heard {
-        sitting: Sitting::Ended,
+        sitting: ended(s),
         size,
     }
 }
@@ -87,9 +96,9 @@ fn hear_open(s: Sitting, number: u64, o: WrittenInputs, out: &mut [u8; SPOKEN]) 
     ensures count { IsPrefixLen result.size out.new }
 {
     match s {
-        Sitting::Waiting => open_first(number, o, out),
-        Sitting::Open(_) => ended_with(again_text(number, out)),
-        Sitting::Ended => ended_with(0),
+        Sitting::Waiting(_) => open_first(number, o, out),
+        Sitting::Open(_) => ended_with(s, again_text(number, out)),
+        Sitting::Ended(_) => ended_with(s, 0),
     }
 }
 
@@ -133,9 +142,9 @@ fn hear_call(
     ensures count { IsPrefixLen result.size out.new }
 {
     match s {
-        Sitting::Waiting => ended_with(unopened_text(number, out)),
+        Sitting::Waiting(_) => ended_with(s, unopened_text(number, out)),
         Sitting::Open(w) => call_open(w, number, c, lent, a, b, out),
-        Sitting::Ended => ended_with(0),
+        Sitting::Ended(_) => ended_with(s, 0),
     }
 }
 
@@ -146,8 +155,8 @@ fn hear_wrong(s: Sitting, number: u64, f: Fault, out: &mut [u8; SPOKEN]) -> Hear
     ensures count { IsPrefixLen result.size out.new }
 {
     match s {
-        Sitting::Waiting | Sitting::Open(_) => ended_with(fault_text(number, f, out)),
-        Sitting::Ended => ended_with(0),
+        Sitting::Waiting(_) | Sitting::Open(_) => ended_with(s, fault_text(number, f, out)),
+        Sitting::Ended(_) => ended_with(s, 0),
     }
 }
 
@@ -191,8 +200,8 @@ fn pass_open(s: Sitting, o: WrittenInputs) -> Sitting
     ensures { (n : ℕ) → result ≡ (hear_open n o s).sitting }
 {
     match s {
-        Sitting::Waiting => sitting_after(open(inputs_written(o))),
-        Sitting::Open(_) | Sitting::Ended => Sitting::Ended,
+        Sitting::Waiting(_) => sitting_after(open(inputs_written(o))),
+        Sitting::Open(_) | Sitting::Ended(_) => ended(s),
     }
 }
 
@@ -201,7 +210,7 @@ fn pass_call(s: Sitting, c: WrittenCall) -> Sitting
 {
     match s {
         Sitting::Open(w) => Sitting::Open(sheet_after(w, c)),
-        Sitting::Waiting | Sitting::Ended => Sitting::Ended,
+        Sitting::Waiting(_) | Sitting::Ended(_) => ended(s),
     }
 }
 
@@ -213,6 +222,6 @@ pub fn pass(s: Sitting, line: &[u8]) -> Sitting
         Line::Blank => s,
         Line::Open(o) => pass_open(s, o),
         Line::Call(c) => pass_call(s, c),
-        Line::Wrong(_) => Sitting::Ended,
+        Line::Wrong(_) => ended(s),
     }
 }

@@ -15,22 +15,22 @@ use Rattle.sitting.specs.declared.Sitting.{Sitting}
 use Rattle.sitting.specs.declared.Sitting.TheVariants.{Waiting, Open, Ended}
 use Rattle.sitting.specs.Sitting.{Hearing, sitting_after, opened_by, hear_open, hear_call, hear_wrong, hear_line, hearing}
 use Rattle.auditing.specs.Gathered.{text_lines, Told, waiting, sits, ended, opened_told, telling, told_from, told_by}
-use Rattle.results.specs.Heard.{EndingText, no_call, open_again, not_open, open_refused, heard_from, heard_by, line_after, EndedAt}
+use Rattle.results.specs.Heard.{IsWaiting, HasEnded, EndingText, no_call, open_again, not_open, open_refused, heard_from, heard_by, line_after, EndedAt}
 
 -- the journal has ended, and nothing is said
 abbrev Silent : Hearing → Type 0
-Silent h = (h.text ≡ []) × (h.sitting ≡ Ended)
+Silent h = (h.text ≡ []) × HasEnded h.sitting
 
 -- nothing has ended it
 abbrev Going : Told → Sitting → Type 0
-Going waiting s = s ≡ Waiting
+Going waiting s = IsWaiting s
 Going (sits o at cs) s = (w : Worksheet) × (s ≡ Open w)
 Going ended s = ⊥
 
 -- line n ends it
 record Ends (n : ℕ) (t : Told) (l : Line) (h : Hearing) : Type 0 where
   told : telling n t l ≡ ended
-  sitting : h.sitting ≡ Ended
+  sitting : HasEnded h.sitting
   text : EndingText n t l h.text
 
 abbrev Next : ℕ → Told → Line → Hearing → Type 0
@@ -43,23 +43,23 @@ opened n o (Ok _) a =
 opened n o (Err why) a =
     inl (record {
       told = ap (opened_told n o) a;
-      sitting = ap (λ (v : Verdict). sitting_after v (open_of (inputs_written o)).sheet) a;
+      sitting = (_, ap (λ (v : Verdict). sitting_after v (open_of (inputs_written o)).sheet) a);
       text = subst (λ (v : Verdict). EndingText n waiting (line.Open o) (spoken_verdict n v)) (sym a) (open_refused a);
     })
 
 module _ (source : Source) where
   -- ---- after the end
 
-  pub silent_line : (n : ℕ) (s : Sitting) (l : Line) → s ≡ Ended → Silent (hear_line source n s l)
-  silent_line n s l e = subst (λ (x : Sitting). Silent (hear_line source n x l)) (sym e) (at_end l)
+  pub silent_line : (n : ℕ) (s : Sitting) (l : Line) → HasEnded s → Silent (hear_line source n s l)
+  silent_line n s l e = subst (λ (x : Sitting). Silent (hear_line source n x l)) (sym e.1) (at_end e.0 l)
     where
-      at_end : (l : Line) → Silent (hear_line source n Ended l)
-      at_end line.Blank = (refl, refl)
-      at_end (line.Open o) = (refl, refl)
-      at_end (line.Call c) = (refl, refl)
-      at_end (line.Wrong f) = (refl, refl)
+      at_end : (w : Worksheet) (l : Line) → Silent (hear_line source n (Ended w) l)
+      at_end w line.Blank = (refl, (w, refl))
+      at_end w (line.Open o) = (refl, (w, refl))
+      at_end w (line.Call c) = (refl, (w, refl))
+      at_end w (line.Wrong f) = (refl, (w, refl))
 
-  silent : (n : ℕ) (s : Sitting) (ls : List (List ℕ)) → s ≡ Ended → (heard_from source n s ls).text ≡ []
+  silent : (n : ℕ) (s : Sitting) (ls : List (List ℕ)) → HasEnded s → (heard_from source n s ls).text ≡ []
   unfolding heard_from hearing
   silent n s [] e = refl
   silent n s (l ∷ ls) e =
@@ -72,23 +72,23 @@ module _ (source : Source) where
   next : (n : ℕ) (t : Told) (s : Sitting) (l : Line) → Going t s → Next n t l (hear_line source n s l)
   next n waiting s line.Blank g = inr g
   next n waiting s (line.Open o) g =
-      subst (λ (x : Sitting). Next n waiting (line.Open o) (hear_open n o x)) (sym g)
+      subst (λ (x : Sitting). Next n waiting (line.Open o) (hear_open n o x)) (sym g.1)
       (opened n o (open_of (inputs_written o)).answer refl)
   next n waiting s (line.Call c) g =
-      subst (λ (x : Sitting). Next n waiting (line.Call c) (hear_call source n c x)) (sym g)
-      (inl (record { told = refl; sitting = refl; text = not_open }))
+      subst (λ (x : Sitting). Next n waiting (line.Call c) (hear_call source n c x)) (sym g.1)
+      (inl (record { told = refl; sitting = (_, refl); text = not_open }))
   next n waiting s (line.Wrong f) g =
-      subst (λ (x : Sitting). Next n waiting (line.Wrong f) (hear_wrong n f x)) (sym g)
-      (inl (record { told = refl; sitting = refl; text = no_call }))
+      subst (λ (x : Sitting). Next n waiting (line.Wrong f) (hear_wrong n f x)) (sym g.1)
+      (inl (record { told = refl; sitting = (_, refl); text = no_call }))
   next n (sits o at cs) s line.Blank g = inr g
   next n (sits o at cs) s (line.Open p) g =
       subst (λ (x : Sitting). Next n (sits o at cs) (line.Open p) (hear_open n p x)) (sym g.1)
-      (inl (record { told = refl; sitting = refl; text = open_again }))
+      (inl (record { told = refl; sitting = (_, refl); text = open_again }))
   next n (sits o at cs) s (line.Call c) g =
       subst (λ (x : Sitting). Next n (sits o at cs) (line.Call c) (hear_call source n c x)) (sym g.1) (inr (_, refl))
   next n (sits o at cs) s (line.Wrong f) g =
       subst (λ (x : Sitting). Next n (sits o at cs) (line.Wrong f) (hear_wrong n f x)) (sym g.1)
-      (inl (record { told = refl; sitting = refl; text = no_call }))
+      (inl (record { told = refl; sitting = (_, refl); text = no_call }))
   next n ended s l g = absurd g
 
   -- ---- the line
@@ -172,8 +172,8 @@ module _ (source : Source) where
 
   -- THE LINE that ended a journal
   pub ended_at :
-      (s : Sitting) (text : List ℕ) (k : ℕ) → s ≡ Waiting → told_by text k ≡ ended →
-      (heard_by source s text k).sitting ≡ Ended → EndedAt source s text k
+      (s : Sitting) (text : List ℕ) (k : ℕ) → IsWaiting s → told_by text k ≡ ended →
+      HasEnded (heard_by source s text k).sitting → EndedAt source s text k
   unfolding told_by
   ended_at s text k g e sitting =
       let c = cut 1 waiting s (text_lines text) k g e in

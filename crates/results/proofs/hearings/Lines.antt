@@ -19,7 +19,7 @@ use Rattle.sitting.specs.declared.Sitting.TheVariants.{Waiting, Open, Ended}
 use Rattle.sitting.specs.Sitting.{Hearing, sitting_after, opened_by, made_by, hear_open, hear_wrong, hear_call, hear_line, hearing}
 use Rattle.auditing.specs.Gathered.{text_lines, Numbered, Told, waiting, sits, ended, opened_told, telling, told_from, told_by, calls_told, sheet_opened, run_told}
 use Rattle.auditing.proofs.journals.Runs.{sheet_more}
-use Rattle.results.specs.Heard.{heard_from, heard_by, said_of, HeardRun}
+use Rattle.results.specs.Heard.{IsWaiting, HasEnded, heard_from, heard_by, said_of, HeardRun}
 use Rattle.results.proofs.hearings.Said.{answer_said, said_more}
 use Rattle.results.proofs.hearings.Endings.{silent_line}
 
@@ -27,17 +27,17 @@ use Rattle.results.proofs.hearings.Endings.{silent_line}
 abbrev after : Hearing → Hearing → Hearing
 after g h = record { sitting = h.sitting; text = g.text ++ h.text }
 
-wrong_ends : (n : ℕ) (f : Fault) (s : Sitting) → (hear_wrong n f s).sitting ≡ Ended
-wrong_ends n f Waiting = refl
-wrong_ends n f (Open w) = refl
-wrong_ends n f Ended = refl
+wrong_ends : (n : ℕ) (f : Fault) (s : Sitting) → HasEnded (hear_wrong n f s).sitting
+wrong_ends n f (Waiting w) = (w, refl)
+wrong_ends n f (Open w) = (w, refl)
+wrong_ends n f (Ended w) = (w, refl)
 
-module _ (source : Source) (s : Sitting) (unopened : s ≡ Waiting) where
+module _ (source : Source) (s : Sitting) (unopened : IsWaiting s) where
   -- of what was told, heard on the sitting s
   unfoldable pub HeardAs : Told → Hearing → Type 0
   HeardAs waiting h = (h.sitting ≡ s) × (h.text ≡ [])
   HeardAs (sits o at cs) h = HeardRun source o at cs h
-  HeardAs ended h = h.sitting ≡ Ended
+  HeardAs ended h = HasEnded h.sitting
 
   -- ---- the first call
 
@@ -55,7 +55,7 @@ module _ (source : Source) (s : Sitting) (unopened : s ≡ Waiting) where
             ∙ sym (append-nil (spoken_verdict n (Ok tt)));
       }
   opened_as_law n o h e (Err why) a =
-      ap (λ (v : Verdict). sitting_after v (open_of (inputs_written o)).sheet) a
+      (_, ap (λ (v : Verdict). sitting_after v (open_of (inputs_written o)).sheet) a)
 
   first_as :
       (n : ℕ) (h : Hearing) (l : Line) → h.sitting ≡ s → h.text ≡ [] →
@@ -64,10 +64,10 @@ module _ (source : Source) (s : Sitting) (unopened : s ≡ Waiting) where
   first_as n h line.Blank p e = (p, append-nil h.text ∙ e)
   first_as n h (line.Open o) p e =
       let v = (open_of (inputs_written o)).answer in
-      subst (λ (x : Sitting). HeardAs (opened_told n o v) (after h (hear_open n o x))) (sym (p ∙ unopened))
+      subst (λ (x : Sitting). HeardAs (opened_told n o v) (after h (hear_open n o x))) (sym (p ∙ unopened.1))
       (opened_as_law n o h e v refl)
   first_as n h (line.Call c) p e =
-      subst (λ (x : Sitting). (hear_call source n c x).sitting ≡ Ended) (sym (p ∙ unopened)) refl
+      subst (λ (x : Sitting). HasEnded (hear_call source n c x).sitting) (sym (p ∙ unopened.1)) (_, refl)
   first_as n h (line.Wrong f) p e = wrong_ends n f h.sitting
 
   -- ---- a call after it
@@ -97,7 +97,7 @@ module _ (source : Source) (s : Sitting) (unopened : s ≡ Waiting) where
   next_as n o at cs h line.Blank g =
       record { sitting = g.sitting; text = append-nil h.text ∙ g.text }
   next_as n o at cs h (line.Open p) g =
-      subst (λ (x : Sitting). (hear_open n p x).sitting ≡ Ended) (sym g.sitting) refl
+      subst (λ (x : Sitting). HasEnded (hear_open n p x).sitting) (sym g.sitting) (_, refl)
   next_as n o at cs h (line.Call c) g =
       let more = cs ++ (record { call = c; line = n } ∷ []) in
       subst (λ (x : Sitting). HeardRun source o at more (after h (hear_call source n c x)))

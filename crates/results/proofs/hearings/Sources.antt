@@ -19,24 +19,24 @@ use Rattle.results.specs.Heard.{heard_from}
 
 open_same :
     (n m : ℕ) (o : WrittenInputs) (s : Sitting) → (hear_open n o s).sitting ≡ (hear_open m o s).sitting
-open_same n m o stage.Waiting = refl
+open_same n m o (stage.Waiting w) = refl
 open_same n m o (stage.Open w) = refl
-open_same n m o stage.Ended = refl
+open_same n m o (stage.Ended w) = refl
 
 wrong_same :
     (n m : ℕ) (f : Fault) (s : Sitting) → (hear_wrong n f s).sitting ≡ (hear_wrong m f s).sitting
-wrong_same n m f stage.Waiting = refl
+wrong_same n m f (stage.Waiting w) = refl
 wrong_same n m f (stage.Open w) = refl
-wrong_same n m f stage.Ended = refl
+wrong_same n m f (stage.Ended w) = refl
 
 module _ (source other : Source) where
   call_same :
       (n m : ℕ) (c : WrittenCall) (s : Sitting) →
       (hear_call source n c s).sitting ≡ (hear_call other m c s).sitting
-  call_same n m c stage.Waiting = refl
+  call_same n m c (stage.Waiting w) = refl
   call_same n m c (stage.Open w) =
       ap (λ (x : Worksheet). stage.Open x) (step_sheet source other blank (call_written c) w)
-  call_same n m c stage.Ended = refl
+  call_same n m c (stage.Ended w) = refl
 
   line_same :
       (n m : ℕ) (s : Sitting) (l : Line) → (hear_line source n s l).sitting ≡ (hear_line other m s l).sitting

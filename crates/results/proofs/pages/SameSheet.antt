@@ -157,7 +157,7 @@ module _ (a : Audited) (line : ℕ) (s : ShownLast a line) where
         let said = said_of a.source w ns in
         let told = sits a.opening 1 (numbered_from 2 (calls_kept a)) in (
           opened ++ said,
-          (heard_as a.source first_sitting refl (shorter_text a) n told t.told).text
+          (heard_as a.source first_sitting (_, refl) (shorter_text a) n told t.told).text
               ∙ ap (λ (cs : List Numbered). opened ++ said_of a.source w cs) numbered
               ∙ ap (λ (l : List ℕ). opened ++ l)
               (said_more a.source w ns x ∙ ap (λ (l : List ℕ). said ++ l) said_last)

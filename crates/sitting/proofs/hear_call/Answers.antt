@@ -11,8 +11,8 @@ returns-in-Waiting c =
     let a = c.args in
     let source = lent_as a.lent a.a.now a.b.now in
     let h = c.unopened_text.ensures in
-    ended_as _ c.ended_with.ensures h.text h.count
-    (ap (λ (x : Sitting). hear_call source a.number a.c x) c.in-Waiting.is)
+    let heard = λ (x : Sitting). hear_call source a.number a.c x in
+    ended_as heard _ c.ended_with.ensures h.text h.count c.in-Waiting.is refl
 
 pub returns-in-Open : goal.returns-in-Open
 returns-in-Open c =
@@ -26,5 +26,5 @@ pub returns-in-Ended : goal.returns-in-Ended
 returns-in-Ended c =
     let a = c.args in
     let source = lent_as a.lent a.a.now a.b.now in
-    ended_as a.out.now c.ended_with-in-Ended.ensures refl (omega arith, refl)
-    (ap (λ (x : Sitting). hear_call source a.number a.c x) c.in-Ended.is)
+    let heard = λ (x : Sitting). hear_call source a.number a.c x in
+    ended_as heard a.out.now c.ended_with-in-Ended.ensures refl (omega arith, refl) c.in-Ended.is refl

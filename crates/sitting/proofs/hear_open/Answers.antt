@@ -16,10 +16,11 @@ pub returns-in-Open : goal.returns-in-Open
 returns-in-Open c =
     let a = c.args in
     let h = c.again_text.ensures in
-    ended_as _ c.ended_with.ensures h.text h.count (ap (λ (x : Sitting). hear_open a.number a.o x) c.in-Open.is)
+    let heard = λ (x : Sitting). hear_open a.number a.o x in
+    ended_as heard _ c.ended_with.ensures h.text h.count c.in-Open.is refl
 
 pub returns-in-Ended : goal.returns-in-Ended
 returns-in-Ended c =
     let a = c.args in
-    ended_as a.out.now c.ended_with-in-Ended.ensures refl (omega arith, refl)
-    (ap (λ (x : Sitting). hear_open a.number a.o x) c.in-Ended.is)
+    let heard = λ (x : Sitting). hear_open a.number a.o x in
+    ended_as heard a.out.now c.ended_with-in-Ended.ensures refl (omega arith, refl) c.in-Ended.is refl

@@ -4,13 +4,13 @@ use Rattle.wording.specs.declared.line.Fault.{Fault}
 use Rattle.wording.specs.declared.line.Line.{Line}
 use Rattle.sitting.specs.declared.Sitting.{Sitting}
 use Rattle.sitting.specs.declared.Sitting.TheVariants as stage
-use Rattle.sitting.specs.Sitting.{hear_wrong, hear_line, hearing}
+use Rattle.sitting.specs.Sitting.{ended_by, hear_wrong, hear_line, hearing}
 use Rattle.sitting.proofs.pass.Goals as goal
 
-wrong_ends : (n : ℕ) (f : Fault) (s : Sitting) → stage.Ended ≡ (hear_wrong n f s).sitting
-wrong_ends n f stage.Waiting = refl
+wrong_ends : (n : ℕ) (f : Fault) (s : Sitting) → ended_by s ≡ (hear_wrong n f s).sitting
+wrong_ends n f (stage.Waiting w) = refl
 wrong_ends n f (stage.Open w) = refl
-wrong_ends n f stage.Ended = refl
+wrong_ends n f (stage.Ended w) = refl
 
 pub returns-in-Blank : goal.returns-in-Blank
 unfolding hearing
@@ -37,4 +37,4 @@ unfolding hearing
 returns-in-Wrong c source n =
     let s = c.args.s in
     let read = sym c.in-Wrong.is ∙ c.line_in.ensures in
-    wrong_ends n _ s ∙ ap (λ (x : Line). (hear_line source n s x).sitting) read
+    c.ended.ensures ∙ wrong_ends n _ s ∙ ap (λ (x : Line). (hear_line source n s x).sitting) read
