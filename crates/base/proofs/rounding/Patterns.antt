@@ -1,7 +1,7 @@
 -- What a float that is no NaN, and a bit pattern that is no NaN's, tell of each other. Assumes
 -- nothing.
-use Rattle.std.proofs.Common.{◌≡◌, ℕ, zero, suc, ◌+◌, ◌-◌, ◌*◌, ◌/◌, ◌%◌, ◌^◌, ◌<◌, ◌≤◌, Bool, true, false, cond, not, T, leb, ℤ, pos, sym, refl, ap, ◌∙◌, subst, inl, inr, add_assoc, mod-eq_of_lt, zero-lt-suc, eq-zero-or-pos, mul-pos, zero-add, zero-mul, arith, le→leb, nltb→le, Float}
-use native.Mathlib.Nat.{zero-div, add-mod_left}
+use Rattle.std.proofs.Common.{◌≡◌, ℕ, zero, suc, ◌+◌, ◌-◌, ◌*◌, ◌/◌, ◌%◌, ◌^◌, ◌<◌, ◌≤◌, Bool, true, false, cond, not, T, leb, ℤ, pos, sym, refl, ap, ◌∙◌, subst, inl, inr, le_trans, add_assoc, mod-eq_of_lt, zero-lt-suc, eq-zero-or-pos, mul-pos, zero-add, zero-mul, arith, le→leb, nltb→le, Float}
+use native.Mathlib.Nat.{zero-div, add-mod_left, mod-le}
 use lib.Dec.{not_T}
 use lib.Arith.{le→nltb, lt→nleb}
 use lib.Ieee.{nan, inf, fin, Format, binary32, binary64, prec, low, up, down, size, div, neg, le, ne, fits, is_nan, hid, ones, top, nan_bits, of_bits, to_bits}
@@ -85,6 +85,9 @@ abs_bits f x h n = ap (of_bits f) (sym (zero-add (to_bits f x % top f))) ∙ sig
 pub abs_nan : (x : Float) → x ≡ nan → x ≡ abs_of x
 unfolding abs_of negative
 abs_nan x e = e ∙ ap abs_of (sym e)
+
+pub abs_no_nan : (f : Format) (x : Float) → T (fits f x) → T (not (is_nan x)) → T (not (nan_bits f (to_bits f x % top f)))
+abs_no_nan f x h n = no_nan_bits f (to_bits f x % top f) (le_trans (mod-le (to_bits f x % top f) (top f)) (magnitude_le f x h n))
 
 -- ---- not below zero: the bits are at most those of -0
 no_digits : (f : Format) → (size 0 - prec f) * hid f + 0 / 2 ^ (size 0 - prec f) ≡ 0

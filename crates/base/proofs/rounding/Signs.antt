@@ -1,9 +1,9 @@
--- The sign of a float, and std's size, sign and tests of a float. Assumes nothing.
+-- The sign of a float, and std's sign and tests of a float. Assumes nothing.
 use Rattle.std.proofs.Common.{◌≡◌, Bool, true, false, sym, refl, ap, ◌∙◌, Float}
-use lib.Ieee.{nan, inf, fin, neg, ne, is_nan}
+use lib.Ieee.{nan, inf, fin, ne, is_nan}
 use lib.Ieee.Bits.{is_false}
-use Rattle.base.specs.Number.{negative, abs_of}
-use Rattle.std.specs.Float.{float_with_sign, is_sign_negative, float_is_finite}
+use Rattle.base.specs.Number.{negative}
+use Rattle.std.specs.Float.{is_sign_negative, float_is_finite}
 use Rattle.std.specs.Float.Ieee.Scale.{finite}
 use Rattle.base.proofs.rounding.Patterns.{is_nan_law, no_nan}
 
@@ -11,15 +11,7 @@ pub nan_sign : (x : Float) → x ≡ nan → false ≡ negative x
 unfolding negative
 nan_sign x e = ap negative (sym e)
 
--- ---- std's size and sign of a float
-pub abs_is : (x : Float) → float_with_sign false x ≡ abs_of x
-unfolding float_with_sign abs_of negative neg
-abs_is nan = refl
-abs_is (inf true) = refl
-abs_is (inf false) = refl
-abs_is (fin true m e) = refl
-abs_is (fin false m e) = refl
-
+-- ---- std's sign of a float, and whether it is finite
 pub negative_is : (x : Float) → is_sign_negative x ≡ negative x
 unfolding is_sign_negative negative
 negative_is nan = refl

@@ -1,7 +1,18 @@
--- `abs32` is `abs_of`, as std's size is (`abs_is`).
-use Rattle.std.proofs.Common.{◌∙◌}
-use Rattle.base.proofs.rounding.Signs.{abs_is}
+-- `abs32` drops the sign's bit (`abs_bits`).
+use lib.Ieee.{binary32}
+use Rattle.base.proofs.rounding.Patterns.{is_nan_law, no_nan, abs_nan, abs_bits, abs_no_nan, held}
+use Rattle.base.proofs.rounding.Signs.{by_test}
 use Rattle.base.proofs.number.abs32.Goals as goal
 
+pub returns-then-is_nan : goal.returns-then-is_nan
+returns-then-is_nan c = abs_nan c.args.x (is_nan_law c.args.x (by_test _ c.is_nan.ensures.value c.if-is_nan.true))
+
+pub float_from_bits-result : goal.float_from_bits-result
+float_from_bits-result c =
+    let number = no_nan c.args.x (by_test _ c.is_nan.ensures.value c.if-is_nan.false) in
+    abs_no_nan binary32 c.args.x (held binary32 c.args.x c.well_formed.0.1) number
+
 pub returns : goal.returns
-returns c = c.abs.ensures.value ∙ abs_is c.args.x
+returns c =
+    let number = no_nan c.args.x (by_test _ c.is_nan.ensures.value c.if-is_nan.false) in
+    abs_bits binary32 c.args.x (held binary32 c.args.x c.well_formed.0.1) number
