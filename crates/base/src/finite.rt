@@ -9,7 +9,7 @@ ghost use Rattle.base.specs.Finite.{all_finite, first_other, record_words_check,
 use crate::month_file::RECORD;
 use crate::refusal::{Refusal, Verdict, refuse_unless};
 use crate::tables::{FAKP, TABLES_END};
-use crate::words::{float, whole_word};
+use crate::words::{whole_word, word};
 
 // Whether all n words from `at` on are finite.
 fn are_finite(s: &[u8], at: usize, n: usize) -> bool
@@ -29,7 +29,8 @@ fn are_finite(s: &[u8], at: usize, n: usize) -> bool
 fn is_finite(s: &[u8], at: usize) -> bool
     ensures { result ≡ finite (float_at s.now at) }
 {
-    float(s, at).is_finite()
+    // By its bits: with std's test a search to the last word took half as long again.
+    word(s, at) % 0x8000_0000 < 0x7f80_0000
 }
 
 // The byte of the first of n words from `at` on that is no finite number; the byte behind them

@@ -57,7 +57,9 @@ pub fn month_file_check(s: &[u8]) -> Verdict
     // the file's length are looked at; where the file ends within a record, the walk in fours stops
     // at the last multiple of four.
     let mut at = 0usize;
-    for n in SIZES {
+    for k in 0..9 {
+        // By index: a loop over the array copies it to the stack with each call.
+        let n = SIZES[k];
         if s.len() < at + 4 {
             return Err(Refusal::Ended((s.len() / 4 * 4) as u32));
         }

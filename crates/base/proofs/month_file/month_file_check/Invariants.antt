@@ -3,5 +3,5 @@
 use Rattle.base.proofs.layout.Walks.{Walked}
 use Rattle.base.proofs.month_file.month_file_check.Given as goal
 
-abbrev pub invariant-loop-n : goal.invariant-loop-n
-invariant-loop-n l = Walked l.s l.at l.n-index
+abbrev pub invariant-loop-k : goal.invariant-loop-k
+invariant-loop-k l = Walked l.s l.at l.k
