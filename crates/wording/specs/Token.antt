@@ -1,6 +1,6 @@
 -- The words of a line, and what each is: a word that calls are written with, a number, or neither.
 -- Assumes nothing.
-use Rattle.std.specs.Prelude.{Option, Some, None, ℕ, Bool, cond, ◌||◌, List, [], ◌∷◌, ◌++◌, eqb, get_or, take, replicate, map}
+use Rattle.std.specs.Prelude.{Option, Some, None, ℕ, Bool, cond, ◌||◌, List, [], ◌∷◌, ◌++◌, ◌+◌, eqb, get_or, take, replicate, map}
 use Prim.Native.Char.{code}
 use Prim.Native.String.{String, [] as []ˢ, ◌∷◌ as ◌∷ˢ◌}
 use Rattle.wording.specs.declared.number.Decimal.{Decimal}
@@ -35,7 +35,7 @@ name_of word.Cancel = "cancel"
 name_of word.Show = "show"
 name_of word.Take = "take"
 name_of word.Back = "back"
-name_of word.Another = "another"
+name_of (word.Another n) = "another"
 
 -- those that a line can have
 abbrev pub words : List Word
@@ -44,7 +44,7 @@ words =
     ∷ word.Pole ∷ word.Model ∷ word.Ccir ∷ word.Ursi ∷ word.Begin ∷ word.Path ∷ word.Commit
     ∷ word.Cancel ∷ word.Show ∷ word.Take ∷ word.Back ∷ []
 
--- a word's place among them; of what stands for any other the place behind them
+-- a word's place among them; of any other a place behind them, by its number
 abbrev pub word_place : Word → ℕ
 word_place word.Open = 0
 word_place word.Month = 1
@@ -65,7 +65,7 @@ word_place word.Cancel = 15
 word_place word.Show = 16
 word_place word.Take = 17
 word_place word.Back = 18
-word_place word.Another = 19
+word_place (word.Another n) = 19 + n
 
 -- the bytes of a text in ASCII
 abbrev pub ascii : String → List ℕ

@@ -28,8 +28,8 @@ pub enum Word {
     Show,
     Take,
     Back,
-    // Stands for any other. No line has it: it is said as `another` where it should have stood.
-    Another,
+    // Any other, by a number. No line has one: it is said as `another` where it should have stood.
+    Another(u32),
 }
 
 // Those that a line can have.
@@ -80,7 +80,7 @@ impl Word {
             Word::Show => b"show",
             Word::Take => b"take",
             Word::Back => b"back",
-            Word::Another => b"another",
+            Word::Another(_) => b"another",
         }
     }
 }

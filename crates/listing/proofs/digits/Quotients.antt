@@ -1,7 +1,7 @@
 -- Quotients by powers, one factor at a time, and quotients to the nearest, which are those of the
 -- fraction however it is written. Assumes nothing.
 use Rattle.std.proofs.Common.{◌≡◌, sym, ap, ◌∙◌, ℕ, suc, ◌+◌, ◌-◌, ◌*◌, ◌/◌, ◌%◌, ◌^◌, ◌<◌, pow-suc, div-one, mul_comm, mul_assoc, add-mul, mul-lt-mul_of_pos_right, lt_of_mul-lt-mul_right, add-one, arith, pow_pos}
-use native.Mathlib.Nat.{pow-zero, div-div-eq-div-mul, add-div_right, mul-div-mul_left, mul-div-mul_right}
+use native.Mathlib.Nat.{pow-zero, pow-succ', div-div-eq-div-mul, add-div_right, mul-div-mul_left, mul-div-mul_right}
 use Rattle.listing.specs.Decimal.{nearest_of}
 
 pub by_none : (n b : ℕ) → n / b ^ 0 ≡ n
@@ -12,6 +12,11 @@ by_one_more n b k =
     div-div-eq-div-mul n (b ^ k) b
     ∙ ap (λ (x : ℕ). n / x) (sym (pow-suc b k))
     ∙ ap (λ (i : ℕ). n / b ^ i) (sym (add-one k))
+
+pub by_one_fewer : (n b k : ℕ) → 0 < k → n / b / b ^ (k - 1) ≡ n / b ^ k
+by_one_fewer n b k h =
+    let e : suc (k - 1) ≡ k = omega arith in
+    div-div-eq-div-mul n b (b ^ (k - 1)) ∙ ap (λ (x : ℕ). n / x) (sym (pow-succ' b (k - 1))) ∙ ap (λ (i : ℕ). n / b ^ i) e
 
 -- ---- to the nearest
 

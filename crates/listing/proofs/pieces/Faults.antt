@@ -24,4 +24,4 @@ name_most word.Cancel = omega arith
 name_most word.Show = omega arith
 name_most word.Take = omega arith
 name_most word.Back = omega arith
-name_most word.Another = omega arith
+name_most (word.Another n) = omega arith

@@ -74,7 +74,7 @@ faults :
     ≡ ascii
     "line 1: no call: word 2 should be begin, sunspot, hour, month, model, path, factors, pole, show, commit or cancel\n")
     × (fault_text 1 (record { word = 2; wanted = Word word.Back }) ≡ ascii "line 1: no call: word 2 should be back\n")
-    × (fault_text 1 (record { word = 2; wanted = Word word.Another }) ≡ ascii "line 1: no call: word 2 should be another\n")
+    × (fault_text 1 (record { word = 2; wanted = Word (word.Another 0) }) ≡ ascii "line 1: no call: word 2 should be another\n")
     × (fault_text 1 (record { word = 3; wanted = Number })
     ≡ ascii "line 1: no call: word 3 should be a number: digits with sign and point, at most 18 of them\n")
     × (fault_text 1 (record { word = 3; wanted = Whole })

@@ -141,7 +141,7 @@ module _ (l : List ℕ) where
   an_edit word.Show = model (one_of_two l 2)
   an_edit word.Take = model (one_of_two l 2)
   an_edit word.Back = model (one_of_two l 2)
-  an_edit word.Another = model (one_of_two l 2)
+  an_edit (word.Another m) = model (one_of_two l 2)
 
   a_deed : (n : ℕ) (w : AWord) → Fits n → GoodCall (deed_call (t l) n w)
   unfolding deed_call
@@ -164,7 +164,7 @@ module _ (l : List ℕ) where
   a_deed n word.Show h = show h
   a_deed n word.Take h = change h (an_edit word.Take)
   a_deed n word.Back h = change h (an_edit word.Back)
-  a_deed n word.Another h = change h (an_edit word.Another)
+  a_deed n (word.Another m) h = change h (an_edit (word.Another m))
 
   deed : (n : ℕ) (w : AWord) → Fits n → GoodLine (deed_line (t l) n w)
   deed n w h = subst GoodLine (deed_parts (t l) n w) (call_if_fits (deed_fit (t l) w) (a_deed n w h))
@@ -190,7 +190,7 @@ module _ (l : List ℕ) where
   by_word word.Show = call_if_fits _ (show {n = 0} (omega arith))
   by_word word.Take = call_if_fits _ take_back
   by_word word.Back = wrong
-  by_word word.Another = wrong
+  by_word (word.Another m) = wrong
 
   desk : (n : ℕ) (k : Token) → Fits n → GoodLine (desk_line (t l) n k)
   desk n (token.Word w) h = deed n w h

@@ -51,7 +51,7 @@ module _ (t : Tokens) where
   deed_parts n word.Show = refl
   deed_parts n word.Take = refl
   deed_parts n word.Back = refl
-  deed_parts n word.Another = refl
+  deed_parts n (word.Another m) = refl
 
   pub bare_parts : (w : Word) → (w ≡ word.Open → ⊥) → call_if (bare_fit t w) (bare_call w) ≡ word_line t w
   unfolding bare_fit bare_call word_line
@@ -74,4 +74,4 @@ module _ (t : Tokens) where
   bare_parts word.Show n = refl
   bare_parts word.Take n = refl
   bare_parts word.Back n = refl
-  bare_parts word.Another n = refl
+  bare_parts (word.Another m) n = refl
