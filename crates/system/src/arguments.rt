@@ -11,9 +11,6 @@ const EINVAL: i32 = 22;
 
 const ENAMETOOLONG: i32 = 36;
 
-// Linux gives a program no argument of more bytes.
-const LONGEST: usize = 131072;
-
 // Argument i at the start of buf, and its length. One that is missing is told as an invalid
 // argument; of one that is too long the first bytes are in buf. Argument 0 is the program's name.
 pub fn argument(env: &impl Env, i: usize, buf: &mut [u8]) -> io::Result<usize>
@@ -35,9 +32,9 @@ pub fn arg(env: &impl Env, i: usize, buf: &mut [u8]) -> usize
     argument(env, i, buf).unwrap_or(0)
 }
 
-// Whether argument i is this word.
+// Whether argument i is this word, of at most 16 bytes.
 pub fn is_arg(env: &impl Env, i: usize, word: &[u8]) -> bool {
-    let mut text = [0u8; LONGEST];
+    let mut text = [0u8; 16];
     env.arg(i, &mut text).is_ok_and(|n| &text[..n] == word)
 }
 

@@ -1,4 +1,5 @@
 // The standard streams.
+use crate::text::written;
 use std::fmt::Display;
 use std::io::{Error, ErrorKind, Result, Write};
 
@@ -27,9 +28,19 @@ impl Write for Stream {
     }
 }
 
-// Writes a line to standard error. Where that fails there is nobody to tell, here and below.
+// At least the bytes of any line that is said but for the names in it.
+const LINE: usize = 512;
+
+// Writes a line to standard error, whole where it fits the buffer, so that programs which share a
+// terminal do not part each other's lines. Where that fails there is nobody to tell, here and below.
 pub fn say(line: impl Display + Drop) {
-    let _ = writeln!(Stream(STDERR), "{line}");
+    let mut text = [0u8; LINE];
+    let n = written(format_args!("{line}\n"), &mut text);
+    if n < LINE {
+        io::write_all(STDERR, &text[..n]);
+    } else {
+        let _ = writeln!(Stream(STDERR), "{line}");
+    }
 }
 
 // Writes a line to standard error, of pieces that need not be text.
