@@ -1,6 +1,6 @@
 // An input line by line, in a buffer of fixed size. A line ends with a newline: bytes after
 // the last one are no line.
-ghost use Rattle.std.specs.Prelude.{◌+◌, ◌<◌, ◌≤◌};
+ghost use Rattle.std.specs.Prelude.{◌≡◌, ◌+◌, ◌<◌, ◌≤◌};
 
 use crate::saying::{say_line, say_long};
 use std::io::Read;
@@ -28,6 +28,8 @@ struct Place {
 // could be written.
 fn line_turn(place: &mut Place, out: &impl Print, buffer: &[u8; CHUNK], size: usize) -> bool
     requires { place.old.from + size < place.old.to }
+    ensures next { place.old.lines < 1099511627776 → place.new.lines ≡ place.old.lines + 1 }
+    ensures most { place.new.lines ≤ place.old.lines + 1 }
 {
     let end = place.from + size;
     let line = &buffer[place.from..end];
@@ -45,7 +47,9 @@ fn line_turn(place: &mut Place, out: &impl Print, buffer: &[u8; CHUNK], size: us
 // No line is whole: what there is of the next one moves to the start of the buffer, and more is
 // read behind it, unless it fills the buffer: then the line is too long, and its start is dropped.
 // Whether more came: not where the input has ended or the read fails.
-fn fill_turn(place: &mut Place, input: &mut impl Read, buffer: &mut [u8; CHUNK]) -> bool {
+fn fill_turn(place: &mut Place, input: &mut impl Read, buffer: &mut [u8; CHUNK]) -> bool
+    ensures { place.new.lines ≡ place.old.lines }
+{
     let n = place.to - place.from;
     buffer.copy_within(place.from..place.to, 0);
     let kept = if n < CHUNK { n } else { 0 };
@@ -62,7 +66,9 @@ fn turn(
     input: &mut impl Read,
     out: &impl Print,
     buffer: &mut [u8; CHUNK],
-) -> bool {
+) -> bool
+    ensures { place.new.lines ≤ place.old.lines + 1 }
+{
     match newline_in(&buffer[place.from..place.to]) {
         Some(size) => line_turn(place, out, buffer, size),
         None => fill_turn(place, input, buffer),

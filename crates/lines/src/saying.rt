@@ -17,7 +17,7 @@ fn say_fault(out: &impl Print, number: u64, f: Fault) -> io::Result<()> {
 // Each line is read by itself: a wrong one ends nothing.
 pub(crate) fn say_line(out: &impl Print, line: &[u8], number: u64) -> io::Result<()> {
     match line_in(line) {
-        Line::Blank => println!(out; "blank"),
+        Line::Blank => out.write_all(b"blank\n"),
         Line::Open(o) => {
             let words = to_words(inputs_written(o));
             let words = Words(&words);

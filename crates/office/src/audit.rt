@@ -1,7 +1,7 @@
 // `desk audit`: where the sheet that a line of a journal shows comes from. The page's lines are
 // `auditing`'s; here the journal is read, what is in the way is said, and the lines are printed in
 // their order.
-ghost use Rattle.std.specs.Prelude.{◌≤◌, length};
+ghost use Rattle.std.specs.Prelude.{◌≡◌, ◌≤◌, Some, length};
 
 use crate::files::{Source, load, read_whole};
 use crate::journal::{CHUNK, is_ended, long_text, say_cut};
@@ -151,7 +151,9 @@ struct Walk<'t> {
 }
 
 // The first k lines of a text, in silence.
-fn walk_lines(text: &[u8], k: usize) -> Walk<'_> {
+fn walk_lines(text: &[u8], k: usize) -> Walk<'_>
+    ensures { result.lines ≤ length text.now }
+{
     let mut sitting = waiting();
     let mut rest = text;
     for lines in 0..k {
@@ -176,7 +178,9 @@ fn walk_lines(text: &[u8], k: usize) -> Walk<'_> {
     }
 }
 
-fn walked<'t>(lines: usize, obstacle: Obstacle<'t>) -> Walk<'t> {
+fn walked<'t>(lines: usize, obstacle: Obstacle<'t>) -> Walk<'t>
+    ensures { (result.lines ≡ lines) × (result.obstacle ≡ Some obstacle.entry) }
+{
     Walk {
         lines,
         obstacle: Some(obstacle),

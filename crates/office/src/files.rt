@@ -1,5 +1,5 @@
 // The files that showings are made from: a year file, or an F2 record and a month file.
-ghost use Rattle.std.specs.Prelude.{◌≤◌, length, IfSome};
+ghost use Rattle.std.specs.Prelude.{◌+◌, ◌≤◌, length, IfSome};
 ghost use Rattle.io.specs.Counts.{IsPrefixLen};
 
 use crate::failure::say_unread;
@@ -75,7 +75,9 @@ fn read_file(rt: &(impl Files + Env), i: usize, buffer: &mut [u8]) -> Option<usi
     })
 }
 
-fn load_pair<'a>(rt: &(impl Files + Env), buffer: &'a mut [u8]) -> Option<Source<'a>> {
+fn load_pair<'a>(rt: &(impl Files + Env), buffer: &'a mut [u8]) -> Option<Source<'a>>
+    ensures { IfSome result (λ s. length s.a.now + length s.b.now ≤ length buffer.old) }
+{
     let first = read_file(rt, 3, buffer)?;
     let second = read_file(rt, 4, &mut buffer[first..])?;
     let (a, rest) = buffer.split_at(first);
@@ -86,7 +88,9 @@ fn load_pair<'a>(rt: &(impl Files + Env), buffer: &'a mut [u8]) -> Option<Source
     })
 }
 
-fn load_year<'a>(rt: &(impl Files + Env), buffer: &'a mut [u8]) -> Option<Source<'a>> {
+fn load_year<'a>(rt: &(impl Files + Env), buffer: &'a mut [u8]) -> Option<Source<'a>>
+    ensures { IfSome result (λ s. length s.a.now + length s.b.now ≤ length buffer.old) }
+{
     let n = read_file(rt, 3, buffer)?;
     Some(Source {
         lent: Lent::Year,
@@ -101,7 +105,9 @@ pub(crate) fn load<'a>(
     rt: &(impl Files + Env),
     pair: bool,
     buffer: &'a mut [u8; YEAR_MOST],
-) -> Option<Source<'a>> {
+) -> Option<Source<'a>>
+    ensures { IfSome result (λ s. length s.a.now + length s.b.now ≤ 1048576) }
+{
     // `pair` and no enum: the public `run`, `say` and `audit` take it so.
     if pair {
         load_pair(rt, buffer)

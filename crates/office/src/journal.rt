@@ -41,7 +41,10 @@ pub(crate) struct Ran {
 
 impl Ran {
     // The number of the line that comes next.
-    pub(crate) fn number(&self) -> u64 {
+    pub(crate) fn number(&self) -> u64
+        ensures next { self.now.lines < 1099511627776 → result ≡ self.now.lines + 1 }
+        ensures most { result ≤ self.now.lines + 1 }
+    {
         self.lines.saturating_add(1)
     }
 
@@ -63,6 +66,7 @@ where
     F: Fn(Sitting, &[u8], u64) -> Option<Sitting>,
     requires callable { F.IsAlwaysCallable answer.now }
     requires in_line { ran.old.from + size < ran.old.to }
+    ensures { (ran.new.lines ≤ ran.old.lines + 1) × (ran.new.bytes ≤ ran.old.bytes + 65536) }
 {
     let end = ran.from + size;
     let line = &buffer[ran.from..end];
@@ -87,7 +91,9 @@ fn fill_turn(
     input: &mut impl Read,
     name: &[u8],
     buffer: &mut [u8; CHUNK],
-) -> Result<(), End> {
+) -> Result<(), End>
+    ensures { (ran.new.lines ≡ ran.old.lines) × (ran.new.bytes ≡ ran.old.bytes) }
+{
     let n = ran.to - ran.from;
     buffer.copy_within(ran.from..ran.to, 0);
     ran.from = 0;
@@ -115,6 +121,7 @@ fn turn<F>(
 where
     F: Fn(Sitting, &[u8], u64) -> Option<Sitting>,
     requires { F.IsAlwaysCallable answer.now }
+    ensures { (ran.new.lines ≤ ran.old.lines + 1) × (ran.new.bytes ≤ ran.old.bytes + 65536) }
 {
     match newline_in(ran.left(buffer)) {
         Some(size) => line_turn(ran, buffer, size, answer),
@@ -134,6 +141,7 @@ pub(crate) fn hear_all<F>(
 where
     F: Fn(Sitting, &[u8], u64) -> Option<Sitting>,
     requires { F.IsAlwaysCallable answer }
+    ensures { (result.0.lines ≤ 1099511627776) × (result.0.bytes ≤ 72057594037927936) }
 {
     let mut ran = Ran {
         sitting: waiting(),
@@ -151,7 +159,9 @@ where
 }
 
 // What is said of a line that is longer than the buffer.
-pub(crate) fn long_text<'a>(number: u64, text: &'a mut [u8; SPOKEN]) -> &'a [u8] {
+pub(crate) fn long_text<'a>(number: u64, text: &'a mut [u8; SPOKEN]) -> &'a [u8]
+    ensures { length result.now ≤ length text.old }
+{
     let said = format_args!("line {number}: no call: a line has fewer than 65536 bytes\n");
     let n = written(said, text);
     &text[..n]

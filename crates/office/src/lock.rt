@@ -1,4 +1,5 @@
 // The journal's lock: a file beside it that only one can make at a time, and that says who made it.
+ghost use Rattle.std.specs.Prelude.{◌≤◌, length};
 ghost use Rattle.io.specs.Counts.{IsPrefixLen};
 
 use crate::failure::is_done;
@@ -20,7 +21,9 @@ pub(crate) fn signature<'a>(
     files: &impl Files,
     process: Process,
     text: &'a mut [u8; LINE],
-) -> &'a [u8] {
+) -> &'a [u8]
+    ensures { length result.now ≤ length text.old }
+{
     let mut host = [0u8; 256];
     let h = host_name(files, &mut host);
     let number = process_number(process);
@@ -49,7 +52,9 @@ fn signed_into(files: &impl Files, lock: &[u8], who: &mut [u8; LINE]) -> usize
 }
 
 // Its first line, as it is told.
-fn told_of<'a>(files: &impl Files, lock: &[u8], who: &'a mut [u8; LINE]) -> &'a [u8] {
+fn told_of<'a>(files: &impl Files, lock: &[u8], who: &'a mut [u8; LINE]) -> &'a [u8]
+    ensures { length result.now ≤ length who.old }
+{
     let n = signed_into(files, lock, who);
     let size = newline_in(&who[..n]).unwrap_or(n);
     for byte in &mut who[..size] {
@@ -60,9 +65,9 @@ fn told_of<'a>(files: &impl Files, lock: &[u8], who: &'a mut [u8; LINE]) -> &'a 
 
 // Says who has the lock, as far as it is signed, and how to lift it.
 fn say_held(files: &impl Files, lock: &[u8]) {
+    say_of(lock, "the journal is in use; its lock was made by");
     let mut who = [0u8; LINE];
     let who = told_of(files, lock, &mut who);
-    say_of(lock, "the journal is in use; its lock was made by");
     if who.is_empty() {
         say("a process that did not sign it");
     } else {

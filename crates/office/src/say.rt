@@ -1,8 +1,9 @@
 // `desk say`: a call on a journal that four desks share. The journal is run, the call answered and
 // its line put behind the others, all under the journal's lock; the line is on its device before
 // the answer is printed.
-ghost use Rattle.std.specs.Prelude.{◌≤◌, length};
+ghost use Rattle.std.specs.Prelude.{◌≡◌, ◌≤◌, length};
 ghost use Rattle.io.specs.Counts.{IsPrefixLen};
+ghost use Rattle.office.specs.Said.{said_size};
 
 use crate::files::{Source, load};
 use crate::journal::{CHUNK, End, Ran, hear_all, is_ended, long_text};
@@ -70,7 +71,9 @@ struct Told<'t> {
 }
 
 impl<'t> Told<'t> {
-    fn only(outcome: Outcome<'t>) -> Told<'t> {
+    fn only(outcome: Outcome<'t>) -> Told<'t>
+        ensures { result.outcome ≡ outcome.entry }
+    {
         Told {
             aside: None,
             outcome,
@@ -88,7 +91,9 @@ fn answer<'t, R: Files>(
     line: &[u8],
     source: Source<'_>,
     text: &'t mut [u8; SPOKEN],
-) -> Outcome<'t> {
+) -> Outcome<'t>
+    ensures { said_size result ≤ length text.old }
+{
     let heard = source.hear(ran.sitting, line, ran.number(), text);
     let said = &text[..heard.size];
     if is_ended(heard.sitting) {
@@ -111,7 +116,9 @@ fn answer_clean<'t, R: Files>(
     line: &[u8],
     source: Source<'_>,
     text: &'t mut [u8; SPOKEN],
-) -> Told<'t> {
+) -> Told<'t>
+    ensures { said_size result.outcome ≤ length text.old }
+{
     if !rest.is_empty() && !set_aside(files, journal, name, ran.bytes, rest) {
         return Told::only(Outcome::Failed);
     }
@@ -127,7 +134,9 @@ fn why_stopped<'t>(
     line: &[u8],
     source: Source<'_>,
     text: &'t mut [u8; SPOKEN],
-) -> Outcome<'t> {
+) -> Outcome<'t>
+    ensures { said_size result ≤ length text.old }
+{
     let number = ran.number();
     let heard = source.hear(ran.sitting, line, number, text);
     Outcome::Late(number, &text[..heard.size])
@@ -141,7 +150,9 @@ fn say_into<'t, R: Files>(
     line: &[u8],
     source: Source<'_>,
     text: &'t mut [u8; SPOKEN],
-) -> Told<'t> {
+) -> Told<'t>
+    ensures { said_size result.outcome ≤ length text.old }
+{
     let mut buffer = [0u8; CHUNK];
     let (ran, end) = hear_all(journal, name, &mut buffer, |before, line, _| {
         Some(pass(before, line))
@@ -161,7 +172,9 @@ fn say_open<'t>(
     line: &[u8],
     source: Source<'_>,
     text: &'t mut [u8; SPOKEN],
-) -> Told<'t> {
+) -> Told<'t>
+    ensures { said_size result.outcome ≤ length text.old }
+{
     match open_journal(files, name) {
         Some(mut journal) => say_into(files, &mut journal, name, line, source, text),
         None => Told::only(Outcome::Failed),
@@ -241,6 +254,20 @@ fn say_from(
     }
 }
 
+// With the files in a buffer of the caller's: of one that is made here each byte is written twice.
+fn say_over(
+    rt: &(impl Files + Env + Clock + Print),
+    process: Process,
+    pair: bool,
+    line: &[u8],
+    files: &mut [u8; YEAR_MOST],
+) {
+    match load(rt, pair, files) {
+        Some(source) => say_from(rt, process, line, source),
+        None => say_unmade(),
+    }
+}
+
 fn say_line(rt: &(impl Files + Env + Clock + Print), process: Process, pair: bool, line: &[u8]) {
     if line.len() == NAME {
         system::say("the call is too long: it has at most 4095 bytes");
@@ -252,10 +279,7 @@ fn say_line(rt: &(impl Files + Env + Clock + Print), process: Process, pair: boo
         return;
     }
     let mut files = [0u8; YEAR_MOST];
-    match load(rt, pair, &mut files) {
-        Some(source) => say_from(rt, process, line, source),
-        None => say_unmade(),
-    }
+    say_over(rt, process, pair, line, &mut files);
 }
 
 // Says the call that the last arguments are on the journal of argument 2, over the year file of
