@@ -254,15 +254,10 @@ fn say_from(
     }
 }
 
-// With the files in a buffer of the caller's: of one that is made here each byte is written twice.
-fn say_over(
-    rt: &(impl Files + Env + Clock + Print),
-    process: Process,
-    pair: bool,
-    line: &[u8],
-    files: &mut [u8; YEAR_MOST],
-) {
-    match load(rt, pair, files) {
+// By itself: beside what comes before it the buffer would be zeroed twice.
+fn say_over(rt: &(impl Files + Env + Clock + Print), process: Process, pair: bool, line: &[u8]) {
+    let mut files = [0u8; YEAR_MOST];
+    match load(rt, pair, &mut files) {
         Some(source) => say_from(rt, process, line, source),
         None => say_unmade(),
     }
@@ -272,14 +267,11 @@ fn say_line(rt: &(impl Files + Env + Clock + Print), process: Process, pair: boo
     if line.len() == NAME {
         system::say("the call is too long: it has at most 4095 bytes");
         say_unmade();
-        return;
-    }
-    if matches!(line_in(line), Line::Blank) {
+    } else if matches!(line_in(line), Line::Blank) {
         usage();
-        return;
+    } else {
+        say_over(rt, process, pair, line);
     }
-    let mut files = [0u8; YEAR_MOST];
-    say_over(rt, process, pair, line, &mut files);
 }
 
 // Says the call that the last arguments are on the journal of argument 2, over the year file of
