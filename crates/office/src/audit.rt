@@ -1,7 +1,8 @@
 // `desk audit`: where the sheet that a line of a journal shows comes from. The page's lines are
 // `auditing`'s; here the journal is read, what is in the way is said, and the lines are printed in
 // their order.
-ghost use Rattle.std.specs.Prelude.{◌≡◌, ◌≤◌, Some, length};
+ghost use Rattle.std.specs.Prelude.{◌≡◌, ◌≤◌, IfSome, Some, length};
+ghost use Rattle.office.specs.Walk.{obstacle_size};
 
 use crate::files::{Source, load, read_whole};
 use crate::journal::{CHUNK, is_ended, long_text, say_cut};
@@ -152,7 +153,8 @@ struct Walk<'t> {
 
 // The first k lines of a text, in silence.
 fn walk_lines(text: &[u8], k: usize) -> Walk<'_>
-    ensures { result.lines ≤ length text.now }
+    ensures lines_in_bounds { result.lines ≤ length text.now }
+    ensures obstacle_in_bounds { IfSome result.obstacle (λ o. obstacle_size o ≤ length text.now) }
 {
     let mut sitting = waiting();
     let mut rest = text;
