@@ -1,12 +1,17 @@
 // The folder of a file: a new file's name lasts once its folder is on its device.
+ghost use Rattle.std.specs.Prelude.{◌≡◌, ◌≤◌, ◌⊎◌, ◌∷◌, [], length};
+
 use crate::failure::is_done;
 use std::fs::OpenFile;
 use std::io::Error;
 use std::rt::Files;
 use system::{is_invalid, open_read};
 
-// The folder of a name, with the slash at the end: where there is no slash the one that is worked in.
-fn folder(name: &[u8]) -> &[u8] {
+// The folder of a name, with the slash at the end: where there is no slash `.`, the one that is
+// worked in.
+fn folder(name: &[u8]) -> &[u8]
+    ensures { (length result.now ≤ length name.now) ⊎ (result.now ≡ 46 ∷ []) }
+{
     match name.iter().rposition(|byte| *byte == b'/') {
         Some(slash) => &name[..slash + 1],
         None => b".",
